@@ -12,8 +12,8 @@ _THREE = STEP * 3
 _FOUR_NAMES = ["First", "Second", "Third", "Fourth"]
 _VARIANTS = "Rattle.picky_der_de.specs.declared.{}.TheVariants"
 # the constructors of the alternatives, by their types, and the modules of terms that have them
-_CONSTRUCTORS = {"OneOf": ("This", "Other"), "OneOf4": (*_FOUR_NAMES, "Later")}
-_CONSTRUCTOR_HOMES = {"OneOf": _VARIANTS.format("alternatives.OneOf"), "OneOf4": _VARIANTS.format("alternatives4.OneOf4")}
+_CONSTRUCTORS = {"OneOf": ("This", "Other"), "Choice4": (*_FOUR_NAMES, "Later")}
+_CONSTRUCTOR_HOMES = {"OneOf": _VARIANTS.format("alternatives.OneOf"), "Choice4": _VARIANTS.format("choice4.Choice4")}
 
 _NAMES = ["First", "Second", "Third", "Fourth"]
 # how wide a line of imports of variants is, which are terms
@@ -55,7 +55,7 @@ def choice_uses(declared: ChoiceDeclaration) -> Uses:
     terms = {
         PRELUDE: {"refl"},
         "Rattle.picky_der_core.specs.Shape": {"Shape"},
-        "Rattle.picky_der_de.specs.KnownChoices": {"known_choice"},
+        "Rattle.picky_der_de.specs.ChoiceFacts": {"choice_facts"},
         "Rattle.der_types.specs.Notation": {"Notation"},
         **{_CONSTRUCTOR_HOMES[it]: found for it, found in used.items()},
     }
@@ -188,16 +188,16 @@ def serialize_answers(declared: ChoiceDeclaration, crate: str, stem: str) -> lis
 
 def deserialize_impl(declared: ChoiceDeclaration, parts: str, imported: list[str]) -> list[str]:
     """The implementation of `Deserialize`."""
-    known = f"known_choice ⟦<{parts} as Alternatives>⟧.known refl ⟦<Self as Choice>⟧.parts ⟦<Self as PartialEq>⟧.eq"
+    facts = f"choice_facts ⟦<{parts} as Alternatives>⟧.facts refl ⟦<Self as Choice>⟧.parts ⟦<Self as PartialEq>⟧.eq"
     return [
         f"impl Deserialize for {declared.name} {{",
         *imported,
         f"{STEP}ghost shape = {{ Shape.choice ⟦<{parts} as Alternatives>⟧.shapes }};",
         "",
-        f"{STEP}ghost known = {{ {known}",
+        f"{STEP}ghost facts = {{ {facts}",
         f"{_TWO}({equal_alternatives(declared)}) }};",
         "",
-        f"{STEP}ghost tied = {{ Prim.assumption }};",
+        f"{STEP}ghost proved = {{ Prim.assumption }};",
         "",
         *signature(STEP, "deserialize", ["deserializer: &mut Deserializer<R>"], f"Result<{declared.name}>", "<R: ReadExt>"),
         f"{_TWO}deserialize_choice_as(deserializer)",

@@ -10,11 +10,11 @@ from .wording import snake
 _TWO = STEP * 2
 _THREE = STEP * 3
 
-_CONTENTS = "Rattle.der_types.specs.KnownContents"
+_CONTENTS = "Rattle.der_types.specs.ContentsFacts"
 _TERMS = {
     "Rattle.std.proofs.Common": {"lit≤"},
     PRELUDE: {"◌≡◌", "[]", "◌∷◌", "refl"},
-    _CONTENTS: {"contents_of", "contents_shape", "known_contents"},
+    _CONTENTS: {"contents_of", "contents_shape", "contents_facts"},
     "Rattle.der_types.specs.Notation": {"Notation"},
 }
 
@@ -25,7 +25,7 @@ _PROOF_IMPORTS = """use Rattle.std.proofs.Common.{◌∙◌}
 use Rattle.std.proofs.lemmas.Bool.{eq-eqb}
 """.splitlines()
 _DEFAULT_IMPORTS = """use Rattle.picky_der_ser.specs.Defaults.{IsByTree}
-use Rattle.der_types.specs.KnownContents.{contents_of}
+use Rattle.der_types.specs.ContentsFacts.{contents_of}
 """.splitlines()
 # that two items are the default exactly if their trees are the same
 _SAME, _OTHER = "(λ k. refl, λ e. refl)", "(λ k. cc, λ e. cc)"
@@ -107,7 +107,7 @@ def enum_lines(declared: EnumDeclaration, home: str) -> list[str]:
 def definition(declared: EnumDeclaration) -> list[str]:
     """The enum with its comments: the module's comments, and the number of each item."""
     form, _, _ = _FORMS[declared.tag]
-    text = f"{sentence(declared.comment)} `{declared.source}` of {declared.module}, as {form}. Every other content is rejected with `InvalidData`."
+    text = f"{sentence(declared.comment)} `{declared.source}` of {declared.module}, as {form}. Every other content is refused with `InvalidData`."
     lines = [*comment("", "///", text), "#[derive(Debug, Clone, Copy, PartialEq, Eq)]", f"pub enum {declared.name} {{"]
     for it in declared.items:
         lines += comment(STEP, "///", f"{sentence(it.comment)} `{it.source}`, {it.number}.")
@@ -185,14 +185,14 @@ def serialize_impl(declared: EnumDeclaration) -> list[str]:
 
 def deserialize_impl(declared: EnumDeclaration) -> list[str]:
     """The implementation of `Deserialize`."""
-    known = f"known_contents {tag_text(declared)} {content_term(declared)} ⟦<Self as PartialEq>⟧.eq ⟦<Self as Contents>⟧.same"
+    facts = f"contents_facts {tag_text(declared)} {content_term(declared)} ⟦<Self as PartialEq>⟧.eq ⟦<Self as Contents>⟧.same"
     return [
         f"impl Deserialize for {declared.name} {{",
         f"{STEP}ghost shape = {{ contents_shape {tag_text(declared)} }};",
         "",
-        f"{STEP}ghost known = {{ {known} }};",
+        f"{STEP}ghost facts = {{ {facts} }};",
         "",
-        f"{STEP}ghost tied = {{ Prim.assumption }};",
+        f"{STEP}ghost proved = {{ Prim.assumption }};",
         "",
         *signature(STEP, "deserialize", ["deserializer: &mut Deserializer<R>"], f"Result<{declared.name}>", "<R: ReadExt>"),
         f"{_TWO}deserialize_contents_as(deserializer)",

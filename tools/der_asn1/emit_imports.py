@@ -6,7 +6,7 @@ from .layout import filled, natural
 from .library_table import HOME_ORDER, home_of
 
 _ROOT_PATH = "picky_asn1_der"
-_ORDER = ["der_types", "picky_asn1_der::OneOf", "picky_asn1_der::OneOf4", *HOME_ORDER[1:]]
+_ORDER = ["der_types", "picky_asn1_der::Choice4", "picky_asn1_der::OneOf", *HOME_ORDER[1:]]
 
 PRELUDE = "Rattle.std.specs.Prelude"
 # the modules of terms that files of any crate import, in the order of imports
@@ -15,11 +15,11 @@ _TERM_ORDER = [
     PRELUDE,
     "Rattle.picky_der_core.specs.Shape",
     "Rattle.picky_der_de.specs.declared.alternatives.OneOf.TheVariants",
-    "Rattle.picky_der_de.specs.declared.alternatives4.OneOf4.TheVariants",
-    "Rattle.picky_der_de.specs.Known",
-    "Rattle.picky_der_de.specs.KnownChoices",
-    "Rattle.picky_der_de.specs.KnownMembers",
-    "Rattle.der_types.specs.KnownContents",
+    "Rattle.picky_der_de.specs.declared.choice4.Choice4.TheVariants",
+    "Rattle.picky_der_de.specs.Facts",
+    "Rattle.picky_der_de.specs.ChoiceFacts",
+    "Rattle.picky_der_de.specs.MembersFacts",
+    "Rattle.der_types.specs.ContentsFacts",
     "Rattle.der_types.specs.Notation",
 ]
 # how wide a line of imports of terms is

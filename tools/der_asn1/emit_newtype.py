@@ -6,8 +6,8 @@ from .layout import STEP, WIDTH, comment, signature
 
 _TWO = STEP * 2
 
-_TERMS = {PRELUDE: {"refl"}, "Rattle.picky_der_de.specs.Known": {"known_as"}}
-_NAMES = "ReadExt WriteExt Alike Deserialize Deserializer Result Serialize Serializer deserialize_as Begins Tag Notated".split()
+_TERMS = {PRELUDE: {"refl"}, "Rattle.picky_der_de.specs.Facts": {"facts_as"}}
+_NAMES = "ReadExt WriteExt Via Deserialize Deserializer Result Serialize Serializer deserialize_as Begins Tag Notated".split()
 
 
 def newtype_uses(declared: NewtypeDeclaration) -> Uses:
@@ -60,9 +60,9 @@ def serialize_impl(declared: NewtypeDeclaration) -> list[str]:
 
 
 def alike_impl(declared: NewtypeDeclaration) -> list[str]:
-    """The implementation of `Alike`, whose twin is the type inside."""
+    """The implementation of `Via`, whose twin is the type inside."""
     return [
-        f"impl Alike for {declared.name} {{",
+        f"impl Via for {declared.name} {{",
         f"{STEP}type As = {declared.type};",
         "",
         f"{STEP}ghost parts = {{ λ it. it.0 }};",
@@ -80,9 +80,9 @@ def deserialize_impl(declared: NewtypeDeclaration) -> list[str]:
         f"impl Deserialize for {declared.name} {{",
         f"{STEP}ghost shape = {{ {quoted(declared, 'Deserialize')}.shape }};",
         "",
-        f"{STEP}ghost known = {{ known_as {quoted(declared, 'Deserialize')}.known (λ it. it.0) }};",
+        f"{STEP}ghost facts = {{ facts_as {quoted(declared, 'Deserialize')}.facts (λ it. it.0) }};",
         "",
-        f"{STEP}ghost tied = {{ Prim.assumption }};",
+        f"{STEP}ghost proved = {{ Prim.assumption }};",
         "",
         *signature(STEP, "deserialize", ["deserializer: &mut Deserializer<R>"], f"Result<{declared.name}>", "<R: ReadExt>"),
         f"{_TWO}deserialize_as(deserializer)",

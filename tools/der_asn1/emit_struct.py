@@ -14,7 +14,7 @@ _THREE = STEP * 3
 
 _TERMS = {
     PRELUDE: {"refl"},
-    "Rattle.picky_der_de.specs.KnownMembers": {"known_struct", "sequence_of", "sequence_shape"},
+    "Rattle.picky_der_de.specs.MembersFacts": {"struct_facts", "sequence_of", "sequence_shape"},
     "Rattle.der_types.specs.Notation": {"Notation"},
 }
 _NAMES = """ReadExt WriteExt Deserialize DeserializeMembers Deserializer Result Serialize SerializeMembers Serializer Struct
@@ -247,18 +247,18 @@ def last_impl(declared: StructDeclaration, tuples: list[str], names: PrivateName
 
 def deserialize_impl(declared: StructDeclaration, members: str) -> list[str]:
     """The implementation of `Deserialize`."""
-    known = f"known_struct ⟦<{members} as DeserializeMembers>⟧.known refl ⟦<Self as Struct>⟧.parts"
+    facts = f"struct_facts ⟦<{members} as DeserializeMembers>⟧.facts refl ⟦<Self as Struct>⟧.parts"
     return [
         f"impl Deserialize for {declared.name} {{",
         f"{STEP}ghost shape = {{ sequence_shape ⟦<{members} as DeserializeMembers>⟧.layout }};",
         "",
-        f"{STEP}ghost known = {{ {known} }};",
+        f"{STEP}ghost facts = {{ {facts} }};",
         "",
         *signature(STEP, "deserialize", ["deserializer: &mut Deserializer<R>"], f"Result<{declared.name}>", "<R: ReadExt>"),
         f"{_TWO}deserialize_struct_as(deserializer)",
         f"{STEP}}}",
         "",
-        f"{STEP}ghost tied = {{ Prim.assumption }};",
+        f"{STEP}ghost proved = {{ Prim.assumption }};",
         "}",
     ]
 

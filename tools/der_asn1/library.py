@@ -14,7 +14,7 @@ LAST_NAMED_LIST = 7
 U64_MAX = 2**64 - 1
 DEFAULT_UNSIGNED = range(0, 256)
 DEFAULT_SIGNED = range(-128, 128)
-# how many alternatives `OneOf4` has
+# how many alternatives `Choice4` has
 FOUR = 4
 # numbers whose content is one byte (X.690, 8.3 and 8.4), and that are that byte
 ONE_BYTE = range(128)
@@ -90,11 +90,11 @@ def context_tag(mode: str, inner: RustType, number: int) -> RustType:
 
 
 def retagged(inner: RustType, tag: int) -> RustType:
-    """Retagged, by the short name if there is one."""
+    """`ImplicitList`, by the short name if there is one."""
     number = tag & 0x1F
     if tag & 0xE0 == 0xA0 and number <= LAST_NAMED_LIST:
         return of(f"ImplicitList{number}", inner)
-    return of("Retagged", inner, f"0x{tag:02X}")
+    return of("ImplicitList", inner, f"0x{tag:02X}")
 
 
 def parts_type(types: list[RustType]) -> RustType:
@@ -102,7 +102,7 @@ def parts_type(types: list[RustType]) -> RustType:
     if not types:
         return of("NoneOf")
     if len(types) >= FOUR:
-        return of("OneOf4", *types[:FOUR], parts_type(types[FOUR:]))
+        return of("Choice4", *types[:FOUR], parts_type(types[FOUR:]))
     return of("OneOf", types[0], parts_type(types[1:]))
 
 

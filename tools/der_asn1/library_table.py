@@ -1,13 +1,13 @@
 """What the library has, in one table: its types for those that have a name in X.680, its other names, and its terms.
 
-The types whose content passes a test, and the strings, are the rows of crates/der_types/types.toml.
+The types of one primitive kind, those whose content passes a test, and the strings are the rows of crates/der_types/types.toml.
 """
 import pathlib
 import re
 import tomllib
 from collections.abc import Iterator
 from dataclasses import dataclass
-from typing import Optional, Union
+from typing import Any, Optional, Union
 
 from .features import Feature, Note
 from .library import Core
@@ -43,9 +43,11 @@ _STRINGS = "X.680, 41.1"
 _LISTED = frozenset(("INTEGER", "BIT STRING", "ENUMERATED"))
 
 
-def checked_types() -> Iterator[LibraryType]:
+def types_of_rows(table: dict[str, list[dict[str, Any]]]) -> Iterator[LibraryType]:
     """The types of the table of der_types that a name alone is."""
-    table = tomllib.loads(_TABLE.read_text(encoding="utf-8"))
+    for row in table["kind"]:
+        clause = f"X.680, {row['clause']}.1"
+        yield LibraryType(row["asn1"], row["tag"], row["name"], Core[row["core"]], row.get("home", ""), row["term"], clause=clause)
     for row in table["content"]:
         if not row.get("named"):
             core = Core.NUMBER if row["asn1"] == "INTEGER" else Core.CONTENTS
@@ -57,36 +59,34 @@ def checked_types() -> Iterator[LibraryType]:
             yield LibraryType(name, row["tag"], row["string"], term=name, is_checked=True, clause=_STRINGS, lacks=lacks)
 
 
-TYPES = (
-    LibraryType("BOOLEAN", 0x01, "bool", Core.BOOL, "", "BOOLEAN", clause="X.680, 18.1"),
-    LibraryType("OCTET STRING", 0x04, "ByteBuf", Core.OCTETS, _ASN1, "OCTET-STRING", clause="X.680, 23.1"),
-    LibraryType("NULL", 0x05, "()", Core.NULL, "", "NULL", clause="X.680, 24.1"),
+_ROWS = tuple(types_of_rows(tomllib.loads(_TABLE.read_text(encoding="utf-8"))))
+# what the library has no type for, as long as it has no row
+_OTHERS = (
     LibraryType("ObjectDescriptor", 0x07, clause="X.680, 48.1", lacks=Note.ALPHABET),
     LibraryType("EXTERNAL", 0x28, clause="X.680, 37.1"),
     LibraryType("REAL", 0x09, clause="X.680, 21.1", lacks=Feature.RARE),
     LibraryType("EMBEDDED PDV", 0x2B, clause="X.680, 36.1", lacks=Feature.RARE),
-    LibraryType("UTF8String", 0x0C, "String", Core.UTF8, "", "UTF8String", clause=_STRINGS),
     LibraryType("SEQUENCE", 0x30),
     LibraryType("SET", 0x31),
     LibraryType("VideotexString", 0x15, clause=_STRINGS, lacks=Note.ALPHABET),
     LibraryType("GraphicString", 0x19, clause=_STRINGS, lacks=Note.ALPHABET),
     LibraryType("CHARACTER STRING", 0x3D, clause="X.680, 44.1", lacks=Feature.RARE),
-    *checked_types(),
 )
+TYPES = (*_ROWS, *(it for it in _OTHERS if it.name not in {row.name for row in _ROWS}))
 BY_NAME = {it.name: it for it in TYPES}
 UNIVERSAL_TAGS = {it.name: it.tag for it in TYPES}
 
 # the other names of the library that a crate may import, by their modules, in the order of imports
 _NAMES = {
-    _TYPES: """Asn1Set Contents InRange NamedBits Notated NotatedAlternatives NotatedDefault NotatedMembers OtherThan RetaggedPrimitive
-        RetaggedSet TagOrdered WithSize deserialize_contents_as""",
+    _TYPES: """Asn1Set Contents InRange NamedBits Notated NotatedAlternatives NotatedDefault NotatedMembers OtherThan ImplicitPrimitive
+        ImplicitSet TagOrdered WithSize deserialize_contents_as""",
     "picky_asn1_der::application_tag": "ApplicationTag",
-    _ASN1: """Asn1SequenceOf Asn1SetOf BitStringAsn1Container ExplicitContextTag ImplicitContextTag OctetStringAsn1Container Retagged
+    _ASN1: """Asn1SequenceOf Asn1SetOf BitStringAsn1Container ExplicitContextTag ImplicitContextTag OctetStringAsn1Container ImplicitList
         TaggedBytes Tag""",
     "picky_asn1_der::de": "Begins deserialize_choice_as",
     "picky_asn1_der::misc": "ReadExt WriteExt",
     "picky_asn1_der::ser": "DefaultOf Defaulted DefaultedRef False Number Optional OptionalRef Sequence SignedNumber True",
-    _ROOT: """Alike Alternatives Asn1RawDer Choice Deserialize DeserializeMembers Deserializer LaterMembers List NoneOf OneOf OneOf4 Result
+    _ROOT: """Via Alternatives Asn1RawDer Choice Deserialize DeserializeMembers Deserializer LaterMembers List NoneOf OneOf Choice4 Result
         Serialize SerializeMembers Serializer Struct deserialize_as deserialize_struct_as""",
 }
 _NUMBERED = re.compile(r"(ExplicitContextTag|ImplicitContextTag|ImplicitList)\d+$")
@@ -105,7 +105,7 @@ _TERMS = {
     "Notation": "INTEGER-named ENUMERATED any-content content-under end none optional required",
     "NotationForms": """ANY APPLICATION AUTOMATIC BIT-STRING-CONTAINING CHOICE CONTEXT EXPLICIT FALSE IMPLICIT INTEGER-from-minus-to
         INTEGER-from-to MAX Mode OCTET-STRING-CONTAINING PRIVATE SEQUENCE SEQUENCE-OF SET SET-OF SIZE TRUE UNIVERSAL added default
-        default-as-optional default-of instead later-alternatives-refused later-members later-members-refused minus number ◌⨾◌ ◌∣◌""",
+        default-as-optional default-of wider later-alternatives-refused later-members later-members-refused minus number ◌⨾◌ ◌∣◌""",
 }
 _OWN_TERMS = {
     "ContentForms": [it.term for it in TYPES if it.is_checked],

@@ -4,7 +4,7 @@ from typing import Optional
 
 from .features import Feature, Level, Note
 from .library import Rust
-from .terms import Term, instead
+from .terms import Term, wider
 
 
 @dataclass(frozen=True)
@@ -48,7 +48,7 @@ class Meaning:
         """The same with a term that says so if the type isn't that of the notation."""
         if not self.is_other or self.rust is None:
             return self
-        return replace(self.called(instead(self.rust.term)), is_other=False)
+        return replace(self.called(wider(self.rust.term)), is_other=False)
 
 
 def lacks(meaning: Meaning) -> list[str]:

@@ -115,7 +115,7 @@ def last_word(type_: tree.StructureType, scope: Scope, parts: list[Part]) -> str
     if not is_extensible(type_, scope):
         return "end"
     is_any = any(it.firsts >= ANY_FIRST for it in before_later(parts))
-    return NO_LATER if type_.form is tree.Form.SET or type_.goes_on or is_any else LATER
+    return NO_LATER if type_.form is tree.Form.SET or type_.continues or is_any else LATER
 
 
 def before_later(parts: list[Part]) -> list[Part]:

@@ -34,7 +34,7 @@ def wrapped(meaning: Meaning, tag_class: tree.TagClass, number: int, mode: tree.
         members = inner.inner
         while members.core is Core.SET:  # a constraint is around the set
             members = members.inner
-        around = of("RetaggedSet", members.type, f"0x{tag | _CONSTRUCTED:02X}")
+        around = of("ImplicitSet", members.type, f"0x{tag | _CONSTRUCTED:02X}")
         return meaning.as_(Rust(around, Core.RETAGGED, frozenset((tag | _CONSTRUCTED,)), inner))
     if inner.core is Core.LIST:
         tag |= _CONSTRUCTED
@@ -63,7 +63,7 @@ def explicit(inner: Rust, tag_class: tree.TagClass, number: int) -> Rust:
         return Rust(context_tag("Explicit", inner.type, number), Core.EXPLICIT, firsts, inner)
     if tag_class is TagClass.APPLICATION:
         return Rust(of("ApplicationTag", inner.type, str(number)), Core.APPLICATION, firsts, inner)
-    return Rust(of("Retagged", tuple_of(inner.type), f"0x{tag:02X}"), Core.EXPLICIT, firsts, inner)
+    return Rust(of("ImplicitList", tuple_of(inner.type), f"0x{tag:02X}"), Core.EXPLICIT, firsts, inner)
 
 
 def primitive(meaning: Meaning, inner: Rust, tag: int) -> Meaning:
@@ -76,11 +76,11 @@ def primitive(meaning: Meaning, inner: Rust, tag: int) -> Meaning:
         return meaning.as_(replace(tagged_bytes(tag), bounded=True)).noting(Note.CONSTRAINT)
     if inner.core in (Core.UNSIGNED, Core.SIGNED):
         term = content_under(tag, Term("INTEGER"))
-        rust = Rust(of("RetaggedPrimitive", of("Integer"), f"0x{tag:02X}"), Core.IMPLICIT, firsts, inner, bounded=True, is_foreign=True, term=term)
+        rust = Rust(of("ImplicitPrimitive", of("Integer"), f"0x{tag:02X}"), Core.IMPLICIT, firsts, inner, bounded=True, is_foreign=True, term=term)
         return meaning.as_(rust).noting(Note.CONSTRAINT)
     if inner.core in (Core.CONTENTS, Core.NUMBER):
         content = inner.inner if inner.bounded and inner.inner else inner
-        around = of("RetaggedPrimitive", content.type, f"0x{tag:02X}")
+        around = of("ImplicitPrimitive", content.type, f"0x{tag:02X}")
         rust = Rust(around, Core.IMPLICIT, firsts, inner, bounded=inner.bounded, is_foreign=True)
         if inner.bounded:
             return meaning.as_(rust).called(content_under(tag, content.term)).noting(Note.CONSTRAINT)

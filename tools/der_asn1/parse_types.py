@@ -182,8 +182,8 @@ class TypeParser(ConstraintParser):
     def structure_or_list(self, place: Place, form: tree.Form, clause: str) -> tree.Type:
         """SEQUENCE and SET, of members or OF (X.680, 25 to 28)."""
         if self.at("{"):
-            members, extensible, goes_on = self.members(clause)
-            return tree.StructureType(place, form, members, extensible, goes_on)
+            members, extensible, continues = self.members(clause)
+            return tree.StructureType(place, form, members, extensible, continues)
         constraints = []
         if self.at("SIZE"):
             constraints = [self.size_alone()]
@@ -226,7 +226,7 @@ class TypeParser(ConstraintParser):
         """The members in braces, whether there is an extension marker, and whether members come after a second one."""
         opening = self.expect("{", clause)
         found, markers, group, bracketed = [], 0, 0, False
-        version, goes_on = None, False
+        version, continues = None, False
         while not self.at("}"):
             if self.now.kind is Kind.END:
                 raise NotationError(opening.place, "`{` isn't closed by `}`", clause)
@@ -241,12 +241,12 @@ class TypeParser(ConstraintParser):
                 bracketed = False
             else:
                 group += markers == 1 and not bracketed
-                goes_on = markers > 1
+                continues = markers > 1
                 found.append(self.member(clause, group if markers == 1 else None, version if bracketed else None))
             if not self.at("}", "]]"):
                 self.comma(opening, clause)
         self.take()
-        return found, markers > 0, goes_on
+        return found, markers > 0, continues
 
     def version(self) -> Optional[int]:
         """The number of a version, if it is there (X.680, 25.1)."""

@@ -100,9 +100,9 @@ def whole(name: str, term: Term, lines: list[str]) -> list[str]:
     return [f"{name} = {''.join(words)}{term.head} (", *lines, f"{_STEP}{term.end}{after}"]
 
 
-def instead(term: Term) -> Term:
+def wider(term: Term) -> Term:
     """The term of what the library has in place of a type."""
-    return term if term.head == "instead" else Term("instead", term)
+    return term if term.head == "wider" else Term("wider", term)
 
 
 def any_content(tag: int) -> Term:

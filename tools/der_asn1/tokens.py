@@ -118,8 +118,8 @@ class _Scanner:
     def comment(self, place: Place, words: str) -> None:
         """Gives a comment to the item before it, if it is on its line or continues below, or else keeps it for the next item."""
         last = self.tokens[-1] if self.tokens else None
-        goes_on = last and last.beside and self.fresh and not self.pending and place.column >= last.beside_column - 1
-        if last and (goes_on or not self.fresh):
+        continues = last and last.beside and self.fresh and not self.pending and place.column >= last.beside_column - 1
+        if last and (continues or not self.fresh):
             last.beside_column = last.beside_column or place.column
             last.beside = f"{last.beside} {words}".strip()
         else:

@@ -336,12 +336,12 @@ class ComponentsOf:
 
 @dataclass
 class StructureType(Type):
-    """A SEQUENCE or a SET of members (X.680, 25 and 27). `goes_on` says that members of the root come after the additions."""
+    """A SEQUENCE or a SET of members (X.680, 25 and 27). `continues` says that members of the root come after the additions."""
 
     form: Form
     members: list[Union[Member, ComponentsOf]]
     extensible: bool = False
-    goes_on: bool = False
+    continues: bool = False
 
 
 @dataclass

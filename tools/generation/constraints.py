@@ -8,7 +8,7 @@ TYPE = """
 ghost use Rattle.std.proofs.Common.{ap};
 ghost use Rattle.std.specs.Prelude.{◌≡◌, true, false, not, refl, IfSome, IfNone, IfOk, IfErr};
 ghost use Rattle.picky_der_de.specs.Reading.{Reads, Refuses};
-ghost use Rattle.picky_der_de.specs.Known.{known_part};
+ghost use Rattle.picky_der_de.specs.Facts.{part_facts};
 ghost use Rattle.der_types.specs.Constraints.{$test_name, RefusesConstrained};
 ghost use Rattle.der_types.specs.ExactConstraints.{$exact_values};
 ghost use Rattle.der_types.specs.Notation.{Notation};
@@ -73,7 +73,7 @@ impl<T: $of + Deserialize, $parameters> Constrained for $type {
 
     ghost kept = { λ it. $kept };
 
-    ghost told = { λ x y e. ap $compared (T.told x y e) };
+    ghost determined = { λ x y e. ap $compared (T.determined x y e) };
 }
 
 impl<T: $of, $parameters> Serialize for $type {
@@ -88,9 +88,9 @@ $list
 impl<T: $of + Deserialize, $parameters> Deserialize for $type {
     ghost shape = { T.shape };
 
-    ghost known = { known_part T.known T.meaning T.eq (λ it. it.value) };
+    ghost facts = { part_facts T.facts T.meaning T.eq (λ it. it.value) };
 
-    ghost tied = { Prim.assumption };
+    ghost proved = { Prim.assumption };
 
     fn deserialize<R: ReadExt>(deserializer: &mut Deserializer<R>) -> Result<$type>
         ensures ok { IfOk result (λ it. Reads T.shape deserializer.old deserializer.new

@@ -203,9 +203,9 @@ impl Serialize for $name {
 impl Deserialize for $name {
     ghost shape = { contents_shape $tag };
 
-    ghost known = { $known };
+    ghost facts = { $facts };
 
-    ghost tied = { Prim.assumption };
+    ghost proved = { Prim.assumption };
 
     fn deserialize<R: ReadExt>(deserializer: &mut Deserializer<R>) -> Result<$name>
         ensures read { IfOk result (λ it. ReadsContent $tag $test deserializer.old deserializer.new $it_shown) }
@@ -243,8 +243,8 @@ impl ExactContents for $name {
 
 # an equality of the content, which is derived, and one that is proved
 DERIVED_SAME = "λ x y e. (bytes_decides $x $y).1 e"
-DERIVED_KNOWN = "known_bytes $tag (λ it. $content)"
-PROVED_KNOWN = "known_contents $tag (λ it. $content) ⟦<Self as PartialEq>⟧.eq ⟦<Self as Contents>⟧.same"
+DERIVED_FACTS = "bytes_facts $tag (λ it. $content)"
+PROVED_FACTS = "contents_facts $tag (λ it. $content) ⟦<Self as PartialEq>⟧.eq ⟦<Self as Contents>⟧.same"
 
 
 def filled(template: str, **words: str) -> str:
@@ -265,7 +265,7 @@ def words_of(row: Content) -> dict[str, str]:
         words["it_shown"] = f"({words['it_shown']})"
     words |= {"valid": form.valid, "whole": form.whole}
     words["same"] = row.equality.proof if row.equality else filled(DERIVED_SAME, **words)
-    words["known"] = filled(PROVED_KNOWN if row.equality else DERIVED_KNOWN, **words)
+    words["facts"] = filled(PROVED_FACTS if row.equality else DERIVED_FACTS, **words)
     words["functions"] = filled(form.functions, **words)
     words["copy"] = filled(form.copy, **words)
     return words
@@ -275,18 +275,18 @@ def ghost_uses(row: Content) -> Lines:
     """The imports of its contracts."""
     form = FORMS[row.form]
     equality = [f"Rattle.{row.equality.specs}.{{{row.equality.name}}}"] if row.equality else ["Rattle.std.specs.Cmp.Lexicographic.{bytes_decides}"]
-    known = "KnownContents.{contents_of, contents_shape, known_contents}" if row.equality else "KnownContents.{contents_of, contents_shape}"
+    facts = "ContentsFacts.{contents_of, contents_shape, contents_facts}" if row.equality else "ContentsFacts.{contents_of, contents_shape}"
     return [
         "ghost use Rattle.std.proofs.Common.{lit≤};",
         "ghost use Rattle.std.specs.Prelude.{◌≡◌, true, false, refl, IfSome, IfNone, IfOk, IfErr};",
         *(f"ghost use {it};" for it in equality),
-        *([] if row.equality else ["ghost use Rattle.picky_der_de.specs.Known.{known_bytes};"]),
+        *([] if row.equality else ["ghost use Rattle.picky_der_de.specs.Facts.{bytes_facts};"]),
         f"ghost use Rattle.{row.specs}.{{{row.test}}};",
         "ghost use Rattle.der_types.specs.ContentForms as form;",
         "ghost use Rattle.der_types.specs.ContentTests.{ReadsContent, RefusesContent};",
         "ghost use Rattle.der_types.specs.Exact.{content_exact, plain_values};",
         "ghost use Rattle.der_types.specs.ExactContents.{own_contents};",
-        f"ghost use Rattle.der_types.specs.{known};",
+        f"ghost use Rattle.der_types.specs.{facts};",
         *(f"ghost use {it};" for it in form.ghost_uses),
     ]
 

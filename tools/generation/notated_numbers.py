@@ -68,7 +68,7 @@ impl WholeNumber for $name {
         $between
     }
 
-    ghost told = { λ x y e. ap pos (unsigned_tree-same (2 ^ $bits - 1) x y e) };
+    ghost determined = { λ x y e. ap pos (unsigned_tree-same (2 ^ $bits - 1) x y e) };
 }
 """
 

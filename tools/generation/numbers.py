@@ -2,7 +2,7 @@
 from dataclasses import asdict, dataclass
 from string import Template
 
-from generation.files import Files, Lines, pieces, proof, source
+from generation.files import Files, Lines, pieces, source
 
 
 @dataclass(frozen=True)
@@ -13,21 +13,18 @@ class Number:
     bits: int
     # the variant of `ValueType` of der_tool_lib
     variant: str = ""
-    # how it is written and read: `usize` has no call of its own
-    write: str = ""
-    read: str = ""
     # a default, whose type has 8 bits, as such a number
     default: str = ""
 
 
 UNSIGNED = [
-    Number("u8", 8, "U8", "ser.serialize_u8(*self)", "de.deserialize_u8()", "N"),
-    Number("u16", 16, "U16", "ser.serialize_u16(*self)", "de.deserialize_u16()", "u16::from(N)"),
-    Number("u32", 32, "U32", "ser.serialize_u32(*self)", "de.deserialize_u32()", "u32::from(N)"),
-    Number("u64", 64, "U64", "ser.serialize_u64(*self)", "de.deserialize_u64()", "u64::from(N)"),
-    Number("u128", 128, "U128", "ser.serialize_u128(*self)", "de.deserialize_u128()", "u128::from(N)"),
+    Number("u8", 8, "U8", "N"),
+    Number("u16", 16, "U16", "u16::from(N)"),
+    Number("u32", 32, "U32", "u32::from(N)"),
+    Number("u64", 64, "U64", "u64::from(N)"),
+    Number("u128", 128, "U128", "u128::from(N)"),
 ]
-USIZE = Number("usize", 64, "", "ser.serialize_u128(*self as u128)", "Ok(de.deserialize_u64()? as usize)", "N as usize")
+USIZE = Number("usize", 64, "", "N as usize")
 SIGNED = [
     Number("i8", 8, default="N"),
     Number("i16", 16, default="i16::from(N)"),
@@ -153,7 +150,7 @@ impl Serialize for $name {
         ensures meant { WritesPlain W.WriteExt.own (unsigned_tree (2 ^ $bits - 1) self.now)
             ser.old result ser.new }
     {
-        $write
+        ser.serialize_u128($number)
     }
 }
 """
@@ -187,7 +184,9 @@ def written_numbers() -> Lines:
         "use picky_der_core::Result;",
         "use picky_der_core::misc::WriteExt;",
         "",
-        *each(WRITE_UNSIGNED, [*UNSIGNED, USIZE]),
+        *each(WRITE_UNSIGNED, UNSIGNED[:-1], number="u128::from(*self)"),
+        *each(WRITE_UNSIGNED, UNSIGNED[-1:], number="*self"),
+        *each(WRITE_UNSIGNED, [USIZE], number="*self as u128"),
         *each(WRITE_SIGNED, SIGNED),
     ]
 
@@ -259,12 +258,12 @@ READ_UNSIGNED = """
 impl Deserialize for $name {
     ghost shape = { Shape.primitive (PrimitiveShape.unsigned (2 ^ $bits - 1)) };
 
-    ghost known = { known_unsigned (2 ^ $bits - 1) refl };
+    ghost facts = { unsigned_facts (2 ^ $bits - 1) refl };
 
-    ghost tied = { Prim.assumption };
+    ghost proved = { Prim.assumption };
 
     #[inline(always)]
-    #[tactic(auto, using(crate::proofs::NumberReads::reads_within))]
+    #[tactic(auto, using(crate::proofs::NumberReads::number))]
     fn deserialize<R: ReadExt>(de: &mut Deserializer<R>) -> Result<$name>
         ensures read { IfOk result (λ value. ReadsPrimitive (PrimitiveShape.unsigned (2 ^ $bits - 1))
             de.old de.new (Primitive.unsigned value)) }
@@ -275,9 +274,15 @@ impl Deserialize for $name {
             (Shape.primitive (PrimitiveShape.unsigned (2 ^ $bits - 1))) de.old de.new) }
         ensures refused { IfErr result (RefusesPrimitive Primitive.unsigned (PrimitiveShape.unsigned (2 ^ $bits - 1))
             de.old de.new) }
-        ensures memory { IfErr result (TakesNoMemory de.old de.new) }
+        ensures memory { IfErr result (UsesNoMemory de.old de.new) }
     {
-        $read
+        de.read_plain::<UnsignedInteger, $name>()
+    }
+}
+
+impl Begins for $name {
+    fn begins_with(tag: Tag) -> bool {
+        tag == Tag::INTEGER
     }
 }
 """
@@ -286,9 +291,9 @@ READ_SIGNED = """
 impl Deserialize for $name {
     ghost shape = { Shape.primitive (PrimitiveShape.bytes 0x02) };
 
-    ghost known = { known_int (fits_signed $bits) };
+    ghost facts = { int_facts (fits_signed $bits) };
 
-    ghost tied = { Prim.assumption };
+    ghost proved = { Prim.assumption };
 
     fn deserialize<R: ReadExt>(de: &mut Deserializer<R>) -> Result<$name>
         ensures ok { IfOk result (λ value. Reads (Shape.primitive (PrimitiveShape.bytes 0x02))
@@ -298,9 +303,15 @@ impl Deserialize for $name {
             de.old de.new) }
         ensures read { IfOk result (ReadsInt (fits_signed $bits) de.old de.new) }
         ensures refused { IfErr result (RefusesInt (fits_signed $bits) de.old de.new) }
-        ensures memory { IfErr result (TakesNoMemory de.old de.new) }
+        ensures memory { IfErr result (UsesNoMemory de.old de.new) }
     {
         de.deserialize_int()
+    }
+}
+
+impl Begins for $name {
+    fn begins_with(tag: Tag) -> bool {
+        tag == Tag::INTEGER
     }
 }
 """
@@ -314,46 +325,18 @@ def read_numbers() -> Lines:
         "ghost use Rattle.picky_der_core.specs.Primitive.{Primitive, PrimitiveShape};",
         "ghost use Rattle.picky_der_core.specs.Shape.{Shape};",
         "ghost use Rattle.picky_der_core.specs.Integer.{fits_signed, int_tree, unsigned_tree};",
-        "ghost use Rattle.picky_der_de.specs.Steps.{TakesNoMemory};",
+        "ghost use Rattle.picky_der_de.specs.Steps.{UsesNoMemory};",
         "ghost use Rattle.picky_der_de.specs.Reading.{Reads, Refuses, ReadsPrimitive, RefusesPrimitive};",
         "ghost use Rattle.picky_der_de.specs.Reading.{ReadsInt, RefusesInt};",
-        "ghost use Rattle.picky_der_de.specs.Known.{known_unsigned, known_int};",
+        "ghost use Rattle.picky_der_de.specs.Facts.{unsigned_facts, int_facts};",
         "",
-        "use crate::{Deserialize, Deserializer};",
+        "use crate::{Begins, Deserialize, Deserializer, UnsignedInteger};",
         "use picky_der_core::Result;",
+        "use picky_der_core::asn1::Tag;",
         "use picky_der_core::misc::ReadExt;",
         "",
         *each(READ_UNSIGNED, [*UNSIGNED, USIZE]),
         *each(READ_SIGNED, SIGNED),
-    ]
-
-
-def read_number_proof(number: Number) -> Lines:
-    """The proof that a refusal is one of the number that is meant."""
-    name = number.name
-    return [
-        *proof(),
-        "use Rattle.std.proofs.lemmas.Result.{MatchResult-weaker}",
-        "use Rattle.picky_der_de.proofs.NumberReads.{refuses_within}",
-        f"use Rattle.picky_der_de.proofs.generated.numbers.{name.upper()}Deserialize.deserialize.Goals as goal",
-        "",
-        "pub returns-clause-none : goal.returns-clause-none",
-        f"returns-clause-none g c = MatchResult-weaker c.deserialize_{name}.result c.deserialize_{name}.ensures.err (λ v h. tt) (λ e h. refuses_within h.refuses)",
-    ]
-
-
-def read_usize_proof() -> Lines:
-    """The same of `usize`, which is read as a `u64`."""
-    return [
-        *proof(),
-        "use Rattle.std.proofs.lemmas.Result.{err_from_is_err_and}",
-        "use Rattle.picky_der_de.proofs.NumberReads.{refuses_within}",
-        "use Rattle.picky_der_de.proofs.generated.numbers.UsizeDeserialize.deserialize.Goals as goal",
-        "",
-        "pub returns-in_err-deserialize_u64-clause-none : goal.returns-in_err-deserialize_u64-clause-none",
-        "returns-in_err-deserialize_u64-clause-none g c =",
-        "    let p = err_from_is_err_and c.from_residual.result c.from_residual.ensures.1 in",
-        "    rw (p.1, p.2) (refuses_within c.in_err-deserialize_u64.ensures.err.refuses)",
     ]
 
 
@@ -370,7 +353,7 @@ impl Named for $name {
     ghost same_meaning = { λ v of_shape. sym (unsigned_tree-within (2 ^ $bits - 1) v of_shape.0) };
 
     fn read<R: ReadExt>(de: &mut Deserializer<R>) -> Result<$name> {
-        $read
+        de.deserialize_$name()
     }
 }
 """
@@ -394,15 +377,10 @@ def named_numbers() -> Lines:
 
 def files() -> Files:
     """The files of numbers."""
-    proofs = "crates/picky_der_de/proofs/generated/numbers"
-    found = {
+    return {
         "crates/picky_der_core/src/generated/ints.rt": ints(),
         "crates/picky_der_ser/src/generated/numbers.rt": written_numbers(),
         "crates/picky_der_ser/src/generated/defaults.rt": defaults(),
         "crates/picky_der_de/src/generated/numbers.rt": read_numbers(),
         "crates/der_tool_lib/src/generated/numbers.rt": named_numbers(),
-        f"{proofs}/UsizeDeserialize/deserialize/Answers.antt": read_usize_proof(),
     }
-    for number in UNSIGNED:
-        found[f"{proofs}/{number.name.upper()}Deserialize/deserialize/Answers.antt"] = read_number_proof(number)
-    return found

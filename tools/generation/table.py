@@ -49,6 +49,22 @@ class Content:
 
 
 @dataclass(frozen=True)
+class Kind:
+    """A type of one primitive kind."""
+
+    name: str
+    asn1: str
+    clause: str
+    term: str
+    tag: int
+    core: str
+    meaning: str
+    exact: str
+    cites: list[str]
+    home: str = ""
+
+
+@dataclass(frozen=True)
 class Characters:
     """A set of characters with its string type."""
 
@@ -99,6 +115,11 @@ def contents() -> list[Content]:
     """The types whose content passes a test."""
     named = ("size", "equality")
     return [Content(**{key: Named(**it) if key in named else it for key, it in row.items()}) for row in load("content")]
+
+
+def kinds() -> list[Kind]:
+    """The types of one primitive kind each."""
+    return [Kind(**row) for row in load("kind")]
 
 
 def characters() -> list[Characters]:

@@ -2,7 +2,7 @@
 from generation.files import Files, Lines, proof, source
 
 NAMES = "ABCDEFGHIJKLMNOP"
-LENT = ["One", "Two", "Three", "Four", "Five", "Six", "Seven", "Eight"]
+REFS = ["Refs1", "Refs2", "Refs3", "Refs4", "Refs5", "Refs6", "Refs7", "Refs8"]
 PARTS = ["first", "second", "third", "fourth", "fifth", "sixth", "seventh", "eighth"]
 # the widths of a tuple that is written, of members that are written, and of both that are read
 WIDEST, AT_ONCE = 16, 8
@@ -35,8 +35,8 @@ def nested(heads: list[str], end: str) -> str:
 # ---- writing
 
 
-def lent() -> Lines:
-    """Members by reference: `One` to `Eight`."""
+def member_refs() -> Lines:
+    """Members by reference: `Refs1` to `Refs8`."""
     text = [
         *source("Up to eight members by reference, and the members after them."),
         "",
@@ -47,18 +47,18 @@ def lent() -> Lines:
         "// Members by reference, the last one for the members after them. All references have one lifetime: the checker refuses a type",
         "// argument that names several.",
     ]
-    for width, name in enumerate(LENT, 1):
+    for width, name in enumerate(REFS, 1):
         names = NAMES[:width]
         fields = ", ".join(f"pub(crate) &'a {it}" for it in [*names, "Z"])
         text += ["#[derive(Drop)]", f"pub(crate) struct {name}<'a, {', '.join(names)}, Z>({fields});", ""]
-    for width, name in enumerate(LENT, 1):
+    for width, name in enumerate(REFS, 1):
         names = NAMES[:width]
-        heads = [f"{it}.in_front row.{at}.now" for at, it in enumerate(names)]
+        heads = [f"{it}.prepend it.{at}.now" for at, it in enumerate(names)]
         rest = ", ".join(f"self.{at}" for at in range(1, width + 1))
-        others = f"{LENT[width - 2]}({rest}).serialize_members(sequence)" if width > 1 else "self.1.serialize_members(sequence)"
+        others = f"{REFS[width - 2]}({rest}).serialize_members(sequence)" if width > 1 else "self.1.serialize_members(sequence)"
         text += [
             f"impl{of(names, 'SerializeMember', 'SerializeMembers')} SerializeMembers for {name}<'_, {', '.join(names)}, Z> {{",
-            f"    ghost members = {{ λ row. {nested(heads, f'(Z.members row.{width}.now)')} }};",
+            f"    ghost members = {{ λ it. {nested(heads, f'(Z.members it.{width}.now)')} }};",
             "",
             "    fn serialize_members<W: WriteExt>(&self, sequence: &mut Sequence<'_, W>) -> Result<()> {",
             "        self.0.serialize_member(sequence)?;",
@@ -70,12 +70,12 @@ def lent() -> Lines:
     return text
 
 
-def lent_proof(name: str) -> Lines:
+def member_refs_proof(name: str) -> Lines:
     return [
         *proof(),
         "use Rattle.std.proofs.lemmas.Result.{err_from_is_err_and}",
-        "use Rattle.picky_der_ser.proofs.RowWrites.{row_goes_on, row_stops}",
-        f"use Rattle.picky_der_ser.proofs.generated.lent.{name}SerializeMembers.serialize_members.Goals as goal",
+        "use Rattle.picky_der_ser.proofs.MembersWrites.{members_continue, members_stop}",
+        f"use Rattle.picky_der_ser.proofs.generated.member_refs.{name}SerializeMembers.serialize_members.Goals as goal",
         "",
         "pub returns-in_err-serialize_member-clause-err : goal.returns-in_err-serialize_member-clause-err",
         "returns-in_err-serialize_member-clause-err g c =",
@@ -83,26 +83,26 @@ def lent_proof(name: str) -> Lines:
         "    rw (p.1, p.2) (c.in_err-serialize_member.ensures.err _)",
         "",
         "pub returns-clause-added : goal.returns-clause-added",
-        "returns-clause-added g c = row_goes_on g.W.WriteExt c.serialize_members.result _ _ c.in_ok-serialize_member.ensures.added c.serialize_members.ensures.added",
+        "returns-clause-added g c = members_continue g.W.WriteExt c.serialize_members.result _ _ c.in_ok-serialize_member.ensures.added c.serialize_members.ensures.added",
         "",
         "pub returns-clause-err : goal.returns-clause-err",
-        "returns-clause-err g c = row_stops g.W.WriteExt c.serialize_members.result _ _ c.in_ok-serialize_member.ensures.added c.serialize_members.ensures.err",
+        "returns-clause-err g c = members_stop g.W.WriteExt c.serialize_members.result _ _ c.in_ok-serialize_member.ensures.added c.serialize_members.ensures.err",
     ]
 
 
-def lent_value(refs: list[str]) -> tuple[Lines, str]:
+def member_refs_value(refs: list[str]) -> tuple[Lines, str]:
     """Statements before, and the value that lends these references. The last one is for the members after the others."""
     if len(refs) - 1 <= AT_ONCE:
-        return [], f"{LENT[len(refs) - 2]}({', '.join(refs)})"
-    before, others = lent_value(refs[AT_ONCE:])
-    return [*before, f"let others = {others};"], f"Eight({', '.join(refs[:AT_ONCE])}, &others)"
+        return [], f"{REFS[len(refs) - 2]}({', '.join(refs)})"
+    before, others = member_refs_value(refs[AT_ONCE:])
+    return [*before, f"let others = {others};"], f"Refs8({', '.join(refs[:AT_ONCE])}, &others)"
 
 
 def written_members() -> Lines:
     text = [
         *source("Members in a tuple, and the members after them, as they are written."),
         "",
-        f"use super::lent::{{{', '.join(sorted(LENT))}}};",
+        f"use super::member_refs::{{{', '.join(sorted(REFS))}}};",
         "use crate::{Sequence, SerializeMember, SerializeMembers};",
         "use picky_der_core::Result;",
         "use picky_der_core::misc::WriteExt;",
@@ -110,11 +110,11 @@ def written_members() -> Lines:
     ]
     for width in range(1, WIDEST + 1):
         names = NAMES[:width]
-        heads = [f"{it}.in_front {part('row', at, width + 1)}" for at, it in enumerate(names)]
-        before, value = lent_value([f"&self.{at}" for at in range(width + 1)])
+        heads = [f"{it}.prepend {part('it', at, width + 1)}" for at, it in enumerate(names)]
+        before, value = member_refs_value([f"&self.{at}" for at in range(width + 1)])
         text += [
             f"impl{of(names, 'SerializeMember', 'SerializeMembers')} SerializeMembers for {tuple_of([*names, 'Z'])} {{",
-            f"    ghost members = {{ λ row. {nested(heads, '(Z.members ' + part('row', width, width + 1) + ')')} }};",
+            f"    ghost members = {{ λ it. {nested(heads, '(Z.members ' + part('it', width, width + 1) + ')')} }};",
             "",
             "    fn serialize_members<W: WriteExt>(&self, sequence: &mut Sequence<'_, W>) -> Result<()> {",
             *["        " + it for it in before],
@@ -133,7 +133,7 @@ def written_tuples() -> Lines:
         "ghost use Rattle.picky_der_core.specs.Tree.{ListKind, Tree, trees};",
         "ghost use Rattle.picky_der_ser.specs.Calls.{WritesWhole};",
         "",
-        f"use super::lent::{{{', '.join(sorted(LENT))}}};",
+        f"use super::member_refs::{{{', '.join(sorted(REFS))}}};",
         "use crate::{List, Serialize, SerializeMembers, Serializer};",
         "use picky_der_core::Result;",
         "use picky_der_core::misc::WriteExt;",
@@ -142,7 +142,7 @@ def written_tuples() -> Lines:
     for width in range(1, WIDEST + 1):
         names = NAMES[:width]
         trees = {it: " ∷ ".join(f"{name}.meaning {part(it, at, width)}" for at, name in enumerate(names)) for it in ("t", "self.now")}
-        before, value = lent_value([f"&self.{at}" for at in range(width)] + ["&()"])
+        before, value = member_refs_value([f"&self.{at}" for at in range(width)] + ["&()"])
         text += [
             f"impl{of(names, 'Serialize')} Serialize for {tuple_of(names)} {{",
             f"    ghost meaning = {{ λ t. Tree.list ListKind.sequence (trees ({trees['t']} ∷ [])) }};",
@@ -170,8 +170,8 @@ def written_tuples() -> Lines:
 def read_members() -> Lines:
     text = [
         *source("Members in a tuple, and the members after them, as they are read."),
-        "ghost use Rattle.picky_der_de.specs.Layouts.{component_then};",
-        "ghost use Rattle.picky_der_de.specs.KnownMembers.{known_member, known_members};",
+        "ghost use Rattle.picky_der_de.specs.Layouts.{layout_with};",
+        "ghost use Rattle.picky_der_de.specs.MembersFacts.{member_facts, members_facts};",
         "",
         "use crate::{DeserializeMember, DeserializeMembers, Sequence};",
         "use picky_der_core::Result;",
@@ -181,13 +181,13 @@ def read_members() -> Lines:
     for width in range(1, AT_ONCE + 1):
         names = NAMES[:width]
         whole = tuple_of([*names, "Z"])
-        layout = nested([f"component_then {it}.presence {it}.shape" for it in names], "Z.layout")
-        known = nested([f"known_member (λ it. it.{at}) {it}.known {it}.in_front" for at, it in enumerate(names)], f"(known_members (λ it. it.{width}) Z.known Z.members)")
+        layout = nested([f"layout_with {it}.presence {it}.shape" for it in names], "Z.layout")
+        facts = nested([f"member_facts (λ it. it.{at}) {it}.facts {it}.prepend" for at, it in enumerate(names)], f"(members_facts (λ it. it.{width}) Z.facts Z.members)")
         text += [
             f"impl{of(names, 'DeserializeMember', 'DeserializeMembers')} DeserializeMembers for {whole} {{",
             f"    ghost layout = {{ {layout} }};",
             "",
-            f"    ghost known = {{ {known} }};",
+            f"    ghost facts = {{ {facts} }};",
             "",
             f"    fn deserialize_members<R: ReadExt>(sequence: &mut Sequence<'_, R>) -> Result<{whole}> {{",
             "        let first = A::deserialize_member(sequence)?;",
@@ -195,19 +195,19 @@ def read_members() -> Lines:
         if width == 1:
             text += ["        let others = Z::deserialize_members(sequence)?;", "        Ok((first, others))"]
         else:
-            parts = ", ".join([*PARTS[1:width], "behind"])
+            parts = ", ".join([*PARTS[1:width], "after"])
             text += [
                 f"        let others = <{tuple_of([*names[1:], 'Z'])} as DeserializeMembers>::deserialize_members(sequence)?;",
                 f"        let ({parts}) = others;",
                 f"        Ok((first, {parts}))",
             ]
-        text += ["    }", "", "    ghost tied = { Prim.assumption };", "}", ""]
+        text += ["    }", "", "    ghost proved = { Prim.assumption };", "}", ""]
     return text
 
 
 def component(name: str) -> str:
-    """What is known of the member that has this parameter's type."""
-    return f"(component_of g.{name}.DeserializeMember.known g.met.{name}.DeserializeMember.tied)"
+    """The facts of the member that has this parameter's type."""
+    return f"(layout_member g.{name}.DeserializeMember.facts g.met.{name}.DeserializeMember.proved)"
 
 
 def read_members_proof(width: int) -> Lines:
@@ -215,33 +215,33 @@ def read_members_proof(width: int) -> Lines:
 
     def others(first: int) -> str:
         heads = [f"lead (λ v. v.{at}) {component(it)}" for at, it in enumerate(names, first)]
-        rest = "(components_of g.Z.DeserializeMembers.known g.met.Z.DeserializeMembers.tied)"
-        return nested([*heads, f"behind (λ v. v.{first + len(names)})"], rest)
+        rest = "(layout_members g.Z.DeserializeMembers.facts g.met.Z.DeserializeMembers.proved)"
+        return nested([*heads, f"after (λ v. v.{first + len(names)})"], rest)
 
-    behind = tuple_of([f"v.{at}" for at in range(1, width + 1)]) if width > 1 else "v.1"
-    inner = others(0) if width > 1 else "components_of g.Z.DeserializeMembers.known g.met.Z.DeserializeMembers.tied"
+    after = tuple_of([f"v.{at}" for at in range(1, width + 1)]) if width > 1 else "v.1"
+    inner = others(0) if width > 1 else "layout_members g.Z.DeserializeMembers.facts g.met.Z.DeserializeMembers.proved"
     first = component("A")
     read = "c.in_ok-first.ensures.member c.in_ok-first.ensures.none"
     return [
         *proof(),
         "use Rattle.std.proofs.lemmas.Result.{err_from_is_err_and}",
-        "use Rattle.picky_der_de.specs.KnownMembers.{component_of, components_of}",
-        f"use Rattle.picky_der_de.specs.LayoutLaws.{{behind{', lead' if width > 1 else ''}}}",
-        "use Rattle.picky_der_de.proofs.LayoutReads.{component_head, component_next, component_read}",
+        "use Rattle.picky_der_de.specs.MembersFacts.{layout_member, layout_members}",
+        f"use Rattle.picky_der_de.specs.LayoutLaws.{{after{', lead' if width > 1 else ''}}}",
+        "use Rattle.picky_der_de.proofs.LayoutReads.{layout_member_head, layout_member_next, layout_member_read}",
         f"use Rattle.picky_der_de.proofs.generated.members.Tuple{width + 1}DeserializeMembers.deserialize_members.Goals as goal",
         "",
         "pub returns-in_err-first-clause-err : goal.returns-in_err-first-clause-err",
         "returns-in_err-first-clause-err g c =",
         "    let p = err_from_is_err_and c.from_residual.result c.from_residual.ensures.1 in",
-        f"    rw (p.1, p.2) (component_head {first} g.met.A.DeserializeMember.distinguished (λ v. v.0) ({others(1)}) c.requires.implicit_tag c.in_err-first.ensures.err)",
+        f"    rw (p.1, p.2) (layout_member_head {first} g.met.A.DeserializeMember.distinguished (λ v. v.0) ({others(1)}) c.requires.implicit_tag c.in_err-first.ensures.err)",
         "",
         "pub returns-in_err-others-clause-err : goal.returns-in_err-others-clause-err",
         "returns-in_err-others-clause-err g c =",
         "    let p = err_from_is_err_and c.from_residual-in_err-others.result c.from_residual-in_err-others.ensures.1 in",
-        f"    rw (p.1, p.2) (component_next {first} (λ v. v.0) (λ v. {behind}) ({inner}) c.in_ok-first.first c.requires.implicit_tag {read} c.in_err-others.ensures.err)",
+        f"    rw (p.1, p.2) (layout_member_next {first} (λ v. v.0) (λ v. {after}) ({inner}) c.in_ok-first.first c.requires.implicit_tag {read} c.in_err-others.ensures.err)",
         "",
         "pub returns-clause-ok : goal.returns-clause-ok",
-        f"returns-clause-ok g c = component_read {first} c.in_ok-first.first c.requires.implicit_tag {read} c.in_ok-others.ensures.ok",
+        f"returns-clause-ok g c = layout_member_read {first} c.in_ok-first.first c.requires.implicit_tag {read} c.in_ok-others.ensures.ok",
     ]
 
 
@@ -250,7 +250,7 @@ def read_tuples() -> Lines:
     text = [
         *source("Tuples, as they are read: each as a struct of its elements."),
         "ghost use Rattle.std.specs.Prelude.{refl};",
-        "ghost use Rattle.picky_der_de.specs.KnownMembers.{known_field, known_none, known_tuple, sequence_shape};",
+        "ghost use Rattle.picky_der_de.specs.MembersFacts.{required_facts, none_facts, tuple_facts, sequence_shape};",
         "ghost use Rattle.picky_der_core.specs.Shape.{Layout};",
         "",
         "use crate::{Begins, Deserialize, Deserializer, Struct, deserialize_struct_as};",
@@ -268,7 +268,7 @@ def read_tuple(names: str) -> Lines:
     """How a tuple of these types is read."""
     width, whole = len(names), tuple_of(names)
     layout = nested([f"Layout.required {it}.shape" for it in names], "Layout.empty")
-    known = nested([f"known_field (λ it. it.{at}) {it}.known {it}.meaning {it}.eq" for at, it in enumerate(names)], "known_none")
+    facts = nested([f"required_facts (λ it. it.{at}) {it}.facts {it}.meaning {it}.eq" for at, it in enumerate(names)], "none_facts")
     return [
         f"impl{of(names, 'Deserialize')} Struct for {whole} {{",
         f"    type Members = {tuple_of([*names, '()'])};",
@@ -284,13 +284,13 @@ def read_tuple(names: str) -> Lines:
         f"impl{of(names, 'Deserialize')} Deserialize for {whole} {{",
         f"    ghost shape = {{ sequence_shape ({layout}) }};",
         "",
-        f"    ghost known = {{ known_tuple ({known}) refl (λ it. it) }};",
+        f"    ghost facts = {{ tuple_facts ({facts}) refl (λ it. it) }};",
         "",
         f"    fn deserialize<R: ReadExt>(de: &mut Deserializer<R>) -> Result<{whole}> {{",
         "        deserialize_struct_as(de)",
         "    }",
         "",
-        "    ghost tied = { Prim.assumption };",
+        "    ghost proved = { Prim.assumption };",
         "}",
         "",
         f"impl{of(names, 'Deserialize')} Begins for {whole} {{",
@@ -309,9 +309,9 @@ def notation_of_members() -> Lines:
     text = [
         *source("The ASN.1 members of a tuple of members, and the members after them."),
         "ghost use Rattle.std.specs.Prelude.{refl};",
-        "ghost use Rattle.der_types.specs.ExactMembers.{row_values};",
+        "ghost use Rattle.der_types.specs.ExactMembers.{members_values};",
         "ghost use Rattle.der_types.specs.Notation.{Members};",
-        "ghost use Rattle.der_types.specs.NotationLaws.{in_front};",
+        "ghost use Rattle.der_types.specs.NotationLaws.{before_others};",
         "",
         "use crate::{ExactMember, ExactMembers, NotatedMember, NotatedMembers};",
         "use picky_der_ser::SerializeMembers;",
@@ -323,7 +323,7 @@ def notation_of_members() -> Lines:
             f"impl{of(names, 'NotatedMember', 'NotatedMembers')} NotatedMembers for {tuple_of([*names, 'Z'])} {{",
             f"    ghost members_notation = {{ {nested([f'Members.member {it}.member' for it in names], 'Z.members_notation')} }};",
             "",
-            f"    ghost laid_out = {{ {nested([f'in_front {it}.stands' for it in names], 'Z.laid_out')} }};",
+            f"    ghost denoted_layout = {{ {nested([f'before_others {it}.denoted_member' for it in names], 'Z.denoted_layout')} }};",
             "}",
             "",
         ]
@@ -339,7 +339,7 @@ def exact_members() -> Lines:
         of_others = [f"⟦<{others} as {trait}>⟧.{name}" for trait, name in EXACT_FACTS] if width > 1 else [f"Z.{name}" for _, name in EXACT_FACTS]
         rest = tuple_of([f"it.{at}" for at in range(1, width + 1)]) if width > 1 else "it.1"
         parts = ["x", *(f"r.{at}" for at in range(width))] if width > 1 else ["x", "r"]
-        values = f"row_values A.member_values A.member A.in_front {' '.join(of_others)}"
+        values = f"members_values A.member_values A.member A.prepend {' '.join(of_others)}"
         text += [
             f"impl{of(names, 'ExactMember', 'ExactMembers')} ExactMembers for {whole} {{",
             f"    ghost all_values = {{ {values} (λ it. it.0) (λ it. {rest}) (λ x r. ({tuple_of(parts)}, refl {{a = x}}, refl {{a = r}})) }};",
@@ -355,15 +355,15 @@ def files() -> Files:
     """The files of tuples."""
     ser, de, types = "crates/picky_der_ser", "crates/picky_der_de", "crates/der_types"
     found = {
-        f"{ser}/src/generated/lent.rt": lent(),
+        f"{ser}/src/generated/member_refs.rt": member_refs(),
         f"{ser}/src/generated/members.rt": written_members(),
         f"{ser}/src/generated/tuples.rt": written_tuples(),
         f"{de}/src/generated/members.rt": read_members(),
         f"{de}/src/generated/tuples.rt": read_tuples(),
         f"{types}/src/generated/members.rt": [*notation_of_members(), *exact_members()],
     }
-    for name in LENT:
-        found[f"{ser}/proofs/generated/lent/{name}SerializeMembers/serialize_members/Answers.antt"] = lent_proof(name)
+    for name in REFS:
+        found[f"{ser}/proofs/generated/member_refs/{name}SerializeMembers/serialize_members/Answers.antt"] = member_refs_proof(name)
     for width in range(1, AT_ONCE + 1):
         found[f"{de}/proofs/generated/members/Tuple{width + 1}DeserializeMembers/deserialize_members/Answers.antt"] = read_members_proof(width)
     return found

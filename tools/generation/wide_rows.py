@@ -1,4 +1,4 @@
-"""What the rows of der_rows_lib write and read of each width of a tuple that no other row has."""
+"""What the rows of der_rows write and read of each width of a tuple that no other row has."""
 from generation.files import Files, Lines, source
 
 # the numbers of elements of the tuples that are read and written, and of the members that are written one by one
@@ -12,7 +12,7 @@ FIVE, SIX, SEVEN = ORDINALS[:5], ORDINALS[5:11], ORDINALS[11:]
 
 HEAD = """
 ghost use Rattle.std.specs.Prelude.{refl};
-ghost use Rattle.picky_der_de.specs.KnownMembers.{known_struct, sequence_of, sequence_shape};
+ghost use Rattle.picky_der_de.specs.MembersFacts.{struct_facts, sequence_of, sequence_shape};
 
 use crate::answers::{RowBytes, Writing, read_as, written};
 use crate::row::Row;
@@ -132,13 +132,13 @@ def eighteen_both_ways() -> Lines:
         "impl Deserialize for Eighteen {",
         "    ghost shape = { sequence_shape ⟦<Five as DeserializeMembers>⟧.layout };",
         "",
-        "    ghost known = { known_struct ⟦<Five as DeserializeMembers>⟧.known refl ⟦<Self as Struct>⟧.parts };",
+        "    ghost facts = { struct_facts ⟦<Five as DeserializeMembers>⟧.facts refl ⟦<Self as Struct>⟧.parts };",
         "",
         "    fn deserialize<R: ReadExt>(deserializer: &mut Deserializer<R>) -> DerResult<Eighteen> {",
         "        deserialize_struct_as(deserializer)",
         "    }",
         "",
-        "    ghost tied = { Prim.assumption };",
+        "    ghost proved = { Prim.assumption };",
         "}",
     ]
 
@@ -147,4 +147,4 @@ def files() -> Files:
     """The file of these rows."""
     about = "Tuples, rows and structs of the widths that no other row has."
     text = [*source(about), *HEAD.strip("\n").split("\n"), "", *answer(), *written_value(), *serialize_members(), *eighteen(), *eighteen_both_ways()]
-    return {"crates/der_rows_lib/src/generated/widths.rt": text}
+    return {"crates/der_rows/src/generated/widths.rt": text}

@@ -1,5 +1,6 @@
 """Files that a script writes or compares, the rows of programs, and the line that counts tests."""
 import argparse
+import re
 import sys
 from collections.abc import Iterable, Mapping
 from pathlib import Path
@@ -72,6 +73,20 @@ def files_of(crate: str, rows: Iterable[Row]) -> dict[Path, Content]:
     both = list(rows)
     folder = folder_of(crate)
     return {folder / "stdin": in_lines(row for row, _ in both), folder / "stdout": in_lines(answer for _, answer in both)}
+
+
+def with_section(text: str, name: str, lines: str) -> str:
+    """The text of a file in which these lines are the section of this name. A line `## NAME` begins a section, which the next one ends."""
+    parts = re.split(r"^(?=## )", text, flags=re.M)
+    new = f"## {name}\n{lines}"
+    kept = [new if it.startswith(f"## {name}\n") else it for it in parts]
+    return "".join(kept if new in kept else [*kept, new])
+
+
+def section_of(crate: str, name: str, rows: Iterable[Row]) -> dict[Path, Content]:
+    """The files of a crate, in which the section of this name has these rows and their answers."""
+    found = files_of(crate, rows).items()
+    return {path: with_section(path.read_text(encoding="utf-8") if path.exists() else "", name, str(new)) for path, new in found}
 
 
 def report(passed: int, wrong: Iterable[str]) -> int:

@@ -43,4 +43,4 @@ class Picture(unittest.TestCase):
     def test_kinds(self) -> None:
         kinds = self.drawing.kinds()
         self.assertEqual(set(self.drawing.COLORS), set(kinds.values()))
-        self.assertEqual("library types programs tests".split(), [kinds[it] for it in ("picky_der_core", "der_cms", "der_show", "der_rows_lib")])
+        self.assertEqual("library types programs tests".split(), [kinds[it] for it in ("picky_der_core", "der_cms", "der_show", "der_rows")])

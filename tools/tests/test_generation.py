@@ -1,7 +1,7 @@
 """What tools/generate writes: the modules of folders, comparisons without layout, and the rows of types."""
 import unittest
 
-from generation import constraints, content_specs, contents, files, table
+from generation import constraints, content_specs, contents, files, kinds, table
 
 
 class Files(unittest.TestCase):
@@ -28,8 +28,15 @@ class Rows(unittest.TestCase):
                 self.assertIn(row.form, contents.FORMS)
 
     def test_terms_and_sets_are_named_once(self) -> None:
-        names = [row.term for row in table.contents()] + [name for row in table.characters() for name in row.asn1]
+        names = [row.term for row in (*table.kinds(), *table.contents())] + [name for row in table.characters() for name in row.asn1]
         self.assertEqual(len(names), len(set(names)))
+
+    def test_a_kind_has_its_notation_and_is_exact(self) -> None:
+        row = table.Kind("A", "X", "1", "X", 1, "OWN", "λ it. t it", "e", ["Exact.e"], "b")
+        self.assertEqual(
+            ["impl Notated for A {", "ghost values = { plain_values Notation.X (λ it. t it) e };"],
+            [line.strip() for line in kinds.implementations(row) if "impl Notated" in line or "values" in line],
+        )
 
     def test_cases_by_tag(self) -> None:
         self.assertEqual("if tag == 0x0C then a\n    else b", content_specs.by_tag([(12, "a")], "b"))

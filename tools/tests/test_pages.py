@@ -43,7 +43,7 @@ class Prose(unittest.TestCase):
         self.assertEqual([], self.found("```rust\njust behind\n```\n"))
         self.assertEqual([], self.found("Text:\n\n    just behind\n"))
 
-    def test_what_goes_on_with_an_item(self) -> None:
+    def test_what_continues_with_an_item(self) -> None:
         self.assertEqual([1], self.lines("- an item\n  that is just\n"))
         self.assertEqual([2], self.lines("\n- an item\n    that is just\n"))
 

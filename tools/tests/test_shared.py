@@ -86,6 +86,16 @@ class Files(unittest.TestCase):
         self.assertEqual((1, "a/text isn't what tools/it writes\n1 passed, 1 failed\n"), self.run_with(True))
 
 
+class Sections(unittest.TestCase):
+    def test_a_section_is_written_in_its_place(self) -> None:
+        text = "## one\na\n# b\n## two\nc\n## three\nd\n"
+        self.assertEqual("## one\na\n# b\n## two\ne\nf\n## three\nd\n", rows.with_section(text, "two", "e\nf\n"))
+
+    def test_a_new_section_is_the_last(self) -> None:
+        self.assertEqual("## one\na\n## two\nb\n", rows.with_section("## one\na\n", "two", "b\n"))
+        self.assertEqual("## one\na\n", rows.with_section("", "one", "a\n"))
+
+
 class Arguments(unittest.TestCase):
     def test_a_wrong_option_is_refused(self) -> None:
         scripts = [it for it in (crates.ROOT / "tools").iterdir() if it.is_file() and it.read_bytes().startswith(b"#!/usr/bin/env python3")]

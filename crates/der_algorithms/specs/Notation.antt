@@ -2,7 +2,7 @@
 -- The types as terms. Above each is its name in its module, and above each member the member's text.
 use Rattle.der_types.specs.ContentForms.{BIT-STRING, INTEGER, OBJECT-IDENTIFIER}
 use Rattle.der_types.specs.Notation.{Notation, NULL, OCTET-STRING, end, none, optional, required}
-use Rattle.der_types.specs.NotationForms.{ANY, CHOICE, CONTEXT, EXPLICIT, INTEGER-from-to, Mode, SEQUENCE, SEQUENCE-OF, SIZE, default-as-optional, default-of, instead, ◌∣◌, ◌⨾◌}
+use Rattle.der_types.specs.NotationForms.{ANY, CHOICE, CONTEXT, EXPLICIT, INTEGER-from-to, Mode, SEQUENCE, SEQUENCE-OF, SIZE, default-as-optional, default-of, wider, ◌∣◌, ◌⨾◌}
 use Rattle.der_x509.specs.Notation.{AlgorithmIdentifier}
 
 -- PKIX1-PSS-OAEP-Algorithms DEFINITIONS EXPLICIT TAGS
@@ -11,7 +11,7 @@ TAGS = EXPLICIT
 
 -- AES-CCM-ICVlen of CMS-AES-CCM-and-AES-GCM: INTEGER (4 | 6 | 8 | 10 | 12 | 14 | 16)
 abbrev pub AesCcmIcVlen : Notation
-AesCcmIcVlen = instead INTEGER
+AesCcmIcVlen = wider INTEGER
 
 -- AES-GCM-ICVlen of CMS-AES-CCM-and-AES-GCM: INTEGER (12 | 13 | 14 | 15 | 16)
 abbrev pub AesGcmIcVlen : Notation
@@ -23,7 +23,7 @@ AesIv = SIZE 16 16 OCTET-STRING
 
 -- CCMParameters of CMS-AES-CCM-and-AES-GCM
 abbrev pub CcmParameters : Notation
-CcmParameters = instead (SEQUENCE (
+CcmParameters = wider (SEQUENCE (
     -- aes-nonce OCTET STRING (SIZE (7..13))
     required (SIZE 7 13 OCTET-STRING) ⨾
     -- aes-ICVlen AES-CCM-ICVlen DEFAULT 12
@@ -200,13 +200,13 @@ Pbkdf2Salt = CHOICE (
 
 -- PBKDF2-params of PKCS5v2-1
 abbrev pub Pbkdf2Params : Notation
-Pbkdf2Params = instead (SEQUENCE (
+Pbkdf2Params = wider (SEQUENCE (
     -- salt PBKDF2-Salt
     required Pbkdf2Salt ⨾
     -- iterationCount INTEGER (1..MAX)
-    required (instead INTEGER) ⨾
+    required (wider INTEGER) ⨾
     -- keyLength INTEGER (1..MAX) OPTIONAL
-    optional (instead INTEGER) ⨾
+    optional (wider INTEGER) ⨾
     -- prf AlgorithmIdentifier DEFAULT algid-hmacWithSHA1
     default-as-optional AlgorithmIdentifier ⨾
     end))
@@ -246,7 +246,7 @@ Rc2CbcParameter = SEQUENCE (
 
 -- RSAES-OAEP-params of PKIX1-PSS-OAEP-Algorithms
 abbrev pub RsaesOaepParams : Notation
-RsaesOaepParams = instead (SEQUENCE (
+RsaesOaepParams = wider (SEQUENCE (
     -- hashFunc [0] AlgorithmIdentifier DEFAULT sha1Identifier
     default-as-optional (CONTEXT 0 TAGS AlgorithmIdentifier) ⨾
     -- maskGenFunc [1] AlgorithmIdentifier DEFAULT mgf1SHA1Identifier
@@ -257,7 +257,7 @@ RsaesOaepParams = instead (SEQUENCE (
 
 -- RSASSA-PSS-params of PKIX1-PSS-OAEP-Algorithms
 abbrev pub RsassaPssParams : Notation
-RsassaPssParams = instead (SEQUENCE (
+RsassaPssParams = wider (SEQUENCE (
     -- hashAlgorithm [0] AlgorithmIdentifier DEFAULT sha1Identifier
     default-as-optional (CONTEXT 0 TAGS AlgorithmIdentifier) ⨾
     -- maskGenAlgorithm [1] AlgorithmIdentifier DEFAULT mgf1SHA1Identifier
@@ -274,13 +274,13 @@ ScryptParams = SEQUENCE (
     -- salt OCTET STRING
     required OCTET-STRING ⨾
     -- costParameter INTEGER (1..MAX)
-    required (instead INTEGER) ⨾
+    required (wider INTEGER) ⨾
     -- blockSize INTEGER (1..MAX)
-    required (instead INTEGER) ⨾
+    required (wider INTEGER) ⨾
     -- parallelizationParameter INTEGER (1..MAX)
-    required (instead INTEGER) ⨾
+    required (wider INTEGER) ⨾
     -- keyLength INTEGER (1..MAX) OPTIONAL
-    optional (instead INTEGER) ⨾
+    optional (wider INTEGER) ⨾
     end)
 
 -- Trinomial of PKIX1Algorithms88: INTEGER

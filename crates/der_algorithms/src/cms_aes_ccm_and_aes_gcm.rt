@@ -2,7 +2,7 @@
 //!
 //! Types of CMS-AES-CCM-and-AES-GCM.
 ghost use Rattle.std.specs.Prelude.{refl};
-ghost use Rattle.picky_der_de.specs.KnownMembers.{known_struct, sequence_of, sequence_shape};
+ghost use Rattle.picky_der_de.specs.MembersFacts.{sequence_of, sequence_shape, struct_facts};
 ghost use Rattle.der_types.specs.Notation.{Notation};
 
 use der_types::{InRange, Integer, Notated, NotatedMembers, OtherThan, WithSize};
@@ -51,13 +51,13 @@ impl Serialize for GcmParameters {
 impl Deserialize for GcmParameters {
     ghost shape = { sequence_shape ⟦<GcmParametersParts as DeserializeMembers>⟧.layout };
 
-    ghost known = { known_struct ⟦<GcmParametersParts as DeserializeMembers>⟧.known refl ⟦<Self as Struct>⟧.parts };
+    ghost facts = { struct_facts ⟦<GcmParametersParts as DeserializeMembers>⟧.facts refl ⟦<Self as Struct>⟧.parts };
 
     fn deserialize<R: ReadExt>(deserializer: &mut Deserializer<R>) -> Result<GcmParameters> {
         deserialize_struct_as(deserializer)
     }
 
-    ghost tied = { Prim.assumption };
+    ghost proved = { Prim.assumption };
 }
 
 impl Begins for GcmParameters {
@@ -118,13 +118,13 @@ impl Serialize for CcmParameters {
 impl Deserialize for CcmParameters {
     ghost shape = { sequence_shape ⟦<CcmParametersParts as DeserializeMembers>⟧.layout };
 
-    ghost known = { known_struct ⟦<CcmParametersParts as DeserializeMembers>⟧.known refl ⟦<Self as Struct>⟧.parts };
+    ghost facts = { struct_facts ⟦<CcmParametersParts as DeserializeMembers>⟧.facts refl ⟦<Self as Struct>⟧.parts };
 
     fn deserialize<R: ReadExt>(deserializer: &mut Deserializer<R>) -> Result<CcmParameters> {
         deserialize_struct_as(deserializer)
     }
 
-    ghost tied = { Prim.assumption };
+    ghost proved = { Prim.assumption };
 }
 
 impl Begins for CcmParameters {

@@ -4,8 +4,8 @@
 ghost use Rattle.std.specs.Prelude.{refl};
 ghost use Rattle.picky_der_core.specs.Shape.{Shape};
 ghost use Rattle.picky_der_de.specs.declared.alternatives.OneOf.TheVariants.{Other, This};
-ghost use Rattle.picky_der_de.specs.KnownChoices.{known_choice};
-ghost use Rattle.picky_der_de.specs.KnownMembers.{known_struct, sequence_of, sequence_shape};
+ghost use Rattle.picky_der_de.specs.ChoiceFacts.{choice_facts};
+ghost use Rattle.picky_der_de.specs.MembersFacts.{sequence_of, sequence_shape, struct_facts};
 ghost use Rattle.der_types.specs.Notation.{Notation};
 
 use der_types::{Integer, Notated, NotatedAlternatives, NotatedMembers, WithSize};
@@ -79,13 +79,13 @@ impl Serialize for Pbkdf2Params {
 impl Deserialize for Pbkdf2Params {
     ghost shape = { sequence_shape ⟦<Pbkdf2ParamsParts as DeserializeMembers>⟧.layout };
 
-    ghost known = { known_struct ⟦<Pbkdf2ParamsParts as DeserializeMembers>⟧.known refl ⟦<Self as Struct>⟧.parts };
+    ghost facts = { struct_facts ⟦<Pbkdf2ParamsParts as DeserializeMembers>⟧.facts refl ⟦<Self as Struct>⟧.parts };
 
     fn deserialize<R: ReadExt>(deserializer: &mut Deserializer<R>) -> Result<Pbkdf2Params> {
         deserialize_struct_as(deserializer)
     }
 
-    ghost tied = { Prim.assumption };
+    ghost proved = { Prim.assumption };
 }
 
 impl Begins for Pbkdf2Params {
@@ -147,10 +147,10 @@ impl Deserialize for Pbkdf2Salt {
 
     ghost shape = { Shape.choice ⟦<Pbkdf2SaltParts as Alternatives>⟧.shapes };
 
-    ghost known = { known_choice ⟦<Pbkdf2SaltParts as Alternatives>⟧.known refl ⟦<Self as Choice>⟧.parts ⟦<Self as PartialEq>⟧.eq
+    ghost facts = { choice_facts ⟦<Pbkdf2SaltParts as Alternatives>⟧.facts refl ⟦<Self as Choice>⟧.parts ⟦<Self as PartialEq>⟧.eq
         (elim [ variants.Specified _ ↦ elim [ variants.Specified _ ↦ λ h. h | _ ↦ λ h. h ] | _ ↦ elim [ variants.Specified _ ↦ λ h. h | _ ↦ λ h. h ] ]) };
 
-    ghost tied = { Prim.assumption };
+    ghost proved = { Prim.assumption };
 
     fn deserialize<R: ReadExt>(deserializer: &mut Deserializer<R>) -> Result<Pbkdf2Salt> {
         deserialize_choice_as(deserializer)
@@ -205,13 +205,13 @@ impl Serialize for PbeParameter {
 impl Deserialize for PbeParameter {
     ghost shape = { sequence_shape ⟦<PbeParameterParts as DeserializeMembers>⟧.layout };
 
-    ghost known = { known_struct ⟦<PbeParameterParts as DeserializeMembers>⟧.known refl ⟦<Self as Struct>⟧.parts };
+    ghost facts = { struct_facts ⟦<PbeParameterParts as DeserializeMembers>⟧.facts refl ⟦<Self as Struct>⟧.parts };
 
     fn deserialize<R: ReadExt>(deserializer: &mut Deserializer<R>) -> Result<PbeParameter> {
         deserialize_struct_as(deserializer)
     }
 
-    ghost tied = { Prim.assumption };
+    ghost proved = { Prim.assumption };
 }
 
 impl Begins for PbeParameter {
@@ -266,13 +266,13 @@ impl Serialize for Pbes2Params {
 impl Deserialize for Pbes2Params {
     ghost shape = { sequence_shape ⟦<Pbes2ParamsParts as DeserializeMembers>⟧.layout };
 
-    ghost known = { known_struct ⟦<Pbes2ParamsParts as DeserializeMembers>⟧.known refl ⟦<Self as Struct>⟧.parts };
+    ghost facts = { struct_facts ⟦<Pbes2ParamsParts as DeserializeMembers>⟧.facts refl ⟦<Self as Struct>⟧.parts };
 
     fn deserialize<R: ReadExt>(deserializer: &mut Deserializer<R>) -> Result<Pbes2Params> {
         deserialize_struct_as(deserializer)
     }
 
-    ghost tied = { Prim.assumption };
+    ghost proved = { Prim.assumption };
 }
 
 impl Begins for Pbes2Params {
@@ -327,13 +327,13 @@ impl Serialize for Pbmac1Params {
 impl Deserialize for Pbmac1Params {
     ghost shape = { sequence_shape ⟦<Pbmac1ParamsParts as DeserializeMembers>⟧.layout };
 
-    ghost known = { known_struct ⟦<Pbmac1ParamsParts as DeserializeMembers>⟧.known refl ⟦<Self as Struct>⟧.parts };
+    ghost facts = { struct_facts ⟦<Pbmac1ParamsParts as DeserializeMembers>⟧.facts refl ⟦<Self as Struct>⟧.parts };
 
     fn deserialize<R: ReadExt>(deserializer: &mut Deserializer<R>) -> Result<Pbmac1Params> {
         deserialize_struct_as(deserializer)
     }
 
-    ghost tied = { Prim.assumption };
+    ghost proved = { Prim.assumption };
 }
 
 impl Begins for Pbmac1Params {
@@ -392,13 +392,13 @@ impl Serialize for Rc2CbcParameter {
 impl Deserialize for Rc2CbcParameter {
     ghost shape = { sequence_shape ⟦<Rc2CbcParameterParts as DeserializeMembers>⟧.layout };
 
-    ghost known = { known_struct ⟦<Rc2CbcParameterParts as DeserializeMembers>⟧.known refl ⟦<Self as Struct>⟧.parts };
+    ghost facts = { struct_facts ⟦<Rc2CbcParameterParts as DeserializeMembers>⟧.facts refl ⟦<Self as Struct>⟧.parts };
 
     fn deserialize<R: ReadExt>(deserializer: &mut Deserializer<R>) -> Result<Rc2CbcParameter> {
         deserialize_struct_as(deserializer)
     }
 
-    ghost tied = { Prim.assumption };
+    ghost proved = { Prim.assumption };
 }
 
 impl Begins for Rc2CbcParameter {

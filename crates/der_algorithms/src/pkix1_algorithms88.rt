@@ -4,8 +4,8 @@
 ghost use Rattle.std.specs.Prelude.{refl};
 ghost use Rattle.picky_der_core.specs.Shape.{Shape};
 ghost use Rattle.picky_der_de.specs.declared.alternatives.OneOf.TheVariants.{Other, This};
-ghost use Rattle.picky_der_de.specs.KnownChoices.{known_choice};
-ghost use Rattle.picky_der_de.specs.KnownMembers.{known_struct, sequence_of, sequence_shape};
+ghost use Rattle.picky_der_de.specs.ChoiceFacts.{choice_facts};
+ghost use Rattle.picky_der_de.specs.MembersFacts.{sequence_of, sequence_shape, struct_facts};
 ghost use Rattle.der_types.specs.Notation.{Notation};
 
 use der_types::{
@@ -59,13 +59,13 @@ impl Serialize for DssParms {
 impl Deserialize for DssParms {
     ghost shape = { sequence_shape ⟦<DssParmsParts as DeserializeMembers>⟧.layout };
 
-    ghost known = { known_struct ⟦<DssParmsParts as DeserializeMembers>⟧.known refl ⟦<Self as Struct>⟧.parts };
+    ghost facts = { struct_facts ⟦<DssParmsParts as DeserializeMembers>⟧.facts refl ⟦<Self as Struct>⟧.parts };
 
     fn deserialize<R: ReadExt>(deserializer: &mut Deserializer<R>) -> Result<DssParms> {
         deserialize_struct_as(deserializer)
     }
 
-    ghost tied = { Prim.assumption };
+    ghost proved = { Prim.assumption };
 }
 
 impl Begins for DssParms {
@@ -117,13 +117,13 @@ impl Serialize for DssSigValue {
 impl Deserialize for DssSigValue {
     ghost shape = { sequence_shape ⟦<DssSigValueParts as DeserializeMembers>⟧.layout };
 
-    ghost known = { known_struct ⟦<DssSigValueParts as DeserializeMembers>⟧.known refl ⟦<Self as Struct>⟧.parts };
+    ghost facts = { struct_facts ⟦<DssSigValueParts as DeserializeMembers>⟧.facts refl ⟦<Self as Struct>⟧.parts };
 
     fn deserialize<R: ReadExt>(deserializer: &mut Deserializer<R>) -> Result<DssSigValue> {
         deserialize_struct_as(deserializer)
     }
 
-    ghost tied = { Prim.assumption };
+    ghost proved = { Prim.assumption };
 }
 
 impl Begins for DssSigValue {
@@ -205,13 +205,13 @@ impl Serialize for DomainParameters {
 impl Deserialize for DomainParameters {
     ghost shape = { sequence_shape ⟦<DomainParametersParts as DeserializeMembers>⟧.layout };
 
-    ghost known = { known_struct ⟦<DomainParametersParts as DeserializeMembers>⟧.known refl ⟦<Self as Struct>⟧.parts };
+    ghost facts = { struct_facts ⟦<DomainParametersParts as DeserializeMembers>⟧.facts refl ⟦<Self as Struct>⟧.parts };
 
     fn deserialize<R: ReadExt>(deserializer: &mut Deserializer<R>) -> Result<DomainParameters> {
         deserialize_struct_as(deserializer)
     }
 
-    ghost tied = { Prim.assumption };
+    ghost proved = { Prim.assumption };
 }
 
 impl Begins for DomainParameters {
@@ -263,13 +263,13 @@ impl Serialize for ValidationParms {
 impl Deserialize for ValidationParms {
     ghost shape = { sequence_shape ⟦<ValidationParmsParts as DeserializeMembers>⟧.layout };
 
-    ghost known = { known_struct ⟦<ValidationParmsParts as DeserializeMembers>⟧.known refl ⟦<Self as Struct>⟧.parts };
+    ghost facts = { struct_facts ⟦<ValidationParmsParts as DeserializeMembers>⟧.facts refl ⟦<Self as Struct>⟧.parts };
 
     fn deserialize<R: ReadExt>(deserializer: &mut Deserializer<R>) -> Result<ValidationParms> {
         deserialize_struct_as(deserializer)
     }
 
-    ghost tied = { Prim.assumption };
+    ghost proved = { Prim.assumption };
 }
 
 impl Begins for ValidationParms {
@@ -321,13 +321,13 @@ impl Serialize for EcdsaSigValue {
 impl Deserialize for EcdsaSigValue {
     ghost shape = { sequence_shape ⟦<EcdsaSigValueParts as DeserializeMembers>⟧.layout };
 
-    ghost known = { known_struct ⟦<EcdsaSigValueParts as DeserializeMembers>⟧.known refl ⟦<Self as Struct>⟧.parts };
+    ghost facts = { struct_facts ⟦<EcdsaSigValueParts as DeserializeMembers>⟧.facts refl ⟦<Self as Struct>⟧.parts };
 
     fn deserialize<R: ReadExt>(deserializer: &mut Deserializer<R>) -> Result<EcdsaSigValue> {
         deserialize_struct_as(deserializer)
     }
 
-    ghost tied = { Prim.assumption };
+    ghost proved = { Prim.assumption };
 }
 
 impl Begins for EcdsaSigValue {
@@ -401,10 +401,10 @@ impl Deserialize for EcpkParameters {
 
     ghost shape = { Shape.choice ⟦<EcpkParametersParts as Alternatives>⟧.shapes };
 
-    ghost known = { known_choice ⟦<EcpkParametersParts as Alternatives>⟧.known refl ⟦<Self as Choice>⟧.parts ⟦<Self as PartialEq>⟧.eq
+    ghost facts = { choice_facts ⟦<EcpkParametersParts as Alternatives>⟧.facts refl ⟦<Self as Choice>⟧.parts ⟦<Self as PartialEq>⟧.eq
         (elim [ variants.EcParameters _ ↦ elim [ variants.EcParameters _ ↦ λ h. h | _ ↦ λ h. h ] | _ ↦ elim [ variants.EcParameters _ ↦ λ h. h | _ ↦ λ h. h ] ]) };
 
-    ghost tied = { Prim.assumption };
+    ghost proved = { Prim.assumption };
 
     fn deserialize<R: ReadExt>(deserializer: &mut Deserializer<R>) -> Result<EcpkParameters> {
         deserialize_choice_as(deserializer)
@@ -488,13 +488,13 @@ impl Serialize for EcParameters {
 impl Deserialize for EcParameters {
     ghost shape = { sequence_shape ⟦<EcParametersParts as DeserializeMembers>⟧.layout };
 
-    ghost known = { known_struct ⟦<EcParametersParts as DeserializeMembers>⟧.known refl ⟦<Self as Struct>⟧.parts };
+    ghost facts = { struct_facts ⟦<EcParametersParts as DeserializeMembers>⟧.facts refl ⟦<Self as Struct>⟧.parts };
 
     fn deserialize<R: ReadExt>(deserializer: &mut Deserializer<R>) -> Result<EcParameters> {
         deserialize_struct_as(deserializer)
     }
 
-    ghost tied = { Prim.assumption };
+    ghost proved = { Prim.assumption };
 }
 
 impl Begins for EcParameters {
@@ -552,13 +552,13 @@ impl Serialize for FieldId {
 impl Deserialize for FieldId {
     ghost shape = { sequence_shape ⟦<FieldIdParts as DeserializeMembers>⟧.layout };
 
-    ghost known = { known_struct ⟦<FieldIdParts as DeserializeMembers>⟧.known refl ⟦<Self as Struct>⟧.parts };
+    ghost facts = { struct_facts ⟦<FieldIdParts as DeserializeMembers>⟧.facts refl ⟦<Self as Struct>⟧.parts };
 
     fn deserialize<R: ReadExt>(deserializer: &mut Deserializer<R>) -> Result<FieldId> {
         deserialize_struct_as(deserializer)
     }
 
-    ghost tied = { Prim.assumption };
+    ghost proved = { Prim.assumption };
 }
 
 impl Begins for FieldId {
@@ -620,13 +620,13 @@ impl Serialize for CharacteristicTwo {
 impl Deserialize for CharacteristicTwo {
     ghost shape = { sequence_shape ⟦<CharacteristicTwoParts as DeserializeMembers>⟧.layout };
 
-    ghost known = { known_struct ⟦<CharacteristicTwoParts as DeserializeMembers>⟧.known refl ⟦<Self as Struct>⟧.parts };
+    ghost facts = { struct_facts ⟦<CharacteristicTwoParts as DeserializeMembers>⟧.facts refl ⟦<Self as Struct>⟧.parts };
 
     fn deserialize<R: ReadExt>(deserializer: &mut Deserializer<R>) -> Result<CharacteristicTwo> {
         deserialize_struct_as(deserializer)
     }
 
-    ghost tied = { Prim.assumption };
+    ghost proved = { Prim.assumption };
 }
 
 impl Begins for CharacteristicTwo {
@@ -685,13 +685,13 @@ impl Serialize for Pentanomial {
 impl Deserialize for Pentanomial {
     ghost shape = { sequence_shape ⟦<PentanomialParts as DeserializeMembers>⟧.layout };
 
-    ghost known = { known_struct ⟦<PentanomialParts as DeserializeMembers>⟧.known refl ⟦<Self as Struct>⟧.parts };
+    ghost facts = { struct_facts ⟦<PentanomialParts as DeserializeMembers>⟧.facts refl ⟦<Self as Struct>⟧.parts };
 
     fn deserialize<R: ReadExt>(deserializer: &mut Deserializer<R>) -> Result<Pentanomial> {
         deserialize_struct_as(deserializer)
     }
 
-    ghost tied = { Prim.assumption };
+    ghost proved = { Prim.assumption };
 }
 
 impl Begins for Pentanomial {
@@ -745,13 +745,13 @@ impl Serialize for Curve {
 impl Deserialize for Curve {
     ghost shape = { sequence_shape ⟦<CurveParts as DeserializeMembers>⟧.layout };
 
-    ghost known = { known_struct ⟦<CurveParts as DeserializeMembers>⟧.known refl ⟦<Self as Struct>⟧.parts };
+    ghost facts = { struct_facts ⟦<CurveParts as DeserializeMembers>⟧.facts refl ⟦<Self as Struct>⟧.parts };
 
     fn deserialize<R: ReadExt>(deserializer: &mut Deserializer<R>) -> Result<Curve> {
         deserialize_struct_as(deserializer)
     }
 
-    ghost tied = { Prim.assumption };
+    ghost proved = { Prim.assumption };
 }
 
 impl Begins for Curve {

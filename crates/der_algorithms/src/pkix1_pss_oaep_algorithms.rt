@@ -2,7 +2,7 @@
 //!
 //! Types of PKIX1-PSS-OAEP-Algorithms.
 ghost use Rattle.std.specs.Prelude.{refl};
-ghost use Rattle.picky_der_de.specs.KnownMembers.{known_struct, sequence_of, sequence_shape};
+ghost use Rattle.picky_der_de.specs.MembersFacts.{sequence_of, sequence_shape, struct_facts};
 ghost use Rattle.der_types.specs.Notation.{Notation};
 
 use der_types::{Integer, Notated, NotatedMembers, OtherThan};
@@ -90,13 +90,13 @@ impl Serialize for RsassaPssParams {
 impl Deserialize for RsassaPssParams {
     ghost shape = { sequence_shape ⟦<RsassaPssParamsParts as DeserializeMembers>⟧.layout };
 
-    ghost known = { known_struct ⟦<RsassaPssParamsParts as DeserializeMembers>⟧.known refl ⟦<Self as Struct>⟧.parts };
+    ghost facts = { struct_facts ⟦<RsassaPssParamsParts as DeserializeMembers>⟧.facts refl ⟦<Self as Struct>⟧.parts };
 
     fn deserialize<R: ReadExt>(deserializer: &mut Deserializer<R>) -> Result<RsassaPssParams> {
         deserialize_struct_as(deserializer)
     }
 
-    ghost tied = { Prim.assumption };
+    ghost proved = { Prim.assumption };
 }
 
 impl Begins for RsassaPssParams {
@@ -176,13 +176,13 @@ impl Serialize for RsaesOaepParams {
 impl Deserialize for RsaesOaepParams {
     ghost shape = { sequence_shape ⟦<RsaesOaepParamsParts as DeserializeMembers>⟧.layout };
 
-    ghost known = { known_struct ⟦<RsaesOaepParamsParts as DeserializeMembers>⟧.known refl ⟦<Self as Struct>⟧.parts };
+    ghost facts = { struct_facts ⟦<RsaesOaepParamsParts as DeserializeMembers>⟧.facts refl ⟦<Self as Struct>⟧.parts };
 
     fn deserialize<R: ReadExt>(deserializer: &mut Deserializer<R>) -> Result<RsaesOaepParams> {
         deserialize_struct_as(deserializer)
     }
 
-    ghost tied = { Prim.assumption };
+    ghost proved = { Prim.assumption };
 }
 
 impl Begins for RsaesOaepParams {

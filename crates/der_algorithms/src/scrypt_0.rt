@@ -2,7 +2,7 @@
 //!
 //! Types of Scrypt-0.
 ghost use Rattle.std.specs.Prelude.{refl};
-ghost use Rattle.picky_der_de.specs.KnownMembers.{known_struct, sequence_of, sequence_shape};
+ghost use Rattle.picky_der_de.specs.MembersFacts.{sequence_of, sequence_shape, struct_facts};
 ghost use Rattle.der_types.specs.Notation.{Notation};
 
 use der_types::{Integer, Notated, NotatedMembers};
@@ -84,13 +84,13 @@ impl Serialize for ScryptParams {
 impl Deserialize for ScryptParams {
     ghost shape = { sequence_shape ⟦<ScryptParamsParts as DeserializeMembers>⟧.layout };
 
-    ghost known = { known_struct ⟦<ScryptParamsParts as DeserializeMembers>⟧.known refl ⟦<Self as Struct>⟧.parts };
+    ghost facts = { struct_facts ⟦<ScryptParamsParts as DeserializeMembers>⟧.facts refl ⟦<Self as Struct>⟧.parts };
 
     fn deserialize<R: ReadExt>(deserializer: &mut Deserializer<R>) -> Result<ScryptParams> {
         deserialize_struct_as(deserializer)
     }
 
-    ghost tied = { Prim.assumption };
+    ghost proved = { Prim.assumption };
 }
 
 impl Begins for ScryptParams {

@@ -4,23 +4,23 @@
 ghost use Rattle.std.specs.Prelude.{refl};
 ghost use Rattle.picky_der_core.specs.Shape.{Shape};
 ghost use Rattle.picky_der_de.specs.declared.alternatives.OneOf.TheVariants.{Other, This};
-ghost use Rattle.picky_der_de.specs.declared.alternatives4.OneOf4.TheVariants.{First, Fourth, Later, Second, Third};
-ghost use Rattle.picky_der_de.specs.KnownChoices.{known_choice};
-ghost use Rattle.picky_der_de.specs.KnownMembers.{known_struct, sequence_of, sequence_shape};
+ghost use Rattle.picky_der_de.specs.declared.choice4.Choice4.TheVariants.{First, Fourth, Later, Second, Third};
+ghost use Rattle.picky_der_de.specs.ChoiceFacts.{choice_facts};
+ghost use Rattle.picky_der_de.specs.MembersFacts.{sequence_of, sequence_shape, struct_facts};
 ghost use Rattle.der_types.specs.Notation.{Notation};
 
 use der_types::{Notated, NotatedAlternatives, NotatedMembers, ObjectIdentifier};
 use der_x509::{Certificate, CertificateList, CertificateSerialNumber, Name};
+use picky_asn1_der::Choice4::{First, Fourth, Later, Second, Third};
 use picky_asn1_der::OneOf::{Other, This};
-use picky_asn1_der::OneOf4::{First, Fourth, Later, Second, Third};
 use picky_asn1_der::asn1::{
     Asn1SetOf, ImplicitList0, ImplicitList1, ImplicitList2, ImplicitList3, Tag,
 };
 use picky_asn1_der::de::{Begins, deserialize_choice_as};
 use picky_asn1_der::misc::{ReadExt, WriteExt};
 use picky_asn1_der::{
-    Alternatives, Asn1RawDer, Choice, Deserialize, DeserializeMembers, Deserializer, List, NoneOf,
-    OneOf, OneOf4, Result, Serialize, SerializeMembers, Serializer, Struct, deserialize_struct_as,
+    Alternatives, Asn1RawDer, Choice, Choice4, Deserialize, DeserializeMembers, Deserializer, List,
+    NoneOf, OneOf, Result, Serialize, SerializeMembers, Serializer, Struct, deserialize_struct_as,
 };
 
 /// `RevocationInfoChoices` of CryptographicMessageSyntax2004: `SET OF RevocationInfoChoice`.
@@ -71,10 +71,10 @@ impl Deserialize for RevocationInfoChoice {
 
     ghost shape = { Shape.choice ⟦<RevocationInfoChoiceParts as Alternatives>⟧.shapes };
 
-    ghost known = { known_choice ⟦<RevocationInfoChoiceParts as Alternatives>⟧.known refl ⟦<Self as Choice>⟧.parts ⟦<Self as PartialEq>⟧.eq
+    ghost facts = { choice_facts ⟦<RevocationInfoChoiceParts as Alternatives>⟧.facts refl ⟦<Self as Choice>⟧.parts ⟦<Self as PartialEq>⟧.eq
         (elim [ variants.Crl _ ↦ elim [ variants.Crl _ ↦ λ h. h | _ ↦ λ h. h ] | _ ↦ elim [ variants.Crl _ ↦ λ h. h | _ ↦ λ h. h ] ]) };
 
-    ghost tied = { Prim.assumption };
+    ghost proved = { Prim.assumption };
 
     fn deserialize<R: ReadExt>(deserializer: &mut Deserializer<R>) -> Result<RevocationInfoChoice> {
         deserialize_choice_as(deserializer)
@@ -129,7 +129,7 @@ impl Serialize for OtherRevocationInfoFormat {
 impl Deserialize for OtherRevocationInfoFormat {
     ghost shape = { sequence_shape ⟦<OtherRevocationInfoFormatParts as DeserializeMembers>⟧.layout };
 
-    ghost known = { known_struct ⟦<OtherRevocationInfoFormatParts as DeserializeMembers>⟧.known refl ⟦<Self as Struct>⟧.parts };
+    ghost facts = { struct_facts ⟦<OtherRevocationInfoFormatParts as DeserializeMembers>⟧.facts refl ⟦<Self as Struct>⟧.parts };
 
     fn deserialize<R: ReadExt>(
         deserializer: &mut Deserializer<R>,
@@ -137,7 +137,7 @@ impl Deserialize for OtherRevocationInfoFormat {
         deserialize_struct_as(deserializer)
     }
 
-    ghost tied = { Prim.assumption };
+    ghost proved = { Prim.assumption };
 }
 
 impl Begins for OtherRevocationInfoFormat {
@@ -171,7 +171,7 @@ pub enum CertificateChoices {
     Other(ImplicitList3<OtherCertificateFormat>),
 }
 
-type CertificateChoicesParts = OneOf4<
+type CertificateChoicesParts = Choice4<
     Certificate,
     ImplicitList0<ExtendedCertificate>,
     ImplicitList1<AttributeCertificateV1>,
@@ -232,10 +232,10 @@ impl Deserialize for CertificateChoices {
 
     ghost shape = { Shape.choice ⟦<CertificateChoicesParts as Alternatives>⟧.shapes };
 
-    ghost known = { known_choice ⟦<CertificateChoicesParts as Alternatives>⟧.known refl ⟦<Self as Choice>⟧.parts ⟦<Self as PartialEq>⟧.eq
+    ghost facts = { choice_facts ⟦<CertificateChoicesParts as Alternatives>⟧.facts refl ⟦<Self as Choice>⟧.parts ⟦<Self as PartialEq>⟧.eq
         (elim [ variants.Certificate _ ↦ elim [ variants.Certificate _ ↦ λ h. h | _ ↦ λ h. h ] | _ ↦ elim [ variants.Certificate _ ↦ λ h. h | _ ↦ λ h. h ] ]) };
 
-    ghost tied = { Prim.assumption };
+    ghost proved = { Prim.assumption };
 
     fn deserialize<R: ReadExt>(deserializer: &mut Deserializer<R>) -> Result<CertificateChoices> {
         deserialize_choice_as(deserializer)
@@ -301,7 +301,7 @@ impl Serialize for OtherCertificateFormat {
 impl Deserialize for OtherCertificateFormat {
     ghost shape = { sequence_shape ⟦<OtherCertificateFormatParts as DeserializeMembers>⟧.layout };
 
-    ghost known = { known_struct ⟦<OtherCertificateFormatParts as DeserializeMembers>⟧.known refl ⟦<Self as Struct>⟧.parts };
+    ghost facts = { struct_facts ⟦<OtherCertificateFormatParts as DeserializeMembers>⟧.facts refl ⟦<Self as Struct>⟧.parts };
 
     fn deserialize<R: ReadExt>(
         deserializer: &mut Deserializer<R>,
@@ -309,7 +309,7 @@ impl Deserialize for OtherCertificateFormat {
         deserialize_struct_as(deserializer)
     }
 
-    ghost tied = { Prim.assumption };
+    ghost proved = { Prim.assumption };
 }
 
 impl Begins for OtherCertificateFormat {
@@ -367,7 +367,7 @@ impl Serialize for IssuerAndSerialNumber {
 impl Deserialize for IssuerAndSerialNumber {
     ghost shape = { sequence_shape ⟦<IssuerAndSerialNumberParts as DeserializeMembers>⟧.layout };
 
-    ghost known = { known_struct ⟦<IssuerAndSerialNumberParts as DeserializeMembers>⟧.known refl ⟦<Self as Struct>⟧.parts };
+    ghost facts = { struct_facts ⟦<IssuerAndSerialNumberParts as DeserializeMembers>⟧.facts refl ⟦<Self as Struct>⟧.parts };
 
     fn deserialize<R: ReadExt>(
         deserializer: &mut Deserializer<R>,
@@ -375,7 +375,7 @@ impl Deserialize for IssuerAndSerialNumber {
         deserialize_struct_as(deserializer)
     }
 
-    ghost tied = { Prim.assumption };
+    ghost proved = { Prim.assumption };
 }
 
 impl Begins for IssuerAndSerialNumber {

@@ -2,7 +2,7 @@
 //!
 //! Types of CMS-AuthEnvelopedData-2007.
 ghost use Rattle.std.specs.Prelude.{refl};
-ghost use Rattle.picky_der_de.specs.KnownMembers.{known_struct, sequence_of, sequence_shape};
+ghost use Rattle.picky_der_de.specs.MembersFacts.{sequence_of, sequence_shape, struct_facts};
 ghost use Rattle.der_types.specs.Notation.{Notation};
 
 use crate::{
@@ -107,13 +107,13 @@ impl Serialize for AuthEnvelopedData {
 impl Deserialize for AuthEnvelopedData {
     ghost shape = { sequence_shape ⟦<AuthEnvelopedDataParts as DeserializeMembers>⟧.layout };
 
-    ghost known = { known_struct ⟦<AuthEnvelopedDataParts as DeserializeMembers>⟧.known refl ⟦<Self as Struct>⟧.parts };
+    ghost facts = { struct_facts ⟦<AuthEnvelopedDataParts as DeserializeMembers>⟧.facts refl ⟦<Self as Struct>⟧.parts };
 
     fn deserialize<R: ReadExt>(deserializer: &mut Deserializer<R>) -> Result<AuthEnvelopedData> {
         deserialize_struct_as(deserializer)
     }
 
-    ghost tied = { Prim.assumption };
+    ghost proved = { Prim.assumption };
 }
 
 impl Begins for AuthEnvelopedData {

@@ -4,8 +4,8 @@
 ghost use Rattle.std.specs.Prelude.{refl};
 ghost use Rattle.picky_der_core.specs.Shape.{Shape};
 ghost use Rattle.picky_der_de.specs.declared.alternatives.OneOf.TheVariants.{Other, This};
-ghost use Rattle.picky_der_de.specs.KnownChoices.{known_choice};
-ghost use Rattle.picky_der_de.specs.KnownMembers.{known_struct, sequence_of, sequence_shape};
+ghost use Rattle.picky_der_de.specs.ChoiceFacts.{choice_facts};
+ghost use Rattle.picky_der_de.specs.MembersFacts.{sequence_of, sequence_shape, struct_facts};
 ghost use Rattle.der_types.specs.Notation.{Notation};
 
 use crate::{
@@ -67,13 +67,13 @@ impl Serialize for ContentInfo {
 impl Deserialize for ContentInfo {
     ghost shape = { sequence_shape ⟦<ContentInfoParts as DeserializeMembers>⟧.layout };
 
-    ghost known = { known_struct ⟦<ContentInfoParts as DeserializeMembers>⟧.known refl ⟦<Self as Struct>⟧.parts };
+    ghost facts = { struct_facts ⟦<ContentInfoParts as DeserializeMembers>⟧.facts refl ⟦<Self as Struct>⟧.parts };
 
     fn deserialize<R: ReadExt>(deserializer: &mut Deserializer<R>) -> Result<ContentInfo> {
         deserialize_struct_as(deserializer)
     }
 
-    ghost tied = { Prim.assumption };
+    ghost proved = { Prim.assumption };
 }
 
 impl Begins for ContentInfo {
@@ -135,13 +135,13 @@ impl Serialize for Attribute {
 impl Deserialize for Attribute {
     ghost shape = { sequence_shape ⟦<AttributeParts as DeserializeMembers>⟧.layout };
 
-    ghost known = { known_struct ⟦<AttributeParts as DeserializeMembers>⟧.known refl ⟦<Self as Struct>⟧.parts };
+    ghost facts = { struct_facts ⟦<AttributeParts as DeserializeMembers>⟧.facts refl ⟦<Self as Struct>⟧.parts };
 
     fn deserialize<R: ReadExt>(deserializer: &mut Deserializer<R>) -> Result<Attribute> {
         deserialize_struct_as(deserializer)
     }
 
-    ghost tied = { Prim.assumption };
+    ghost proved = { Prim.assumption };
 }
 
 impl Begins for Attribute {
@@ -218,13 +218,13 @@ impl Serialize for DigestedData {
 impl Deserialize for DigestedData {
     ghost shape = { sequence_shape ⟦<DigestedDataParts as DeserializeMembers>⟧.layout };
 
-    ghost known = { known_struct ⟦<DigestedDataParts as DeserializeMembers>⟧.known refl ⟦<Self as Struct>⟧.parts };
+    ghost facts = { struct_facts ⟦<DigestedDataParts as DeserializeMembers>⟧.facts refl ⟦<Self as Struct>⟧.parts };
 
     fn deserialize<R: ReadExt>(deserializer: &mut Deserializer<R>) -> Result<DigestedData> {
         deserialize_struct_as(deserializer)
     }
 
-    ghost tied = { Prim.assumption };
+    ghost proved = { Prim.assumption };
 }
 
 impl Begins for DigestedData {
@@ -296,13 +296,13 @@ impl Serialize for EncryptedData {
 impl Deserialize for EncryptedData {
     ghost shape = { sequence_shape ⟦<EncryptedDataParts as DeserializeMembers>⟧.layout };
 
-    ghost known = { known_struct ⟦<EncryptedDataParts as DeserializeMembers>⟧.known refl ⟦<Self as Struct>⟧.parts };
+    ghost facts = { struct_facts ⟦<EncryptedDataParts as DeserializeMembers>⟧.facts refl ⟦<Self as Struct>⟧.parts };
 
     fn deserialize<R: ReadExt>(deserializer: &mut Deserializer<R>) -> Result<EncryptedData> {
         deserialize_struct_as(deserializer)
     }
 
-    ghost tied = { Prim.assumption };
+    ghost proved = { Prim.assumption };
 }
 
 impl Begins for EncryptedData {
@@ -423,13 +423,13 @@ impl Serialize for AuthenticatedData {
 impl Deserialize for AuthenticatedData {
     ghost shape = { sequence_shape ⟦<AuthenticatedDataParts as DeserializeMembers>⟧.layout };
 
-    ghost known = { known_struct ⟦<AuthenticatedDataParts as DeserializeMembers>⟧.known refl ⟦<Self as Struct>⟧.parts };
+    ghost facts = { struct_facts ⟦<AuthenticatedDataParts as DeserializeMembers>⟧.facts refl ⟦<Self as Struct>⟧.parts };
 
     fn deserialize<R: ReadExt>(deserializer: &mut Deserializer<R>) -> Result<AuthenticatedData> {
         deserialize_struct_as(deserializer)
     }
 
-    ghost tied = { Prim.assumption };
+    ghost proved = { Prim.assumption };
 }
 
 impl Begins for AuthenticatedData {
@@ -525,10 +525,10 @@ impl Deserialize for Time {
 
     ghost shape = { Shape.choice ⟦<TimeParts as Alternatives>⟧.shapes };
 
-    ghost known = { known_choice ⟦<TimeParts as Alternatives>⟧.known refl ⟦<Self as Choice>⟧.parts ⟦<Self as PartialEq>⟧.eq
+    ghost facts = { choice_facts ⟦<TimeParts as Alternatives>⟧.facts refl ⟦<Self as Choice>⟧.parts ⟦<Self as PartialEq>⟧.eq
         (elim [ variants.UtcTime _ ↦ elim [ variants.UtcTime _ ↦ λ h. h | _ ↦ λ h. h ] | _ ↦ elim [ variants.UtcTime _ ↦ λ h. h | _ ↦ λ h. h ] ]) };
 
-    ghost tied = { Prim.assumption };
+    ghost proved = { Prim.assumption };
 
     fn deserialize<R: ReadExt>(deserializer: &mut Deserializer<R>) -> Result<Time> {
         deserialize_choice_as(deserializer)

@@ -2,7 +2,7 @@
 //!
 //! Types of CryptographicMessageSyntax2004.
 ghost use Rattle.std.specs.Prelude.{refl};
-ghost use Rattle.picky_der_de.specs.KnownMembers.{known_struct, sequence_of, sequence_shape};
+ghost use Rattle.picky_der_de.specs.MembersFacts.{sequence_of, sequence_shape, struct_facts};
 ghost use Rattle.der_types.specs.Notation.{Notation};
 
 use crate::{
@@ -95,13 +95,13 @@ impl Serialize for EnvelopedData {
 impl Deserialize for EnvelopedData {
     ghost shape = { sequence_shape ⟦<EnvelopedDataParts as DeserializeMembers>⟧.layout };
 
-    ghost known = { known_struct ⟦<EnvelopedDataParts as DeserializeMembers>⟧.known refl ⟦<Self as Struct>⟧.parts };
+    ghost facts = { struct_facts ⟦<EnvelopedDataParts as DeserializeMembers>⟧.facts refl ⟦<Self as Struct>⟧.parts };
 
     fn deserialize<R: ReadExt>(deserializer: &mut Deserializer<R>) -> Result<EnvelopedData> {
         deserialize_struct_as(deserializer)
     }
 
-    ghost tied = { Prim.assumption };
+    ghost proved = { Prim.assumption };
 }
 
 impl Begins for EnvelopedData {
@@ -157,13 +157,13 @@ impl Serialize for OriginatorInfo {
 impl Deserialize for OriginatorInfo {
     ghost shape = { sequence_shape ⟦<OriginatorInfoParts as DeserializeMembers>⟧.layout };
 
-    ghost known = { known_struct ⟦<OriginatorInfoParts as DeserializeMembers>⟧.known refl ⟦<Self as Struct>⟧.parts };
+    ghost facts = { struct_facts ⟦<OriginatorInfoParts as DeserializeMembers>⟧.facts refl ⟦<Self as Struct>⟧.parts };
 
     fn deserialize<R: ReadExt>(deserializer: &mut Deserializer<R>) -> Result<OriginatorInfo> {
         deserialize_struct_as(deserializer)
     }
 
-    ghost tied = { Prim.assumption };
+    ghost proved = { Prim.assumption };
 }
 
 impl Begins for OriginatorInfo {
@@ -232,13 +232,13 @@ impl Serialize for EncryptedContentInfo {
 impl Deserialize for EncryptedContentInfo {
     ghost shape = { sequence_shape ⟦<EncryptedContentInfoParts as DeserializeMembers>⟧.layout };
 
-    ghost known = { known_struct ⟦<EncryptedContentInfoParts as DeserializeMembers>⟧.known refl ⟦<Self as Struct>⟧.parts };
+    ghost facts = { struct_facts ⟦<EncryptedContentInfoParts as DeserializeMembers>⟧.facts refl ⟦<Self as Struct>⟧.parts };
 
     fn deserialize<R: ReadExt>(deserializer: &mut Deserializer<R>) -> Result<EncryptedContentInfo> {
         deserialize_struct_as(deserializer)
     }
 
-    ghost tied = { Prim.assumption };
+    ghost proved = { Prim.assumption };
 }
 
 impl Begins for EncryptedContentInfo {

@@ -4,8 +4,8 @@
 ghost use Rattle.std.specs.Prelude.{refl};
 ghost use Rattle.picky_der_core.specs.Shape.{Shape};
 ghost use Rattle.picky_der_de.specs.declared.alternatives.OneOf.TheVariants.{Other, This};
-ghost use Rattle.picky_der_de.specs.KnownChoices.{known_choice};
-ghost use Rattle.picky_der_de.specs.KnownMembers.{known_struct, sequence_of, sequence_shape};
+ghost use Rattle.picky_der_de.specs.ChoiceFacts.{choice_facts};
+ghost use Rattle.picky_der_de.specs.MembersFacts.{sequence_of, sequence_shape, struct_facts};
 ghost use Rattle.der_types.specs.Notation.{Notation};
 
 use crate::{
@@ -101,7 +101,7 @@ impl Serialize for KeyAgreeRecipientInfo {
 impl Deserialize for KeyAgreeRecipientInfo {
     ghost shape = { sequence_shape ⟦<KeyAgreeRecipientInfoParts as DeserializeMembers>⟧.layout };
 
-    ghost known = { known_struct ⟦<KeyAgreeRecipientInfoParts as DeserializeMembers>⟧.known refl ⟦<Self as Struct>⟧.parts };
+    ghost facts = { struct_facts ⟦<KeyAgreeRecipientInfoParts as DeserializeMembers>⟧.facts refl ⟦<Self as Struct>⟧.parts };
 
     fn deserialize<R: ReadExt>(
         deserializer: &mut Deserializer<R>,
@@ -109,7 +109,7 @@ impl Deserialize for KeyAgreeRecipientInfo {
         deserialize_struct_as(deserializer)
     }
 
-    ghost tied = { Prim.assumption };
+    ghost proved = { Prim.assumption };
 }
 
 impl Begins for KeyAgreeRecipientInfo {
@@ -196,10 +196,10 @@ impl Deserialize for OriginatorIdentifierOrKey {
 
     ghost shape = { Shape.choice ⟦<OriginatorIdentifierOrKeyParts as Alternatives>⟧.shapes };
 
-    ghost known = { known_choice ⟦<OriginatorIdentifierOrKeyParts as Alternatives>⟧.known refl ⟦<Self as Choice>⟧.parts ⟦<Self as PartialEq>⟧.eq
+    ghost facts = { choice_facts ⟦<OriginatorIdentifierOrKeyParts as Alternatives>⟧.facts refl ⟦<Self as Choice>⟧.parts ⟦<Self as PartialEq>⟧.eq
         (elim [ variants.IssuerAndSerialNumber _ ↦ elim [ variants.IssuerAndSerialNumber _ ↦ λ h. h | _ ↦ λ h. h ] | _ ↦ elim [ variants.IssuerAndSerialNumber _ ↦ λ h. h | _ ↦ λ h. h ] ]) };
 
-    ghost tied = { Prim.assumption };
+    ghost proved = { Prim.assumption };
 
     fn deserialize<R: ReadExt>(
         deserializer: &mut Deserializer<R>,
@@ -256,13 +256,13 @@ impl Serialize for OriginatorPublicKey {
 impl Deserialize for OriginatorPublicKey {
     ghost shape = { sequence_shape ⟦<OriginatorPublicKeyParts as DeserializeMembers>⟧.layout };
 
-    ghost known = { known_struct ⟦<OriginatorPublicKeyParts as DeserializeMembers>⟧.known refl ⟦<Self as Struct>⟧.parts };
+    ghost facts = { struct_facts ⟦<OriginatorPublicKeyParts as DeserializeMembers>⟧.facts refl ⟦<Self as Struct>⟧.parts };
 
     fn deserialize<R: ReadExt>(deserializer: &mut Deserializer<R>) -> Result<OriginatorPublicKey> {
         deserialize_struct_as(deserializer)
     }
 
-    ghost tied = { Prim.assumption };
+    ghost proved = { Prim.assumption };
 }
 
 impl Begins for OriginatorPublicKey {
@@ -317,7 +317,7 @@ impl Serialize for RecipientEncryptedKey {
 impl Deserialize for RecipientEncryptedKey {
     ghost shape = { sequence_shape ⟦<RecipientEncryptedKeyParts as DeserializeMembers>⟧.layout };
 
-    ghost known = { known_struct ⟦<RecipientEncryptedKeyParts as DeserializeMembers>⟧.known refl ⟦<Self as Struct>⟧.parts };
+    ghost facts = { struct_facts ⟦<RecipientEncryptedKeyParts as DeserializeMembers>⟧.facts refl ⟦<Self as Struct>⟧.parts };
 
     fn deserialize<R: ReadExt>(
         deserializer: &mut Deserializer<R>,
@@ -325,7 +325,7 @@ impl Deserialize for RecipientEncryptedKey {
         deserialize_struct_as(deserializer)
     }
 
-    ghost tied = { Prim.assumption };
+    ghost proved = { Prim.assumption };
 }
 
 impl Begins for RecipientEncryptedKey {
@@ -393,10 +393,10 @@ impl Deserialize for KeyAgreeRecipientIdentifier {
 
     ghost shape = { Shape.choice ⟦<KeyAgreeRecipientIdentifierParts as Alternatives>⟧.shapes };
 
-    ghost known = { known_choice ⟦<KeyAgreeRecipientIdentifierParts as Alternatives>⟧.known refl ⟦<Self as Choice>⟧.parts ⟦<Self as PartialEq>⟧.eq
+    ghost facts = { choice_facts ⟦<KeyAgreeRecipientIdentifierParts as Alternatives>⟧.facts refl ⟦<Self as Choice>⟧.parts ⟦<Self as PartialEq>⟧.eq
         (elim [ variants.IssuerAndSerialNumber _ ↦ elim [ variants.IssuerAndSerialNumber _ ↦ λ h. h | _ ↦ λ h. h ] | _ ↦ elim [ variants.IssuerAndSerialNumber _ ↦ λ h. h | _ ↦ λ h. h ] ]) };
 
-    ghost tied = { Prim.assumption };
+    ghost proved = { Prim.assumption };
 
     fn deserialize<R: ReadExt>(
         deserializer: &mut Deserializer<R>,
@@ -467,7 +467,7 @@ impl Serialize for RecipientKeyIdentifier {
 impl Deserialize for RecipientKeyIdentifier {
     ghost shape = { sequence_shape ⟦<RecipientKeyIdentifierParts as DeserializeMembers>⟧.layout };
 
-    ghost known = { known_struct ⟦<RecipientKeyIdentifierParts as DeserializeMembers>⟧.known refl ⟦<Self as Struct>⟧.parts };
+    ghost facts = { struct_facts ⟦<RecipientKeyIdentifierParts as DeserializeMembers>⟧.facts refl ⟦<Self as Struct>⟧.parts };
 
     fn deserialize<R: ReadExt>(
         deserializer: &mut Deserializer<R>,
@@ -475,7 +475,7 @@ impl Deserialize for RecipientKeyIdentifier {
         deserialize_struct_as(deserializer)
     }
 
-    ghost tied = { Prim.assumption };
+    ghost proved = { Prim.assumption };
 }
 
 impl Begins for RecipientKeyIdentifier {

@@ -4,9 +4,9 @@
 ghost use Rattle.std.specs.Prelude.{refl};
 ghost use Rattle.picky_der_core.specs.Shape.{Shape};
 ghost use Rattle.picky_der_de.specs.declared.alternatives.OneOf.TheVariants.{Other, This};
-ghost use Rattle.picky_der_de.specs.declared.alternatives4.OneOf4.TheVariants.{First, Fourth, Later, Second, Third};
-ghost use Rattle.picky_der_de.specs.KnownChoices.{known_choice};
-ghost use Rattle.picky_der_de.specs.KnownMembers.{known_struct, sequence_of, sequence_shape};
+ghost use Rattle.picky_der_de.specs.declared.choice4.Choice4.TheVariants.{First, Fourth, Later, Second, Third};
+ghost use Rattle.picky_der_de.specs.ChoiceFacts.{choice_facts};
+ghost use Rattle.picky_der_de.specs.MembersFacts.{sequence_of, sequence_shape, struct_facts};
 ghost use Rattle.der_types.specs.Notation.{Notation};
 
 use crate::{
@@ -16,8 +16,8 @@ use crate::{
 use der_types::{
     GeneralizedTime, Notated, NotatedAlternatives, NotatedMembers, ObjectIdentifier, WithSize,
 };
+use picky_asn1_der::Choice4::{First, Fourth, Later, Second, Third};
 use picky_asn1_der::OneOf::{Other, This};
-use picky_asn1_der::OneOf4::{First, Fourth, Later, Second, Third};
 use picky_asn1_der::asn1::{
     Asn1SetOf, ByteBuf, ImplicitContextTag0, ImplicitList0, ImplicitList1, ImplicitList2,
     ImplicitList3, ImplicitList4, Tag,
@@ -26,8 +26,8 @@ use picky_asn1_der::de::{Begins, deserialize_choice_as};
 use picky_asn1_der::misc::{ReadExt, WriteExt};
 use picky_asn1_der::ser::{Optional, OptionalRef};
 use picky_asn1_der::{
-    Alternatives, Asn1RawDer, Choice, Deserialize, DeserializeMembers, Deserializer, List, NoneOf,
-    OneOf, OneOf4, Result, Serialize, SerializeMembers, Serializer, Struct, deserialize_struct_as,
+    Alternatives, Asn1RawDer, Choice, Choice4, Deserialize, DeserializeMembers, Deserializer, List,
+    NoneOf, OneOf, Result, Serialize, SerializeMembers, Serializer, Struct, deserialize_struct_as,
 };
 
 /// `RecipientInfos` of CryptographicMessageSyntax2004: `SET SIZE (1..MAX) OF RecipientInfo`.
@@ -48,7 +48,7 @@ pub enum RecipientInfo {
     Ori(ImplicitList4<OtherRecipientInfo>),
 }
 
-type RecipientInfoParts = OneOf4<
+type RecipientInfoParts = Choice4<
     KeyTransRecipientInfo,
     ImplicitList1<KeyAgreeRecipientInfo>,
     ImplicitList2<KekRecipientInfo>,
@@ -99,10 +99,10 @@ impl Deserialize for RecipientInfo {
 
     ghost shape = { Shape.choice ⟦<RecipientInfoParts as Alternatives>⟧.shapes };
 
-    ghost known = { known_choice ⟦<RecipientInfoParts as Alternatives>⟧.known refl ⟦<Self as Choice>⟧.parts ⟦<Self as PartialEq>⟧.eq
+    ghost facts = { choice_facts ⟦<RecipientInfoParts as Alternatives>⟧.facts refl ⟦<Self as Choice>⟧.parts ⟦<Self as PartialEq>⟧.eq
         (elim [ variants.Ktri _ ↦ elim [ variants.Ktri _ ↦ λ h. h | _ ↦ λ h. h ] | _ ↦ elim [ variants.Ktri _ ↦ λ h. h | _ ↦ λ h. h ] ]) };
 
-    ghost tied = { Prim.assumption };
+    ghost proved = { Prim.assumption };
 
     fn deserialize<R: ReadExt>(deserializer: &mut Deserializer<R>) -> Result<RecipientInfo> {
         deserialize_choice_as(deserializer)
@@ -179,7 +179,7 @@ impl Serialize for KeyTransRecipientInfo {
 impl Deserialize for KeyTransRecipientInfo {
     ghost shape = { sequence_shape ⟦<KeyTransRecipientInfoParts as DeserializeMembers>⟧.layout };
 
-    ghost known = { known_struct ⟦<KeyTransRecipientInfoParts as DeserializeMembers>⟧.known refl ⟦<Self as Struct>⟧.parts };
+    ghost facts = { struct_facts ⟦<KeyTransRecipientInfoParts as DeserializeMembers>⟧.facts refl ⟦<Self as Struct>⟧.parts };
 
     fn deserialize<R: ReadExt>(
         deserializer: &mut Deserializer<R>,
@@ -187,7 +187,7 @@ impl Deserialize for KeyTransRecipientInfo {
         deserialize_struct_as(deserializer)
     }
 
-    ghost tied = { Prim.assumption };
+    ghost proved = { Prim.assumption };
 }
 
 impl Begins for KeyTransRecipientInfo {
@@ -262,10 +262,10 @@ impl Deserialize for RecipientIdentifier {
 
     ghost shape = { Shape.choice ⟦<RecipientIdentifierParts as Alternatives>⟧.shapes };
 
-    ghost known = { known_choice ⟦<RecipientIdentifierParts as Alternatives>⟧.known refl ⟦<Self as Choice>⟧.parts ⟦<Self as PartialEq>⟧.eq
+    ghost facts = { choice_facts ⟦<RecipientIdentifierParts as Alternatives>⟧.facts refl ⟦<Self as Choice>⟧.parts ⟦<Self as PartialEq>⟧.eq
         (elim [ variants.IssuerAndSerialNumber _ ↦ elim [ variants.IssuerAndSerialNumber _ ↦ λ h. h | _ ↦ λ h. h ] | _ ↦ elim [ variants.IssuerAndSerialNumber _ ↦ λ h. h | _ ↦ λ h. h ] ]) };
 
-    ghost tied = { Prim.assumption };
+    ghost proved = { Prim.assumption };
 
     fn deserialize<R: ReadExt>(deserializer: &mut Deserializer<R>) -> Result<RecipientIdentifier> {
         deserialize_choice_as(deserializer)
@@ -342,13 +342,13 @@ impl Serialize for KekRecipientInfo {
 impl Deserialize for KekRecipientInfo {
     ghost shape = { sequence_shape ⟦<KekRecipientInfoParts as DeserializeMembers>⟧.layout };
 
-    ghost known = { known_struct ⟦<KekRecipientInfoParts as DeserializeMembers>⟧.known refl ⟦<Self as Struct>⟧.parts };
+    ghost facts = { struct_facts ⟦<KekRecipientInfoParts as DeserializeMembers>⟧.facts refl ⟦<Self as Struct>⟧.parts };
 
     fn deserialize<R: ReadExt>(deserializer: &mut Deserializer<R>) -> Result<KekRecipientInfo> {
         deserialize_struct_as(deserializer)
     }
 
-    ghost tied = { Prim.assumption };
+    ghost proved = { Prim.assumption };
 }
 
 impl Begins for KekRecipientInfo {
@@ -417,13 +417,13 @@ impl Serialize for KekIdentifier {
 impl Deserialize for KekIdentifier {
     ghost shape = { sequence_shape ⟦<KekIdentifierParts as DeserializeMembers>⟧.layout };
 
-    ghost known = { known_struct ⟦<KekIdentifierParts as DeserializeMembers>⟧.known refl ⟦<Self as Struct>⟧.parts };
+    ghost facts = { struct_facts ⟦<KekIdentifierParts as DeserializeMembers>⟧.facts refl ⟦<Self as Struct>⟧.parts };
 
     fn deserialize<R: ReadExt>(deserializer: &mut Deserializer<R>) -> Result<KekIdentifier> {
         deserialize_struct_as(deserializer)
     }
 
-    ghost tied = { Prim.assumption };
+    ghost proved = { Prim.assumption };
 }
 
 impl Begins for KekIdentifier {
@@ -509,7 +509,7 @@ impl Serialize for PasswordRecipientInfo {
 impl Deserialize for PasswordRecipientInfo {
     ghost shape = { sequence_shape ⟦<PasswordRecipientInfoParts as DeserializeMembers>⟧.layout };
 
-    ghost known = { known_struct ⟦<PasswordRecipientInfoParts as DeserializeMembers>⟧.known refl ⟦<Self as Struct>⟧.parts };
+    ghost facts = { struct_facts ⟦<PasswordRecipientInfoParts as DeserializeMembers>⟧.facts refl ⟦<Self as Struct>⟧.parts };
 
     fn deserialize<R: ReadExt>(
         deserializer: &mut Deserializer<R>,
@@ -517,7 +517,7 @@ impl Deserialize for PasswordRecipientInfo {
         deserialize_struct_as(deserializer)
     }
 
-    ghost tied = { Prim.assumption };
+    ghost proved = { Prim.assumption };
 }
 
 impl Begins for PasswordRecipientInfo {
@@ -572,13 +572,13 @@ impl Serialize for OtherRecipientInfo {
 impl Deserialize for OtherRecipientInfo {
     ghost shape = { sequence_shape ⟦<OtherRecipientInfoParts as DeserializeMembers>⟧.layout };
 
-    ghost known = { known_struct ⟦<OtherRecipientInfoParts as DeserializeMembers>⟧.known refl ⟦<Self as Struct>⟧.parts };
+    ghost facts = { struct_facts ⟦<OtherRecipientInfoParts as DeserializeMembers>⟧.facts refl ⟦<Self as Struct>⟧.parts };
 
     fn deserialize<R: ReadExt>(deserializer: &mut Deserializer<R>) -> Result<OtherRecipientInfo> {
         deserialize_struct_as(deserializer)
     }
 
-    ghost tied = { Prim.assumption };
+    ghost proved = { Prim.assumption };
 }
 
 impl Begins for OtherRecipientInfo {
@@ -633,13 +633,13 @@ impl Serialize for OtherKeyAttribute {
 impl Deserialize for OtherKeyAttribute {
     ghost shape = { sequence_shape ⟦<OtherKeyAttributeParts as DeserializeMembers>⟧.layout };
 
-    ghost known = { known_struct ⟦<OtherKeyAttributeParts as DeserializeMembers>⟧.known refl ⟦<Self as Struct>⟧.parts };
+    ghost facts = { struct_facts ⟦<OtherKeyAttributeParts as DeserializeMembers>⟧.facts refl ⟦<Self as Struct>⟧.parts };
 
     fn deserialize<R: ReadExt>(deserializer: &mut Deserializer<R>) -> Result<OtherKeyAttribute> {
         deserialize_struct_as(deserializer)
     }
 
-    ghost tied = { Prim.assumption };
+    ghost proved = { Prim.assumption };
 }
 
 impl Begins for OtherKeyAttribute {

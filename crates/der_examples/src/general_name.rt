@@ -2,15 +2,15 @@
 ghost use Rattle.std.specs.Prelude.{refl};
 ghost use Rattle.picky_der_core.specs.Shape.{Shape};
 ghost use Rattle.picky_der_de.specs.declared.alternatives.OneOf.TheVariants.{This};
-ghost use Rattle.picky_der_de.specs.declared.alternatives4.OneOf4.TheVariants.{First, Second, Third, Fourth, Later};
-ghost use Rattle.picky_der_de.specs.KnownChoices.{known_choice};
+ghost use Rattle.picky_der_de.specs.declared.choice4.Choice4.TheVariants.{First, Second, Third, Fourth, Later};
+ghost use Rattle.picky_der_de.specs.ChoiceFacts.{choice_facts};
 ghost use Rattle.der_examples.specs.declared.general_name.GeneralName.TheVariants.{OtherName, Rfc822Name, DnsName, X400Address};
 ghost use Rattle.der_examples.specs.declared.general_name.GeneralName.TheVariants.{DirectoryName};
 ghost use Rattle.der_examples.specs.declared.general_name.GeneralName.TheVariants.{EdiPartyName, UniformResourceIdentifier, IpAddress};
 ghost use Rattle.der_examples.specs.declared.general_name.GeneralName.TheVariants.{RegisteredId};
 
+use picky_asn1_der::Choice4::{First, Fourth, Later, Second, Third};
 use picky_asn1_der::OneOf::This;
-use picky_asn1_der::OneOf4::{First, Fourth, Later, Second, Third};
 use picky_asn1_der::asn1::{
     Asn1SetOf, ByteBuf, ExplicitContextTag4, Ia5StringAsn1, ImplicitContextTag1,
     ImplicitContextTag2, ImplicitContextTag6, ImplicitContextTag7, ImplicitContextTag8,
@@ -19,7 +19,7 @@ use picky_asn1_der::asn1::{
 use picky_asn1_der::de::{Begins, deserialize_choice_as};
 use picky_asn1_der::misc::{ReadExt, WriteExt};
 use picky_asn1_der::{
-    Alternatives, Asn1RawDer, Choice, Deserialize, Deserializer, NoneOf, OneOf, OneOf4, Result,
+    Alternatives, Asn1RawDer, Choice, Choice4, Deserialize, Deserializer, NoneOf, OneOf, Result,
     Serialize, Serializer,
 };
 
@@ -49,12 +49,12 @@ pub enum GeneralName {
     RegisteredId(ImplicitContextTag8<ObjectIdentifierAsn1>),
 }
 
-type Parts = OneOf4<
+type Parts = Choice4<
     TaggedBytes<0xA0>,
     ImplicitContextTag1<Ia5StringAsn1>,
     ImplicitContextTag2<Ia5StringAsn1>,
     TaggedBytes<0xA3>,
-    OneOf4<
+    Choice4<
         ExplicitContextTag4<Name>,
         TaggedBytes<0xA5>,
         ImplicitContextTag6<Ia5StringAsn1>,
@@ -114,10 +114,10 @@ impl Serialize for GeneralName {
 impl Deserialize for GeneralName {
     ghost shape = { Shape.choice ⟦<Parts as Alternatives>⟧.shapes };
 
-    ghost known = { known_choice ⟦<Parts as Alternatives>⟧.known refl ⟦<Self as Choice>⟧.parts ⟦<Self as PartialEq>⟧.eq
+    ghost facts = { choice_facts ⟦<Parts as Alternatives>⟧.facts refl ⟦<Self as Choice>⟧.parts ⟦<Self as PartialEq>⟧.eq
         (elim [ OtherName _ ↦ elim [ OtherName _ ↦ λ h. h | _ ↦ λ h. h ] | _ ↦ elim [ OtherName _ ↦ λ h. h | _ ↦ λ h. h ] ]) };
 
-    ghost tied = { Prim.assumption };
+    ghost proved = { Prim.assumption };
 
     fn deserialize<R: ReadExt>(deserializer: &mut Deserializer<R>) -> Result<GeneralName> {
         deserialize_choice_as(deserializer)

@@ -1,16 +1,16 @@
 //! A choice of four, one of which is a list.
 ghost use Rattle.std.specs.Prelude.{refl};
 ghost use Rattle.picky_der_core.specs.Shape.{Shape};
-ghost use Rattle.picky_der_de.specs.declared.alternatives4.OneOf4.TheVariants.{First, Second, Third, Fourth};
-ghost use Rattle.picky_der_de.specs.KnownChoices.{known_choice};
+ghost use Rattle.picky_der_de.specs.declared.choice4.Choice4.TheVariants.{First, Second, Third, Fourth};
+ghost use Rattle.picky_der_de.specs.ChoiceFacts.{choice_facts};
 ghost use Rattle.der_examples.specs.declared.host.Host.TheVariants.{Email, Domain, Owner, Address};
 
-use picky_asn1_der::OneOf4::{First, Fourth, Second, Third};
+use picky_asn1_der::Choice4::{First, Fourth, Second, Third};
 use picky_asn1_der::asn1::{ByteBuf, Ia5StringAsn1, ImplicitContextTag2, Tag};
 use picky_asn1_der::de::{Begins, deserialize_choice_as};
 use picky_asn1_der::misc::{ReadExt, WriteExt};
 use picky_asn1_der::{
-    Alternatives, Choice, Deserialize, Deserializer, NoneOf, OneOf4, Result, Serialize, Serializer,
+    Alternatives, Choice, Choice4, Deserialize, Deserializer, NoneOf, Result, Serialize, Serializer,
 };
 
 /// The name of a host, in one of four forms.
@@ -26,7 +26,7 @@ pub enum Host {
     Address(ByteBuf),
 }
 
-type Parts = OneOf4<String, ImplicitContextTag2<Ia5StringAsn1>, Vec<ByteBuf>, ByteBuf, NoneOf>;
+type Parts = Choice4<String, ImplicitContextTag2<Ia5StringAsn1>, Vec<ByteBuf>, ByteBuf, NoneOf>;
 
 impl Choice for Host {
     type Alternatives = Parts;
@@ -59,10 +59,10 @@ impl Serialize for Host {
 impl Deserialize for Host {
     ghost shape = { Shape.choice ⟦<Parts as Alternatives>⟧.shapes };
 
-    ghost known = { known_choice ⟦<Parts as Alternatives>⟧.known refl ⟦<Self as Choice>⟧.parts ⟦<Self as PartialEq>⟧.eq
+    ghost facts = { choice_facts ⟦<Parts as Alternatives>⟧.facts refl ⟦<Self as Choice>⟧.parts ⟦<Self as PartialEq>⟧.eq
         (elim [ Email _ ↦ elim [ Email _ ↦ λ h. h | _ ↦ λ h. h ] | _ ↦ elim [ Email _ ↦ λ h. h | _ ↦ λ h. h ] ]) };
 
-    ghost tied = { Prim.assumption };
+    ghost proved = { Prim.assumption };
 
     fn deserialize<R: ReadExt>(deserializer: &mut Deserializer<R>) -> Result<Host> {
         deserialize_choice_as(deserializer)

@@ -2,7 +2,7 @@
 ghost use Rattle.std.specs.Prelude.{refl};
 ghost use Rattle.picky_der_core.specs.Tree.{ListKind};
 ghost use Rattle.picky_der_core.specs.Shape.{Shape};
-ghost use Rattle.picky_der_de.specs.KnownMembers.{known_struct, sequence_of};
+ghost use Rattle.picky_der_de.specs.MembersFacts.{struct_facts, sequence_of};
 
 use picky_asn1_der::misc::{ReadExt, WriteExt};
 use picky_asn1_der::{
@@ -34,9 +34,9 @@ impl Serialize for Interval {
 impl Deserialize for Interval {
     ghost shape = { Shape.fields ListKind.sequence ⟦<Members as DeserializeMembers>⟧.layout };
 
-    ghost known = { known_struct ⟦<Members as DeserializeMembers>⟧.known refl (λ it. (it.first, it.last, tt)) };
+    ghost facts = { struct_facts ⟦<Members as DeserializeMembers>⟧.facts refl (λ it. (it.first, it.last, tt)) };
 
-    ghost tied = { Prim.assumption };
+    ghost proved = { Prim.assumption };
 
     fn deserialize<R: ReadExt>(deserializer: &mut Deserializer<R>) -> Result<Interval> {
         let mut members = deserializer.deserialize_seq()?;

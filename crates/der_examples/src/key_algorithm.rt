@@ -3,7 +3,7 @@ ghost use Rattle.std.proofs.Common.{rules};
 ghost use Rattle.std.specs.Prelude.{◌≡◌, ◌↔◌, IsTrue, MatchOption};
 ghost use Rattle.std.specs.Cmp.Rules.{comparing};
 ghost use Rattle.std.specs.Ordering.{eq_of_both, on};
-ghost use Rattle.picky_der_de.specs.Known.{known_as};
+ghost use Rattle.picky_der_de.specs.Facts.{facts_as};
 ghost use Rattle.der_types.specs.declared.names.TheConstants.{RSA_ENCRYPTION, EC_PUBLIC_KEY};
 ghost use Rattle.der_examples.specs.KeyAlgorithm.{element_of, is_null, is_curve};
 
@@ -11,7 +11,7 @@ use der_types::{Encoded, ObjectIdentifier, names};
 use der_x509::AlgorithmIdentifier;
 use picky_asn1_der::misc::{ReadExt, WriteExt};
 use picky_asn1_der::{
-    Asn1DerError, Asn1RawDer, Deserialize, Deserializer, Result, Serialize, Serializer, TryAlike,
+    Asn1DerError, Asn1RawDer, Deserialize, Deserializer, Result, Serialize, Serializer, TryVia,
     try_deserialize_as,
 };
 
@@ -70,7 +70,7 @@ impl KeyAlgorithm {
     }
 }
 
-impl TryAlike for KeyAlgorithm {
+impl TryVia for KeyAlgorithm {
     type As = AlgorithmIdentifier;
 
     ghost parts = { λ it. record { algorithm = it.identifier; parameters = element_of it.parameters } };
@@ -111,7 +111,7 @@ impl PartialEq for KeyAlgorithm {
 }
 
 impl Serialize for KeyAlgorithm {
-    ghost meaning = { λ it. ⟦<AlgorithmIdentifier as Serialize>⟧.meaning (⟦<KeyAlgorithm as TryAlike>⟧.parts it) };
+    ghost meaning = { λ it. ⟦<AlgorithmIdentifier as Serialize>⟧.meaning (⟦<KeyAlgorithm as TryVia>⟧.parts it) };
 
     fn serialize<W: WriteExt>(&self, serializer: &mut Serializer<W>) -> Result<usize> {
         match self.parameters.element() {
@@ -124,9 +124,9 @@ impl Serialize for KeyAlgorithm {
 impl Deserialize for KeyAlgorithm {
     ghost shape = { ⟦<AlgorithmIdentifier as Deserialize>⟧.shape };
 
-    ghost known = { known_as ⟦<AlgorithmIdentifier as Deserialize>⟧.known ⟦<KeyAlgorithm as TryAlike>⟧.parts };
+    ghost facts = { facts_as ⟦<AlgorithmIdentifier as Deserialize>⟧.facts ⟦<KeyAlgorithm as TryVia>⟧.parts };
 
-    ghost tied = { Prim.assumption };
+    ghost proved = { Prim.assumption };
 
     fn deserialize<R: ReadExt>(deserializer: &mut Deserializer<R>) -> Result<KeyAlgorithm> {
         try_deserialize_as(deserializer)

@@ -1,6 +1,6 @@
 //! A struct with a field of any type, and one that may be absent.
 ghost use Rattle.std.specs.Prelude.{refl};
-ghost use Rattle.picky_der_de.specs.KnownMembers.{known_struct, sequence_of, sequence_shape};
+ghost use Rattle.picky_der_de.specs.MembersFacts.{struct_facts, sequence_of, sequence_shape};
 
 use picky_asn1_der::asn1::ExplicitContextTag0;
 use picky_asn1_der::misc::{ReadExt, WriteExt};
@@ -47,11 +47,11 @@ impl<T: Serialize> Serialize for Noted<T> {
 impl<T: Deserialize> Deserialize for Noted<T> {
     ghost shape = { sequence_shape ⟦<Members<T> as DeserializeMembers>⟧.layout };
 
-    ghost known = { known_struct ⟦<Members<T> as DeserializeMembers>⟧.known refl ⟦<Self as Struct>⟧.parts };
+    ghost facts = { struct_facts ⟦<Members<T> as DeserializeMembers>⟧.facts refl ⟦<Self as Struct>⟧.parts };
 
     fn deserialize<R: ReadExt>(deserializer: &mut Deserializer<R>) -> Result<Noted<T>> {
         deserialize_struct_as(deserializer)
     }
 
-    ghost tied = { Prim.assumption };
+    ghost proved = { Prim.assumption };
 }

@@ -2,7 +2,7 @@
 ghost use Rattle.std.specs.Prelude.{refl};
 ghost use Rattle.picky_der_core.specs.Shape.{Shape};
 ghost use Rattle.picky_der_de.specs.declared.alternatives.OneOf.TheVariants.{This, Other};
-ghost use Rattle.picky_der_de.specs.KnownChoices.{known_choice};
+ghost use Rattle.picky_der_de.specs.ChoiceFacts.{choice_facts};
 ghost use Rattle.der_examples.specs.declared.number_or_flag.NumberOrFlag.TheVariants.{Number, Flag};
 
 use picky_asn1_der::OneOf::{Other, This};
@@ -51,10 +51,10 @@ impl Serialize for NumberOrFlag {
 impl Deserialize for NumberOrFlag {
     ghost shape = { Shape.choice ⟦<Parts as Alternatives>⟧.shapes };
 
-    ghost known = { known_choice ⟦<Parts as Alternatives>⟧.known refl ⟦<Self as Choice>⟧.parts ⟦<Self as PartialEq>⟧.eq
+    ghost facts = { choice_facts ⟦<Parts as Alternatives>⟧.facts refl ⟦<Self as Choice>⟧.parts ⟦<Self as PartialEq>⟧.eq
         (elim [ Number _ ↦ elim [ Number _ ↦ λ h. h | _ ↦ λ h. h ] | _ ↦ elim [ Number _ ↦ λ h. h | _ ↦ λ h. h ] ]) };
 
-    ghost tied = { Prim.assumption };
+    ghost proved = { Prim.assumption };
 
     fn deserialize<R: ReadExt>(deserializer: &mut Deserializer<R>) -> Result<NumberOrFlag> {
         deserialize_choice_as(deserializer)

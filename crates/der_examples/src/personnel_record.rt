@@ -1,11 +1,11 @@
 //! A record of personnel, the example of X.690's annex A. It has sets of different members, and application tags instead of the types' own
 //! tags.
 ghost use Rattle.std.specs.Prelude.{refl};
-ghost use Rattle.picky_der_de.specs.KnownMembers.{known_struct, sequence_of, sequence_shape};
+ghost use Rattle.picky_der_de.specs.MembersFacts.{struct_facts, sequence_of, sequence_shape};
 
-use der_types::{Asn1Set, Integer, RetaggedPrimitive, RetaggedSet, TagOrdered, VisibleString};
+use der_types::{Asn1Set, ImplicitPrimitive, ImplicitSet, Integer, TagOrdered, VisibleString};
 use picky_asn1_der::asn1::{
-    ExplicitContextTag0, ExplicitContextTag1, ExplicitContextTag2, ImplicitList3, Retagged,
+    ExplicitContextTag0, ExplicitContextTag1, ExplicitContextTag2, ImplicitList, ImplicitList3,
 };
 use picky_asn1_der::misc::{ReadExt, WriteExt};
 use picky_asn1_der::ser::{Optional, OptionalRef};
@@ -26,13 +26,13 @@ pub struct PersonName {
 }
 
 /// A name under the tag `[APPLICATION 1] IMPLICIT`.
-pub type TaggedName = Retagged<PersonName, 0x61>;
+pub type TaggedName = ImplicitList<PersonName, 0x61>;
 
 /// The number of an employee, `[APPLICATION 2] IMPLICIT INTEGER`.
-pub type EmployeeNumber = RetaggedPrimitive<Integer, 0x42>;
+pub type EmployeeNumber = ImplicitPrimitive<Integer, 0x42>;
 
 /// A date as `19710917`, `[APPLICATION 3] IMPLICIT VisibleString`.
-pub type RecordDate = RetaggedPrimitive<VisibleString, 0x43>;
+pub type RecordDate = ImplicitPrimitive<VisibleString, 0x43>;
 
 /// Information about a child, as the members of a SET in the order of their tags.
 #[derive(Debug, Drop, PartialEq, Eq)]
@@ -61,7 +61,7 @@ pub struct PersonnelMembers {
 }
 
 /// The record of an employee, `[APPLICATION 0] IMPLICIT SET`.
-pub type PersonnelRecord = RetaggedSet<PersonnelMembers, 0x60>;
+pub type PersonnelRecord = ImplicitSet<PersonnelMembers, 0x60>;
 
 type NameMembers = (VisibleString, VisibleString, VisibleString, ());
 
@@ -91,13 +91,13 @@ impl Serialize for PersonName {
 impl Deserialize for PersonName {
     ghost shape = { sequence_shape ⟦<NameMembers as DeserializeMembers>⟧.layout };
 
-    ghost known = { known_struct ⟦<NameMembers as DeserializeMembers>⟧.known refl ⟦<Self as Struct>⟧.parts };
+    ghost facts = { struct_facts ⟦<NameMembers as DeserializeMembers>⟧.facts refl ⟦<Self as Struct>⟧.parts };
 
     fn deserialize<R: ReadExt>(deserializer: &mut Deserializer<R>) -> Result<PersonName> {
         deserialize_struct_as(deserializer)
     }
 
-    ghost tied = { Prim.assumption };
+    ghost proved = { Prim.assumption };
 }
 
 impl List for PersonName {
@@ -131,13 +131,13 @@ impl Serialize for ChildInformation {
 impl Deserialize for ChildInformation {
     ghost shape = { sequence_shape ⟦<ChildMembers as DeserializeMembers>⟧.layout };
 
-    ghost known = { known_struct ⟦<ChildMembers as DeserializeMembers>⟧.known refl ⟦<Self as Struct>⟧.parts };
+    ghost facts = { struct_facts ⟦<ChildMembers as DeserializeMembers>⟧.facts refl ⟦<Self as Struct>⟧.parts };
 
     fn deserialize<R: ReadExt>(deserializer: &mut Deserializer<R>) -> Result<ChildInformation> {
         deserialize_struct_as(deserializer)
     }
 
-    ghost tied = { Prim.assumption };
+    ghost proved = { Prim.assumption };
 }
 
 impl List for ChildInformation {
@@ -204,13 +204,13 @@ impl Serialize for PersonnelMembers {
 impl Deserialize for PersonnelMembers {
     ghost shape = { sequence_shape ⟦<Members as DeserializeMembers>⟧.layout };
 
-    ghost known = { known_struct ⟦<Members as DeserializeMembers>⟧.known refl ⟦<Self as Struct>⟧.parts };
+    ghost facts = { struct_facts ⟦<Members as DeserializeMembers>⟧.facts refl ⟦<Self as Struct>⟧.parts };
 
     fn deserialize<R: ReadExt>(deserializer: &mut Deserializer<R>) -> Result<PersonnelMembers> {
         deserialize_struct_as(deserializer)
     }
 
-    ghost tied = { Prim.assumption };
+    ghost proved = { Prim.assumption };
 }
 
 impl List for PersonnelMembers {

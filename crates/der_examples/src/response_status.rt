@@ -1,7 +1,7 @@
 //! An ENUMERATED whose values have names.
 ghost use Rattle.std.proofs.Common.{lit≤};
 ghost use Rattle.std.specs.Prelude.{◌≡◌, [], ◌∷◌, refl};
-ghost use Rattle.der_types.specs.KnownContents.{contents_of, contents_shape, known_contents};
+ghost use Rattle.der_types.specs.ContentsFacts.{contents_of, contents_shape, contents_facts};
 ghost use Rattle.der_examples.specs.declared.response_status.ResponseStatus.TheVariants as status;
 ghost use Rattle.der_examples.specs.ResponseStatus.{status_number, is_status, same_status};
 
@@ -11,7 +11,7 @@ use picky_asn1_der::de::Begins;
 use picky_asn1_der::misc::{ReadExt, WriteExt};
 use picky_asn1_der::{Deserialize, Deserializer, Result, Serialize, Serializer};
 
-/// The outcome of a request for the status of a certificate, as an ENUMERATED (RFC 6960, 4.2.1). Every other content is rejected with
+/// The outcome of a request for the status of a certificate, as an ENUMERATED (RFC 6960, 4.2.1). Every other content is refused with
 /// `InvalidData`.
 #[derive(Debug, Clone, Copy, PartialEq, Eq)]
 pub enum ResponseStatus {
@@ -103,9 +103,9 @@ impl Serialize for ResponseStatus {
 impl Deserialize for ResponseStatus {
     ghost shape = { contents_shape 0x0A };
 
-    ghost known = { known_contents 0x0A (λ it. status_number it ∷ []) ⟦<Self as PartialEq>⟧.eq ⟦<Self as Contents>⟧.same };
+    ghost facts = { contents_facts 0x0A (λ it. status_number it ∷ []) ⟦<Self as PartialEq>⟧.eq ⟦<Self as Contents>⟧.same };
 
-    ghost tied = { Prim.assumption };
+    ghost proved = { Prim.assumption };
 
     fn deserialize<R: ReadExt>(deserializer: &mut Deserializer<R>) -> Result<ResponseStatus> {
         deserialize_contents_as(deserializer)

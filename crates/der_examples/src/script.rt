@@ -1,24 +1,24 @@
 //! A choice of twelve, a struct with that choice as a field, and a list of these structs.
 ghost use Rattle.std.specs.Prelude.{refl};
 ghost use Rattle.picky_der_core.specs.Shape.{Shape};
-ghost use Rattle.picky_der_de.specs.declared.alternatives4.OneOf4.TheVariants.{First, Second, Third, Fourth, Later};
-ghost use Rattle.picky_der_de.specs.KnownChoices.{known_choice};
-ghost use Rattle.picky_der_de.specs.KnownMembers.{known_struct, sequence_of, sequence_shape};
+ghost use Rattle.picky_der_de.specs.declared.choice4.Choice4.TheVariants.{First, Second, Third, Fourth, Later};
+ghost use Rattle.picky_der_de.specs.ChoiceFacts.{choice_facts};
+ghost use Rattle.picky_der_de.specs.MembersFacts.{struct_facts, sequence_of, sequence_shape};
 ghost use Rattle.der_examples.specs.declared.script.Command.TheVariants.{Move, Wait, Follow, Lift, Say, Adjust, Stop, Load};
 ghost use Rattle.der_examples.specs.declared.script.Command.TheVariants.{Speeds, Repeat, Mark, Forget};
 
 use crate::{Marker, Point, Setting};
-use picky_asn1_der::OneOf4::{First, Fourth, Later, Second, Third};
+use picky_asn1_der::Choice4::{First, Fourth, Later, Second, Third};
 use picky_asn1_der::asn1::{
     Asn1SetOf, ByteBuf, ExplicitContextTag0, ExplicitContextTag2, ExplicitContextTag5,
     ExplicitContextTag10, ExplicitContextTag11, ImplicitContextTag1, ImplicitContextTag3,
-    ImplicitContextTag4, ImplicitContextTag6, ImplicitContextTag7, ImplicitContextTag9, Retagged,
-    Tag,
+    ImplicitContextTag4, ImplicitContextTag6, ImplicitContextTag7, ImplicitContextTag9,
+    ImplicitList, Tag,
 };
 use picky_asn1_der::de::{Begins, deserialize_choice_as};
 use picky_asn1_der::misc::{ReadExt, WriteExt};
 use picky_asn1_der::{
-    Alternatives, Choice, Deserialize, DeserializeMembers, Deserializer, NoneOf, OneOf4, Result,
+    Alternatives, Choice, Choice4, Deserialize, DeserializeMembers, Deserializer, NoneOf, Result,
     Serialize, SerializeMembers, Serializer, Struct, deserialize_struct_as,
 };
 
@@ -42,7 +42,7 @@ pub enum Command {
     /// `[7] IMPLICIT OCTET STRING`: load a font.
     Load(ImplicitContextTag7<ByteBuf>),
     /// `[8] IMPLICIT SEQUENCE OF INTEGER`: the speeds from now on.
-    Speeds(Retagged<Vec<u16>, 0xA8>),
+    Speeds(ImplicitList<Vec<u16>, 0xA8>),
     /// `[9] IMPLICIT INTEGER`: repeat the last step this many times.
     Repeat(ImplicitContextTag9<u64>),
     /// `[10] EXPLICIT`: mark a point.
@@ -51,18 +51,18 @@ pub enum Command {
     Forget(ExplicitContextTag11<Asn1SetOf<ByteBuf>>),
 }
 
-type Parts = OneOf4<
+type Parts = Choice4<
     ExplicitContextTag0<Point>,
     ImplicitContextTag1<u32>,
     ExplicitContextTag2<Vec<Point>>,
     ImplicitContextTag3<bool>,
-    OneOf4<
+    Choice4<
         ImplicitContextTag4<String>,
         ExplicitContextTag5<Setting>,
         ImplicitContextTag6<()>,
         ImplicitContextTag7<ByteBuf>,
-        OneOf4<
-            Retagged<Vec<u16>, 0xA8>,
+        Choice4<
+            ImplicitList<Vec<u16>, 0xA8>,
             ImplicitContextTag9<u64>,
             ExplicitContextTag10<Marker>,
             ExplicitContextTag11<Asn1SetOf<ByteBuf>>,
@@ -131,10 +131,10 @@ impl Serialize for Command {
 impl Deserialize for Command {
     ghost shape = { Shape.choice ⟦<Parts as Alternatives>⟧.shapes };
 
-    ghost known = { known_choice ⟦<Parts as Alternatives>⟧.known refl ⟦<Self as Choice>⟧.parts ⟦<Self as PartialEq>⟧.eq
+    ghost facts = { choice_facts ⟦<Parts as Alternatives>⟧.facts refl ⟦<Self as Choice>⟧.parts ⟦<Self as PartialEq>⟧.eq
         (elim [ Move _ ↦ elim [ Move _ ↦ λ h. h | _ ↦ λ h. h ] | _ ↦ elim [ Move _ ↦ λ h. h | _ ↦ λ h. h ] ]) };
 
-    ghost tied = { Prim.assumption };
+    ghost proved = { Prim.assumption };
 
     fn deserialize<R: ReadExt>(deserializer: &mut Deserializer<R>) -> Result<Command> {
         deserialize_choice_as(deserializer)
@@ -183,11 +183,11 @@ impl Serialize for Step {
 impl Deserialize for Step {
     ghost shape = { sequence_shape ⟦<Members as DeserializeMembers>⟧.layout };
 
-    ghost known = { known_struct ⟦<Members as DeserializeMembers>⟧.known refl ⟦<Self as Struct>⟧.parts };
+    ghost facts = { struct_facts ⟦<Members as DeserializeMembers>⟧.facts refl ⟦<Self as Struct>⟧.parts };
 
     fn deserialize<R: ReadExt>(deserializer: &mut Deserializer<R>) -> Result<Step> {
         deserialize_struct_as(deserializer)
     }
 
-    ghost tied = { Prim.assumption };
+    ghost proved = { Prim.assumption };
 }

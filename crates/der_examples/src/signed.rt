@@ -1,6 +1,6 @@
 //! A signed value of any type, and a struct with three of these.
 ghost use Rattle.std.specs.Prelude.{refl};
-ghost use Rattle.picky_der_de.specs.KnownMembers.{known_struct, sequence_of, sequence_shape};
+ghost use Rattle.picky_der_de.specs.MembersFacts.{struct_facts, sequence_of, sequence_shape};
 
 use crate::{Point, Script};
 use der_types::BitString;
@@ -52,13 +52,13 @@ impl<T: Serialize> Serialize for Signed<T> {
 impl<T: Deserialize> Deserialize for Signed<T> {
     ghost shape = { sequence_shape ⟦<Members<T> as DeserializeMembers>⟧.layout };
 
-    ghost known = { known_struct ⟦<Members<T> as DeserializeMembers>⟧.known refl ⟦<Self as Struct>⟧.parts };
+    ghost facts = { struct_facts ⟦<Members<T> as DeserializeMembers>⟧.facts refl ⟦<Self as Struct>⟧.parts };
 
     fn deserialize<R: ReadExt>(deserializer: &mut Deserializer<R>) -> Result<Signed<T>> {
         deserialize_struct_as(deserializer)
     }
 
-    ghost tied = { Prim.assumption };
+    ghost proved = { Prim.assumption };
 }
 
 /// Three signed values, as a SEQUENCE.
@@ -100,11 +100,11 @@ impl Serialize for Bundle {
 impl Deserialize for Bundle {
     ghost shape = { sequence_shape ⟦<BundleMembers as DeserializeMembers>⟧.layout };
 
-    ghost known = { known_struct ⟦<BundleMembers as DeserializeMembers>⟧.known refl ⟦<Self as Struct>⟧.parts };
+    ghost facts = { struct_facts ⟦<BundleMembers as DeserializeMembers>⟧.facts refl ⟦<Self as Struct>⟧.parts };
 
     fn deserialize<R: ReadExt>(deserializer: &mut Deserializer<R>) -> Result<Bundle> {
         deserialize_struct_as(deserializer)
     }
 
-    ghost tied = { Prim.assumption };
+    ghost proved = { Prim.assumption };
 }

@@ -17,9 +17,9 @@ pub fn number_and_text(alloc: Global, bytes: &[u8]) -> Result<(u8, String)>
     ensures number { IfOk result (λ pair. IsFront ⟦<u8 as Serialize>⟧.meaning
         ⟦<u8 as Deserialize>⟧.shape ⟦<u8 as PartialEq>⟧.eq bytes.now (length bytes.now) pair.0) }
     ensures text { IfOk result (λ pair.
-        let behind = drop (length (der (Tree.primitive (Primitive.unsigned pair.0)))) bytes.now in
+        let after = drop (length (der (Tree.primitive (Primitive.unsigned pair.0)))) bytes.now in
         IsFront ⟦<String as Serialize>⟧.meaning ⟦<String as Deserialize>⟧.shape
-        ⟦<String as PartialEq>⟧.eq behind (length behind) pair.1) }
+        ⟦<String as PartialEq>⟧.eq after (length after) pair.1) }
     ensures err { IfErr result (λ e. HasNoFront ⟦<u8 as Serialize>⟧.meaning
         ⟦<u8 as Deserialize>⟧.shape bytes.now (length bytes.now) e
         ⊎ ((number : ℕ) × IsFront ⟦<u8 as Serialize>⟧.meaning ⟦<u8 as Deserialize>⟧.shape

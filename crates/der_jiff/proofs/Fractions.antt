@@ -9,7 +9,7 @@ use Rattle.der_types.specs.CalendarLaws.{part_lt}
 use Rattle.der_types.specs.TimeContents.{is_digit, are_digits, is_fraction, fraction_of, is_ended, are_whole_seconds, is_generalized_time}
 use Rattle.der_types.specs.declared.date_time.DateTime.{DateTime}
 use Rattle.der_types.specs.DateTimes.{two_digits}
-use Rattle.der_types.specs.TimeValues.{month_to_second, behind_point, generalized_content}
+use Rattle.der_types.specs.TimeValues.{month_to_second, after_point, generalized_content}
 use Rattle.der_types.specs.GeneralizedTimes.{scaled}
 use Rattle.jiff_core.specs.declared.civil.datetime.DateTime.{DateTime as Civil}
 use Rattle.der_jiff.specs.JiffTimes.{fewest_digits, Shows, ShowsContent}
@@ -158,7 +158,7 @@ valid t (d ∷ ds) whole fraction =
     both (both (lt-ltb 14 (length bs) (omega (arith, long))) (same_seconds t (d ∷ ds) ∙ b.1)) (ended_so bs (omega (arith, long)) (point_of t d ds) (zed_of t d ds) (ap is_fraction (fraction_is t (d ∷ ds)) ∙ fraction))
 
 -- put together of the content without a fraction
-pub put_together : (t : DateTime) (ds : List ℕ) → take 14 (generalized_content t []) ++ behind_point ds ++ (0x5A ∷ []) ≡ generalized_content t ds
+pub put_together : (t : DateTime) (ds : List ℕ) → take 14 (generalized_content t []) ++ after_point ds ++ (0x5A ∷ []) ≡ generalized_content t ds
 unfolding generalized_content month_to_second
 put_together t ds = refl
 

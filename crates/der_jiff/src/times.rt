@@ -7,7 +7,7 @@ ghost use Rattle.std.specs.Prelude.{◌≡◌, ◌↔◌, ◌⊎◌, ◌<◌, �
 ghost use Rattle.jiff.specs.Words.{IsRange, IsTimestampNanos};
 ghost use Rattle.der_types.specs.GeneralizedTimes.{scaled};
 ghost use Rattle.der_types.specs.TimeContents.{are_digits, fraction_of, is_generalized_time};
-ghost use Rattle.der_types.specs.TimeValues.{behind_point, generalized_content};
+ghost use Rattle.der_types.specs.TimeValues.{after_point, generalized_content};
 ghost use Rattle.der_jiff.specs.JiffTimes.{fewest_digits, Shows, ShowsContent, unix_nanoseconds};
 
 use der_types::{Contents, DateTime, GeneralizedTime, UtcTime};
@@ -152,7 +152,7 @@ fn push_digits(content: &mut Vec<u8>, places: u32, number: u32) -> Result<(), As
 fn push_fraction(content: &mut Vec<u8>, nanoseconds: u32) -> Result<(), Asn1DerError>
     requires { nanoseconds < 1_000_000_000 }
     ensures ok { OnOk result
-        (content.new.items ≡ content.old.items ++ behind_point (fewest_digits 9 nanoseconds)) }
+        (content.new.items ≡ content.old.items ++ after_point (fewest_digits 9 nanoseconds)) }
     ensures err { IfErr result (λ e. e ≡ Asn1DerError.OutOfMemory) }
 {
     if nanoseconds == 0 {

@@ -2,7 +2,7 @@
 -- The types as terms. Above each is its name in its module, and above each member the member's text.
 use Rattle.der_types.specs.ContentForms.{BIT-STRING, GeneralString, GeneralizedTime}
 use Rattle.der_types.specs.Notation.{Notation, OCTET-STRING, end, optional, required}
-use Rattle.der_types.specs.NotationForms.{APPLICATION, CONTEXT, EXPLICIT, INTEGER-from-minus-to, INTEGER-from-to, MAX, Mode, SEQUENCE, SEQUENCE-OF, SIZE, instead, ◌⨾◌}
+use Rattle.der_types.specs.NotationForms.{APPLICATION, CONTEXT, EXPLICIT, INTEGER-from-minus-to, INTEGER-from-to, MAX, Mode, SEQUENCE, SEQUENCE-OF, SIZE, wider, ◌⨾◌}
 
 -- KerberosV5Spec2 DEFINITIONS EXPLICIT TAGS
 abbrev TAGS : Mode
@@ -45,7 +45,7 @@ Checksum = SEQUENCE (
 
 -- KerberosString of KerberosV5Spec2: GeneralString (IA5String)
 abbrev pub KerberosString : Notation
-KerberosString = instead GeneralString
+KerberosString = wider GeneralString
 
 -- PrincipalName of KerberosV5Spec2
 abbrev pub PrincipalName : Notation

@@ -2,7 +2,7 @@
 //!
 //! Types of KerberosV5Spec2.
 ghost use Rattle.std.specs.Prelude.{refl};
-ghost use Rattle.picky_der_de.specs.KnownMembers.{known_struct, sequence_of, sequence_shape};
+ghost use Rattle.picky_der_de.specs.MembersFacts.{sequence_of, sequence_shape, struct_facts};
 ghost use Rattle.der_types.specs.Notation.{Notation};
 
 use crate::{
@@ -92,13 +92,13 @@ impl Serialize for ApReqMembers {
 impl Deserialize for ApReqMembers {
     ghost shape = { sequence_shape ⟦<ApReqMembersParts as DeserializeMembers>⟧.layout };
 
-    ghost known = { known_struct ⟦<ApReqMembersParts as DeserializeMembers>⟧.known refl ⟦<Self as Struct>⟧.parts };
+    ghost facts = { struct_facts ⟦<ApReqMembersParts as DeserializeMembers>⟧.facts refl ⟦<Self as Struct>⟧.parts };
 
     fn deserialize<R: ReadExt>(deserializer: &mut Deserializer<R>) -> Result<ApReqMembers> {
         deserialize_struct_as(deserializer)
     }
 
-    ghost tied = { Prim.assumption };
+    ghost proved = { Prim.assumption };
 }
 
 impl Begins for ApReqMembers {
@@ -233,13 +233,13 @@ impl Serialize for AuthenticatorMembers {
 impl Deserialize for AuthenticatorMembers {
     ghost shape = { sequence_shape ⟦<AuthenticatorMembersParts as DeserializeMembers>⟧.layout };
 
-    ghost known = { known_struct ⟦<AuthenticatorMembersParts as DeserializeMembers>⟧.known refl ⟦<Self as Struct>⟧.parts };
+    ghost facts = { struct_facts ⟦<AuthenticatorMembersParts as DeserializeMembers>⟧.facts refl ⟦<Self as Struct>⟧.parts };
 
     fn deserialize<R: ReadExt>(deserializer: &mut Deserializer<R>) -> Result<AuthenticatorMembers> {
         deserialize_struct_as(deserializer)
     }
 
-    ghost tied = { Prim.assumption };
+    ghost proved = { Prim.assumption };
 }
 
 impl Begins for AuthenticatorMembers {
@@ -306,13 +306,13 @@ impl Serialize for ApRepMembers {
 impl Deserialize for ApRepMembers {
     ghost shape = { sequence_shape ⟦<ApRepMembersParts as DeserializeMembers>⟧.layout };
 
-    ghost known = { known_struct ⟦<ApRepMembersParts as DeserializeMembers>⟧.known refl ⟦<Self as Struct>⟧.parts };
+    ghost facts = { struct_facts ⟦<ApRepMembersParts as DeserializeMembers>⟧.facts refl ⟦<Self as Struct>⟧.parts };
 
     fn deserialize<R: ReadExt>(deserializer: &mut Deserializer<R>) -> Result<ApRepMembers> {
         deserialize_struct_as(deserializer)
     }
 
-    ghost tied = { Prim.assumption };
+    ghost proved = { Prim.assumption };
 }
 
 impl Begins for ApRepMembers {
@@ -390,13 +390,13 @@ impl Serialize for EncApRepPartMembers {
 impl Deserialize for EncApRepPartMembers {
     ghost shape = { sequence_shape ⟦<EncApRepPartMembersParts as DeserializeMembers>⟧.layout };
 
-    ghost known = { known_struct ⟦<EncApRepPartMembersParts as DeserializeMembers>⟧.known refl ⟦<Self as Struct>⟧.parts };
+    ghost facts = { struct_facts ⟦<EncApRepPartMembersParts as DeserializeMembers>⟧.facts refl ⟦<Self as Struct>⟧.parts };
 
     fn deserialize<R: ReadExt>(deserializer: &mut Deserializer<R>) -> Result<EncApRepPartMembers> {
         deserialize_struct_as(deserializer)
     }
 
-    ghost tied = { Prim.assumption };
+    ghost proved = { Prim.assumption };
 }
 
 impl Begins for EncApRepPartMembers {

@@ -2,7 +2,7 @@
 //!
 //! Types of KerberosV5Spec2.
 ghost use Rattle.std.specs.Prelude.{refl};
-ghost use Rattle.picky_der_de.specs.KnownMembers.{known_struct, sequence_of, sequence_shape};
+ghost use Rattle.picky_der_de.specs.MembersFacts.{sequence_of, sequence_shape, struct_facts};
 ghost use Rattle.der_types.specs.Notation.{Notation};
 
 use crate::{
@@ -87,13 +87,13 @@ impl Serialize for KrbCredMembers {
 impl Deserialize for KrbCredMembers {
     ghost shape = { sequence_shape ⟦<KrbCredMembersParts as DeserializeMembers>⟧.layout };
 
-    ghost known = { known_struct ⟦<KrbCredMembersParts as DeserializeMembers>⟧.known refl ⟦<Self as Struct>⟧.parts };
+    ghost facts = { struct_facts ⟦<KrbCredMembersParts as DeserializeMembers>⟧.facts refl ⟦<Self as Struct>⟧.parts };
 
     fn deserialize<R: ReadExt>(deserializer: &mut Deserializer<R>) -> Result<KrbCredMembers> {
         deserialize_struct_as(deserializer)
     }
 
-    ghost tied = { Prim.assumption };
+    ghost proved = { Prim.assumption };
 }
 
 impl Begins for KrbCredMembers {
@@ -203,7 +203,7 @@ impl Serialize for EncKrbCredPartMembers {
 impl Deserialize for EncKrbCredPartMembers {
     ghost shape = { sequence_shape ⟦<EncKrbCredPartMembersParts as DeserializeMembers>⟧.layout };
 
-    ghost known = { known_struct ⟦<EncKrbCredPartMembersParts as DeserializeMembers>⟧.known refl ⟦<Self as Struct>⟧.parts };
+    ghost facts = { struct_facts ⟦<EncKrbCredPartMembersParts as DeserializeMembers>⟧.facts refl ⟦<Self as Struct>⟧.parts };
 
     fn deserialize<R: ReadExt>(
         deserializer: &mut Deserializer<R>,
@@ -211,7 +211,7 @@ impl Deserialize for EncKrbCredPartMembers {
         deserialize_struct_as(deserializer)
     }
 
-    ghost tied = { Prim.assumption };
+    ghost proved = { Prim.assumption };
 }
 
 impl Begins for EncKrbCredPartMembers {
@@ -347,13 +347,13 @@ impl Serialize for KrbCredInfo {
 impl Deserialize for KrbCredInfo {
     ghost shape = { sequence_shape ⟦<KrbCredInfoParts as DeserializeMembers>⟧.layout };
 
-    ghost known = { known_struct ⟦<KrbCredInfoParts as DeserializeMembers>⟧.known refl ⟦<Self as Struct>⟧.parts };
+    ghost facts = { struct_facts ⟦<KrbCredInfoParts as DeserializeMembers>⟧.facts refl ⟦<Self as Struct>⟧.parts };
 
     fn deserialize<R: ReadExt>(deserializer: &mut Deserializer<R>) -> Result<KrbCredInfo> {
         deserialize_struct_as(deserializer)
     }
 
-    ghost tied = { Prim.assumption };
+    ghost proved = { Prim.assumption };
 }
 
 impl Begins for KrbCredInfo {

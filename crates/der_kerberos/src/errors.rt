@@ -2,7 +2,7 @@
 //!
 //! Types of KerberosV5Spec2.
 ghost use Rattle.std.specs.Prelude.{refl};
-ghost use Rattle.picky_der_de.specs.KnownMembers.{known_struct, sequence_of, sequence_shape};
+ghost use Rattle.picky_der_de.specs.MembersFacts.{sequence_of, sequence_shape, struct_facts};
 ghost use Rattle.der_types.specs.Notation.{Notation};
 
 use crate::{Int32, KerberosString, KerberosTime, Microseconds, PaData, PrincipalName, Realm};
@@ -158,13 +158,13 @@ impl Serialize for KrbErrorMembers {
 impl Deserialize for KrbErrorMembers {
     ghost shape = { sequence_shape ⟦<KrbErrorMembersParts as DeserializeMembers>⟧.layout };
 
-    ghost known = { known_struct ⟦<KrbErrorMembersParts as DeserializeMembers>⟧.known refl ⟦<Self as Struct>⟧.parts };
+    ghost facts = { struct_facts ⟦<KrbErrorMembersParts as DeserializeMembers>⟧.facts refl ⟦<Self as Struct>⟧.parts };
 
     fn deserialize<R: ReadExt>(deserializer: &mut Deserializer<R>) -> Result<KrbErrorMembers> {
         deserialize_struct_as(deserializer)
     }
 
-    ghost tied = { Prim.assumption };
+    ghost proved = { Prim.assumption };
 }
 
 impl Begins for KrbErrorMembers {
@@ -230,13 +230,13 @@ impl Serialize for TypedDataItem {
 impl Deserialize for TypedDataItem {
     ghost shape = { sequence_shape ⟦<TypedDataItemParts as DeserializeMembers>⟧.layout };
 
-    ghost known = { known_struct ⟦<TypedDataItemParts as DeserializeMembers>⟧.known refl ⟦<Self as Struct>⟧.parts };
+    ghost facts = { struct_facts ⟦<TypedDataItemParts as DeserializeMembers>⟧.facts refl ⟦<Self as Struct>⟧.parts };
 
     fn deserialize<R: ReadExt>(deserializer: &mut Deserializer<R>) -> Result<TypedDataItem> {
         deserialize_struct_as(deserializer)
     }
 
-    ghost tied = { Prim.assumption };
+    ghost proved = { Prim.assumption };
 }
 
 impl Begins for TypedDataItem {

@@ -2,7 +2,7 @@
 //!
 //! Types of KerberosV5Spec2.
 ghost use Rattle.std.specs.Prelude.{refl};
-ghost use Rattle.picky_der_de.specs.KnownMembers.{known_struct, sequence_of, sequence_shape};
+ghost use Rattle.picky_der_de.specs.MembersFacts.{sequence_of, sequence_shape, struct_facts};
 ghost use Rattle.der_types.specs.Notation.{Notation};
 
 use crate::{EncryptedData, Int32, KerberosString, KerberosTime, Microseconds};
@@ -61,13 +61,13 @@ impl Serialize for PaEncTsEnc {
 impl Deserialize for PaEncTsEnc {
     ghost shape = { sequence_shape ⟦<PaEncTsEncParts as DeserializeMembers>⟧.layout };
 
-    ghost known = { known_struct ⟦<PaEncTsEncParts as DeserializeMembers>⟧.known refl ⟦<Self as Struct>⟧.parts };
+    ghost facts = { struct_facts ⟦<PaEncTsEncParts as DeserializeMembers>⟧.facts refl ⟦<Self as Struct>⟧.parts };
 
     fn deserialize<R: ReadExt>(deserializer: &mut Deserializer<R>) -> Result<PaEncTsEnc> {
         deserialize_struct_as(deserializer)
     }
 
-    ghost tied = { Prim.assumption };
+    ghost proved = { Prim.assumption };
 }
 
 impl Begins for PaEncTsEnc {
@@ -123,13 +123,13 @@ impl Serialize for EtypeInfoEntry {
 impl Deserialize for EtypeInfoEntry {
     ghost shape = { sequence_shape ⟦<EtypeInfoEntryParts as DeserializeMembers>⟧.layout };
 
-    ghost known = { known_struct ⟦<EtypeInfoEntryParts as DeserializeMembers>⟧.known refl ⟦<Self as Struct>⟧.parts };
+    ghost facts = { struct_facts ⟦<EtypeInfoEntryParts as DeserializeMembers>⟧.facts refl ⟦<Self as Struct>⟧.parts };
 
     fn deserialize<R: ReadExt>(deserializer: &mut Deserializer<R>) -> Result<EtypeInfoEntry> {
         deserialize_struct_as(deserializer)
     }
 
-    ghost tied = { Prim.assumption };
+    ghost proved = { Prim.assumption };
 }
 
 impl Begins for EtypeInfoEntry {
@@ -203,13 +203,13 @@ impl Serialize for EtypeInfo2Entry {
 impl Deserialize for EtypeInfo2Entry {
     ghost shape = { sequence_shape ⟦<EtypeInfo2EntryParts as DeserializeMembers>⟧.layout };
 
-    ghost known = { known_struct ⟦<EtypeInfo2EntryParts as DeserializeMembers>⟧.known refl ⟦<Self as Struct>⟧.parts };
+    ghost facts = { struct_facts ⟦<EtypeInfo2EntryParts as DeserializeMembers>⟧.facts refl ⟦<Self as Struct>⟧.parts };
 
     fn deserialize<R: ReadExt>(deserializer: &mut Deserializer<R>) -> Result<EtypeInfo2Entry> {
         deserialize_struct_as(deserializer)
     }
 
-    ghost tied = { Prim.assumption };
+    ghost proved = { Prim.assumption };
 }
 
 impl Begins for EtypeInfo2Entry {

@@ -2,7 +2,7 @@
 //!
 //! Types of KerberosV5Spec2.
 ghost use Rattle.std.specs.Prelude.{refl};
-ghost use Rattle.picky_der_de.specs.KnownMembers.{known_struct, sequence_of, sequence_shape};
+ghost use Rattle.picky_der_de.specs.MembersFacts.{sequence_of, sequence_shape, struct_facts};
 ghost use Rattle.der_types.specs.Notation.{Notation};
 
 use crate::{
@@ -113,13 +113,13 @@ impl Serialize for AsRepMembers {
 impl Deserialize for AsRepMembers {
     ghost shape = { sequence_shape ⟦<AsRepMembersParts as DeserializeMembers>⟧.layout };
 
-    ghost known = { known_struct ⟦<AsRepMembersParts as DeserializeMembers>⟧.known refl ⟦<Self as Struct>⟧.parts };
+    ghost facts = { struct_facts ⟦<AsRepMembersParts as DeserializeMembers>⟧.facts refl ⟦<Self as Struct>⟧.parts };
 
     fn deserialize<R: ReadExt>(deserializer: &mut Deserializer<R>) -> Result<AsRepMembers> {
         deserialize_struct_as(deserializer)
     }
 
-    ghost tied = { Prim.assumption };
+    ghost proved = { Prim.assumption };
 }
 
 impl Begins for AsRepMembers {
@@ -226,13 +226,13 @@ impl Serialize for TgsRepMembers {
 impl Deserialize for TgsRepMembers {
     ghost shape = { sequence_shape ⟦<TgsRepMembersParts as DeserializeMembers>⟧.layout };
 
-    ghost known = { known_struct ⟦<TgsRepMembersParts as DeserializeMembers>⟧.known refl ⟦<Self as Struct>⟧.parts };
+    ghost facts = { struct_facts ⟦<TgsRepMembersParts as DeserializeMembers>⟧.facts refl ⟦<Self as Struct>⟧.parts };
 
     fn deserialize<R: ReadExt>(deserializer: &mut Deserializer<R>) -> Result<TgsRepMembers> {
         deserialize_struct_as(deserializer)
     }
 
-    ghost tied = { Prim.assumption };
+    ghost proved = { Prim.assumption };
 }
 
 impl Begins for TgsRepMembers {
@@ -402,13 +402,13 @@ impl Serialize for EncKdcRepPart {
 impl Deserialize for EncKdcRepPart {
     ghost shape = { sequence_shape ⟦<EncKdcRepPartParts as DeserializeMembers>⟧.layout };
 
-    ghost known = { known_struct ⟦<EncKdcRepPartParts as DeserializeMembers>⟧.known refl ⟦<Self as Struct>⟧.parts };
+    ghost facts = { struct_facts ⟦<EncKdcRepPartParts as DeserializeMembers>⟧.facts refl ⟦<Self as Struct>⟧.parts };
 
     fn deserialize<R: ReadExt>(deserializer: &mut Deserializer<R>) -> Result<EncKdcRepPart> {
         deserialize_struct_as(deserializer)
     }
 
-    ghost tied = { Prim.assumption };
+    ghost proved = { Prim.assumption };
 }
 
 impl Begins for EncKdcRepPart {
@@ -468,13 +468,13 @@ impl Serialize for LastReqItem {
 impl Deserialize for LastReqItem {
     ghost shape = { sequence_shape ⟦<LastReqItemParts as DeserializeMembers>⟧.layout };
 
-    ghost known = { known_struct ⟦<LastReqItemParts as DeserializeMembers>⟧.known refl ⟦<Self as Struct>⟧.parts };
+    ghost facts = { struct_facts ⟦<LastReqItemParts as DeserializeMembers>⟧.facts refl ⟦<Self as Struct>⟧.parts };
 
     fn deserialize<R: ReadExt>(deserializer: &mut Deserializer<R>) -> Result<LastReqItem> {
         deserialize_struct_as(deserializer)
     }
 
-    ghost tied = { Prim.assumption };
+    ghost proved = { Prim.assumption };
 }
 
 impl Begins for LastReqItem {

@@ -2,7 +2,7 @@
 //!
 //! Types of KerberosV5Spec2.
 ghost use Rattle.std.specs.Prelude.{refl};
-ghost use Rattle.picky_der_de.specs.KnownMembers.{known_struct, sequence_of, sequence_shape};
+ghost use Rattle.picky_der_de.specs.MembersFacts.{sequence_of, sequence_shape, struct_facts};
 ghost use Rattle.der_types.specs.Notation.{Notation};
 
 use crate::{
@@ -91,13 +91,13 @@ impl Serialize for AsReqMembers {
 impl Deserialize for AsReqMembers {
     ghost shape = { sequence_shape ⟦<AsReqMembersParts as DeserializeMembers>⟧.layout };
 
-    ghost known = { known_struct ⟦<AsReqMembersParts as DeserializeMembers>⟧.known refl ⟦<Self as Struct>⟧.parts };
+    ghost facts = { struct_facts ⟦<AsReqMembersParts as DeserializeMembers>⟧.facts refl ⟦<Self as Struct>⟧.parts };
 
     fn deserialize<R: ReadExt>(deserializer: &mut Deserializer<R>) -> Result<AsReqMembers> {
         deserialize_struct_as(deserializer)
     }
 
-    ghost tied = { Prim.assumption };
+    ghost proved = { Prim.assumption };
 }
 
 impl Begins for AsReqMembers {
@@ -179,13 +179,13 @@ impl Serialize for TgsReqMembers {
 impl Deserialize for TgsReqMembers {
     ghost shape = { sequence_shape ⟦<TgsReqMembersParts as DeserializeMembers>⟧.layout };
 
-    ghost known = { known_struct ⟦<TgsReqMembersParts as DeserializeMembers>⟧.known refl ⟦<Self as Struct>⟧.parts };
+    ghost facts = { struct_facts ⟦<TgsReqMembersParts as DeserializeMembers>⟧.facts refl ⟦<Self as Struct>⟧.parts };
 
     fn deserialize<R: ReadExt>(deserializer: &mut Deserializer<R>) -> Result<TgsReqMembers> {
         deserialize_struct_as(deserializer)
     }
 
-    ghost tied = { Prim.assumption };
+    ghost proved = { Prim.assumption };
 }
 
 impl Begins for TgsReqMembers {
@@ -338,13 +338,13 @@ impl Serialize for KdcReqBody {
 impl Deserialize for KdcReqBody {
     ghost shape = { sequence_shape ⟦<KdcReqBodyParts as DeserializeMembers>⟧.layout };
 
-    ghost known = { known_struct ⟦<KdcReqBodyParts as DeserializeMembers>⟧.known refl ⟦<Self as Struct>⟧.parts };
+    ghost facts = { struct_facts ⟦<KdcReqBodyParts as DeserializeMembers>⟧.facts refl ⟦<Self as Struct>⟧.parts };
 
     fn deserialize<R: ReadExt>(deserializer: &mut Deserializer<R>) -> Result<KdcReqBody> {
         deserialize_struct_as(deserializer)
     }
 
-    ghost tied = { Prim.assumption };
+    ghost proved = { Prim.assumption };
 }
 
 impl Begins for KdcReqBody {

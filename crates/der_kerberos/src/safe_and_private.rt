@@ -2,7 +2,7 @@
 //!
 //! Types of KerberosV5Spec2.
 ghost use Rattle.std.specs.Prelude.{refl};
-ghost use Rattle.picky_der_de.specs.KnownMembers.{known_struct, sequence_of, sequence_shape};
+ghost use Rattle.picky_der_de.specs.MembersFacts.{sequence_of, sequence_shape, struct_facts};
 ghost use Rattle.der_types.specs.Notation.{Notation};
 
 use crate::{Checksum, EncryptedData, HostAddress, KerberosTime, Microseconds, UInt32};
@@ -74,13 +74,13 @@ impl Serialize for KrbSafeMembers {
 impl Deserialize for KrbSafeMembers {
     ghost shape = { sequence_shape ⟦<KrbSafeMembersParts as DeserializeMembers>⟧.layout };
 
-    ghost known = { known_struct ⟦<KrbSafeMembersParts as DeserializeMembers>⟧.known refl ⟦<Self as Struct>⟧.parts };
+    ghost facts = { struct_facts ⟦<KrbSafeMembersParts as DeserializeMembers>⟧.facts refl ⟦<Self as Struct>⟧.parts };
 
     fn deserialize<R: ReadExt>(deserializer: &mut Deserializer<R>) -> Result<KrbSafeMembers> {
         deserialize_struct_as(deserializer)
     }
 
-    ghost tied = { Prim.assumption };
+    ghost proved = { Prim.assumption };
 }
 
 impl Begins for KrbSafeMembers {
@@ -180,13 +180,13 @@ impl Serialize for KrbSafeBody {
 impl Deserialize for KrbSafeBody {
     ghost shape = { sequence_shape ⟦<KrbSafeBodyParts as DeserializeMembers>⟧.layout };
 
-    ghost known = { known_struct ⟦<KrbSafeBodyParts as DeserializeMembers>⟧.known refl ⟦<Self as Struct>⟧.parts };
+    ghost facts = { struct_facts ⟦<KrbSafeBodyParts as DeserializeMembers>⟧.facts refl ⟦<Self as Struct>⟧.parts };
 
     fn deserialize<R: ReadExt>(deserializer: &mut Deserializer<R>) -> Result<KrbSafeBody> {
         deserialize_struct_as(deserializer)
     }
 
-    ghost tied = { Prim.assumption };
+    ghost proved = { Prim.assumption };
 }
 
 impl Begins for KrbSafeBody {
@@ -253,13 +253,13 @@ impl Serialize for KrbPrivMembers {
 impl Deserialize for KrbPrivMembers {
     ghost shape = { sequence_shape ⟦<KrbPrivMembersParts as DeserializeMembers>⟧.layout };
 
-    ghost known = { known_struct ⟦<KrbPrivMembersParts as DeserializeMembers>⟧.known refl ⟦<Self as Struct>⟧.parts };
+    ghost facts = { struct_facts ⟦<KrbPrivMembersParts as DeserializeMembers>⟧.facts refl ⟦<Self as Struct>⟧.parts };
 
     fn deserialize<R: ReadExt>(deserializer: &mut Deserializer<R>) -> Result<KrbPrivMembers> {
         deserialize_struct_as(deserializer)
     }
 
-    ghost tied = { Prim.assumption };
+    ghost proved = { Prim.assumption };
 }
 
 impl Begins for KrbPrivMembers {
@@ -364,7 +364,7 @@ impl Serialize for EncKrbPrivPartMembers {
 impl Deserialize for EncKrbPrivPartMembers {
     ghost shape = { sequence_shape ⟦<EncKrbPrivPartMembersParts as DeserializeMembers>⟧.layout };
 
-    ghost known = { known_struct ⟦<EncKrbPrivPartMembersParts as DeserializeMembers>⟧.known refl ⟦<Self as Struct>⟧.parts };
+    ghost facts = { struct_facts ⟦<EncKrbPrivPartMembersParts as DeserializeMembers>⟧.facts refl ⟦<Self as Struct>⟧.parts };
 
     fn deserialize<R: ReadExt>(
         deserializer: &mut Deserializer<R>,
@@ -372,7 +372,7 @@ impl Deserialize for EncKrbPrivPartMembers {
         deserialize_struct_as(deserializer)
     }
 
-    ghost tied = { Prim.assumption };
+    ghost proved = { Prim.assumption };
 }
 
 impl Begins for EncKrbPrivPartMembers {

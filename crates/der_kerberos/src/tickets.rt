@@ -2,7 +2,7 @@
 //!
 //! Types of KerberosV5Spec2.
 ghost use Rattle.std.specs.Prelude.{refl};
-ghost use Rattle.picky_der_de.specs.KnownMembers.{known_struct, sequence_of, sequence_shape};
+ghost use Rattle.picky_der_de.specs.MembersFacts.{sequence_of, sequence_shape, struct_facts};
 ghost use Rattle.der_types.specs.Notation.{Notation};
 
 use crate::{
@@ -80,13 +80,13 @@ impl Serialize for TicketMembers {
 impl Deserialize for TicketMembers {
     ghost shape = { sequence_shape ⟦<TicketMembersParts as DeserializeMembers>⟧.layout };
 
-    ghost known = { known_struct ⟦<TicketMembersParts as DeserializeMembers>⟧.known refl ⟦<Self as Struct>⟧.parts };
+    ghost facts = { struct_facts ⟦<TicketMembersParts as DeserializeMembers>⟧.facts refl ⟦<Self as Struct>⟧.parts };
 
     fn deserialize<R: ReadExt>(deserializer: &mut Deserializer<R>) -> Result<TicketMembers> {
         deserialize_struct_as(deserializer)
     }
 
-    ghost tied = { Prim.assumption };
+    ghost proved = { Prim.assumption };
 }
 
 impl Begins for TicketMembers {
@@ -222,13 +222,13 @@ impl Serialize for EncTicketPartMembers {
 impl Deserialize for EncTicketPartMembers {
     ghost shape = { sequence_shape ⟦<EncTicketPartMembersParts as DeserializeMembers>⟧.layout };
 
-    ghost known = { known_struct ⟦<EncTicketPartMembersParts as DeserializeMembers>⟧.known refl ⟦<Self as Struct>⟧.parts };
+    ghost facts = { struct_facts ⟦<EncTicketPartMembersParts as DeserializeMembers>⟧.facts refl ⟦<Self as Struct>⟧.parts };
 
     fn deserialize<R: ReadExt>(deserializer: &mut Deserializer<R>) -> Result<EncTicketPartMembers> {
         deserialize_struct_as(deserializer)
     }
 
-    ghost tied = { Prim.assumption };
+    ghost proved = { Prim.assumption };
 }
 
 impl Begins for EncTicketPartMembers {
@@ -280,13 +280,13 @@ impl Serialize for TransitedEncoding {
 impl Deserialize for TransitedEncoding {
     ghost shape = { sequence_shape ⟦<TransitedEncodingParts as DeserializeMembers>⟧.layout };
 
-    ghost known = { known_struct ⟦<TransitedEncodingParts as DeserializeMembers>⟧.known refl ⟦<Self as Struct>⟧.parts };
+    ghost facts = { struct_facts ⟦<TransitedEncodingParts as DeserializeMembers>⟧.facts refl ⟦<Self as Struct>⟧.parts };
 
     fn deserialize<R: ReadExt>(deserializer: &mut Deserializer<R>) -> Result<TransitedEncoding> {
         deserialize_struct_as(deserializer)
     }
 
-    ghost tied = { Prim.assumption };
+    ghost proved = { Prim.assumption };
 }
 
 impl Begins for TransitedEncoding {

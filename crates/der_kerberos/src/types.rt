@@ -2,7 +2,7 @@
 //!
 //! Types of KerberosV5Spec2.
 ghost use Rattle.std.specs.Prelude.{refl};
-ghost use Rattle.picky_der_de.specs.KnownMembers.{known_struct, sequence_of, sequence_shape};
+ghost use Rattle.picky_der_de.specs.MembersFacts.{sequence_of, sequence_shape, struct_facts};
 ghost use Rattle.der_types.specs.Notation.{Notation};
 
 use der_types::{
@@ -81,13 +81,13 @@ impl Serialize for PrincipalName {
 impl Deserialize for PrincipalName {
     ghost shape = { sequence_shape ⟦<PrincipalNameParts as DeserializeMembers>⟧.layout };
 
-    ghost known = { known_struct ⟦<PrincipalNameParts as DeserializeMembers>⟧.known refl ⟦<Self as Struct>⟧.parts };
+    ghost facts = { struct_facts ⟦<PrincipalNameParts as DeserializeMembers>⟧.facts refl ⟦<Self as Struct>⟧.parts };
 
     fn deserialize<R: ReadExt>(deserializer: &mut Deserializer<R>) -> Result<PrincipalName> {
         deserialize_struct_as(deserializer)
     }
 
-    ghost tied = { Prim.assumption };
+    ghost proved = { Prim.assumption };
 }
 
 impl Begins for PrincipalName {
@@ -143,13 +143,13 @@ impl Serialize for HostAddress {
 impl Deserialize for HostAddress {
     ghost shape = { sequence_shape ⟦<HostAddressParts as DeserializeMembers>⟧.layout };
 
-    ghost known = { known_struct ⟦<HostAddressParts as DeserializeMembers>⟧.known refl ⟦<Self as Struct>⟧.parts };
+    ghost facts = { struct_facts ⟦<HostAddressParts as DeserializeMembers>⟧.facts refl ⟦<Self as Struct>⟧.parts };
 
     fn deserialize<R: ReadExt>(deserializer: &mut Deserializer<R>) -> Result<HostAddress> {
         deserialize_struct_as(deserializer)
     }
 
-    ghost tied = { Prim.assumption };
+    ghost proved = { Prim.assumption };
 }
 
 impl Begins for HostAddress {
@@ -208,7 +208,7 @@ impl Serialize for AuthorizationDataItem {
 impl Deserialize for AuthorizationDataItem {
     ghost shape = { sequence_shape ⟦<AuthorizationDataItemParts as DeserializeMembers>⟧.layout };
 
-    ghost known = { known_struct ⟦<AuthorizationDataItemParts as DeserializeMembers>⟧.known refl ⟦<Self as Struct>⟧.parts };
+    ghost facts = { struct_facts ⟦<AuthorizationDataItemParts as DeserializeMembers>⟧.facts refl ⟦<Self as Struct>⟧.parts };
 
     fn deserialize<R: ReadExt>(
         deserializer: &mut Deserializer<R>,
@@ -216,7 +216,7 @@ impl Deserialize for AuthorizationDataItem {
         deserialize_struct_as(deserializer)
     }
 
-    ghost tied = { Prim.assumption };
+    ghost proved = { Prim.assumption };
 }
 
 impl Begins for AuthorizationDataItem {
@@ -271,13 +271,13 @@ impl Serialize for PaData {
 impl Deserialize for PaData {
     ghost shape = { sequence_shape ⟦<PaDataParts as DeserializeMembers>⟧.layout };
 
-    ghost known = { known_struct ⟦<PaDataParts as DeserializeMembers>⟧.known refl ⟦<Self as Struct>⟧.parts };
+    ghost facts = { struct_facts ⟦<PaDataParts as DeserializeMembers>⟧.facts refl ⟦<Self as Struct>⟧.parts };
 
     fn deserialize<R: ReadExt>(deserializer: &mut Deserializer<R>) -> Result<PaData> {
         deserialize_struct_as(deserializer)
     }
 
-    ghost tied = { Prim.assumption };
+    ghost proved = { Prim.assumption };
 }
 
 impl Begins for PaData {
@@ -343,13 +343,13 @@ impl Serialize for EncryptedData {
 impl Deserialize for EncryptedData {
     ghost shape = { sequence_shape ⟦<EncryptedDataParts as DeserializeMembers>⟧.layout };
 
-    ghost known = { known_struct ⟦<EncryptedDataParts as DeserializeMembers>⟧.known refl ⟦<Self as Struct>⟧.parts };
+    ghost facts = { struct_facts ⟦<EncryptedDataParts as DeserializeMembers>⟧.facts refl ⟦<Self as Struct>⟧.parts };
 
     fn deserialize<R: ReadExt>(deserializer: &mut Deserializer<R>) -> Result<EncryptedData> {
         deserialize_struct_as(deserializer)
     }
 
-    ghost tied = { Prim.assumption };
+    ghost proved = { Prim.assumption };
 }
 
 impl Begins for EncryptedData {
@@ -401,13 +401,13 @@ impl Serialize for EncryptionKey {
 impl Deserialize for EncryptionKey {
     ghost shape = { sequence_shape ⟦<EncryptionKeyParts as DeserializeMembers>⟧.layout };
 
-    ghost known = { known_struct ⟦<EncryptionKeyParts as DeserializeMembers>⟧.known refl ⟦<Self as Struct>⟧.parts };
+    ghost facts = { struct_facts ⟦<EncryptionKeyParts as DeserializeMembers>⟧.facts refl ⟦<Self as Struct>⟧.parts };
 
     fn deserialize<R: ReadExt>(deserializer: &mut Deserializer<R>) -> Result<EncryptionKey> {
         deserialize_struct_as(deserializer)
     }
 
-    ghost tied = { Prim.assumption };
+    ghost proved = { Prim.assumption };
 }
 
 impl Begins for EncryptionKey {
@@ -462,13 +462,13 @@ impl Serialize for Checksum {
 impl Deserialize for Checksum {
     ghost shape = { sequence_shape ⟦<ChecksumParts as DeserializeMembers>⟧.layout };
 
-    ghost known = { known_struct ⟦<ChecksumParts as DeserializeMembers>⟧.known refl ⟦<Self as Struct>⟧.parts };
+    ghost facts = { struct_facts ⟦<ChecksumParts as DeserializeMembers>⟧.facts refl ⟦<Self as Struct>⟧.parts };
 
     fn deserialize<R: ReadExt>(deserializer: &mut Deserializer<R>) -> Result<Checksum> {
         deserialize_struct_as(deserializer)
     }
 
-    ghost tied = { Prim.assumption };
+    ghost proved = { Prim.assumption };
 }
 
 impl Begins for Checksum {
@@ -547,13 +547,13 @@ impl Serialize for AdKdcIssued {
 impl Deserialize for AdKdcIssued {
     ghost shape = { sequence_shape ⟦<AdKdcIssuedParts as DeserializeMembers>⟧.layout };
 
-    ghost known = { known_struct ⟦<AdKdcIssuedParts as DeserializeMembers>⟧.known refl ⟦<Self as Struct>⟧.parts };
+    ghost facts = { struct_facts ⟦<AdKdcIssuedParts as DeserializeMembers>⟧.facts refl ⟦<Self as Struct>⟧.parts };
 
     fn deserialize<R: ReadExt>(deserializer: &mut Deserializer<R>) -> Result<AdKdcIssued> {
         deserialize_struct_as(deserializer)
     }
 
-    ghost tied = { Prim.assumption };
+    ghost proved = { Prim.assumption };
 }
 
 impl Begins for AdKdcIssued {
@@ -612,13 +612,13 @@ impl Serialize for AdAndOr {
 impl Deserialize for AdAndOr {
     ghost shape = { sequence_shape ⟦<AdAndOrParts as DeserializeMembers>⟧.layout };
 
-    ghost known = { known_struct ⟦<AdAndOrParts as DeserializeMembers>⟧.known refl ⟦<Self as Struct>⟧.parts };
+    ghost facts = { struct_facts ⟦<AdAndOrParts as DeserializeMembers>⟧.facts refl ⟦<Self as Struct>⟧.parts };
 
     fn deserialize<R: ReadExt>(deserializer: &mut Deserializer<R>) -> Result<AdAndOr> {
         deserialize_struct_as(deserializer)
     }
 
-    ghost tied = { Prim.assumption };
+    ghost proved = { Prim.assumption };
 }
 
 impl Begins for AdAndOr {

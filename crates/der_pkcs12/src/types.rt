@@ -2,7 +2,7 @@
 //!
 //! Types of PKCS-12.
 ghost use Rattle.std.specs.Prelude.{refl};
-ghost use Rattle.picky_der_de.specs.KnownMembers.{known_struct, sequence_of, sequence_shape};
+ghost use Rattle.picky_der_de.specs.MembersFacts.{sequence_of, sequence_shape, struct_facts};
 ghost use Rattle.der_types.specs.Notation.{Notation};
 
 use der_cms::ContentInfo;
@@ -64,13 +64,13 @@ impl Serialize for Pfx {
 impl Deserialize for Pfx {
     ghost shape = { sequence_shape ⟦<PfxParts as DeserializeMembers>⟧.layout };
 
-    ghost known = { known_struct ⟦<PfxParts as DeserializeMembers>⟧.known refl ⟦<Self as Struct>⟧.parts };
+    ghost facts = { struct_facts ⟦<PfxParts as DeserializeMembers>⟧.facts refl ⟦<Self as Struct>⟧.parts };
 
     fn deserialize<R: ReadExt>(deserializer: &mut Deserializer<R>) -> Result<Pfx> {
         deserialize_struct_as(deserializer)
     }
 
-    ghost tied = { Prim.assumption };
+    ghost proved = { Prim.assumption };
 }
 
 impl Begins for Pfx {
@@ -130,13 +130,13 @@ impl Serialize for MacData {
 impl Deserialize for MacData {
     ghost shape = { sequence_shape ⟦<MacDataParts as DeserializeMembers>⟧.layout };
 
-    ghost known = { known_struct ⟦<MacDataParts as DeserializeMembers>⟧.known refl ⟦<Self as Struct>⟧.parts };
+    ghost facts = { struct_facts ⟦<MacDataParts as DeserializeMembers>⟧.facts refl ⟦<Self as Struct>⟧.parts };
 
     fn deserialize<R: ReadExt>(deserializer: &mut Deserializer<R>) -> Result<MacData> {
         deserialize_struct_as(deserializer)
     }
 
-    ghost tied = { Prim.assumption };
+    ghost proved = { Prim.assumption };
 }
 
 impl Begins for MacData {
@@ -191,13 +191,13 @@ impl Serialize for DigestInfo {
 impl Deserialize for DigestInfo {
     ghost shape = { sequence_shape ⟦<DigestInfoParts as DeserializeMembers>⟧.layout };
 
-    ghost known = { known_struct ⟦<DigestInfoParts as DeserializeMembers>⟧.known refl ⟦<Self as Struct>⟧.parts };
+    ghost facts = { struct_facts ⟦<DigestInfoParts as DeserializeMembers>⟧.facts refl ⟦<Self as Struct>⟧.parts };
 
     fn deserialize<R: ReadExt>(deserializer: &mut Deserializer<R>) -> Result<DigestInfo> {
         deserialize_struct_as(deserializer)
     }
 
-    ghost tied = { Prim.assumption };
+    ghost proved = { Prim.assumption };
 }
 
 impl Begins for DigestInfo {
@@ -273,13 +273,13 @@ impl Serialize for SafeBag {
 impl Deserialize for SafeBag {
     ghost shape = { sequence_shape ⟦<SafeBagParts as DeserializeMembers>⟧.layout };
 
-    ghost known = { known_struct ⟦<SafeBagParts as DeserializeMembers>⟧.known refl ⟦<Self as Struct>⟧.parts };
+    ghost facts = { struct_facts ⟦<SafeBagParts as DeserializeMembers>⟧.facts refl ⟦<Self as Struct>⟧.parts };
 
     fn deserialize<R: ReadExt>(deserializer: &mut Deserializer<R>) -> Result<SafeBag> {
         deserialize_struct_as(deserializer)
     }
 
-    ghost tied = { Prim.assumption };
+    ghost proved = { Prim.assumption };
 }
 
 impl Begins for SafeBag {
@@ -334,13 +334,13 @@ impl Serialize for Pkcs12Attribute {
 impl Deserialize for Pkcs12Attribute {
     ghost shape = { sequence_shape ⟦<Pkcs12AttributeParts as DeserializeMembers>⟧.layout };
 
-    ghost known = { known_struct ⟦<Pkcs12AttributeParts as DeserializeMembers>⟧.known refl ⟦<Self as Struct>⟧.parts };
+    ghost facts = { struct_facts ⟦<Pkcs12AttributeParts as DeserializeMembers>⟧.facts refl ⟦<Self as Struct>⟧.parts };
 
     fn deserialize<R: ReadExt>(deserializer: &mut Deserializer<R>) -> Result<Pkcs12Attribute> {
         deserialize_struct_as(deserializer)
     }
 
-    ghost tied = { Prim.assumption };
+    ghost proved = { Prim.assumption };
 }
 
 impl Begins for Pkcs12Attribute {
@@ -401,13 +401,13 @@ impl Serialize for CertBag {
 impl Deserialize for CertBag {
     ghost shape = { sequence_shape ⟦<CertBagParts as DeserializeMembers>⟧.layout };
 
-    ghost known = { known_struct ⟦<CertBagParts as DeserializeMembers>⟧.known refl ⟦<Self as Struct>⟧.parts };
+    ghost facts = { struct_facts ⟦<CertBagParts as DeserializeMembers>⟧.facts refl ⟦<Self as Struct>⟧.parts };
 
     fn deserialize<R: ReadExt>(deserializer: &mut Deserializer<R>) -> Result<CertBag> {
         deserialize_struct_as(deserializer)
     }
 
-    ghost tied = { Prim.assumption };
+    ghost proved = { Prim.assumption };
 }
 
 impl Begins for CertBag {
@@ -459,13 +459,13 @@ impl Serialize for CrlBag {
 impl Deserialize for CrlBag {
     ghost shape = { sequence_shape ⟦<CrlBagParts as DeserializeMembers>⟧.layout };
 
-    ghost known = { known_struct ⟦<CrlBagParts as DeserializeMembers>⟧.known refl ⟦<Self as Struct>⟧.parts };
+    ghost facts = { struct_facts ⟦<CrlBagParts as DeserializeMembers>⟧.facts refl ⟦<Self as Struct>⟧.parts };
 
     fn deserialize<R: ReadExt>(deserializer: &mut Deserializer<R>) -> Result<CrlBag> {
         deserialize_struct_as(deserializer)
     }
 
-    ghost tied = { Prim.assumption };
+    ghost proved = { Prim.assumption };
 }
 
 impl Begins for CrlBag {
@@ -520,13 +520,13 @@ impl Serialize for SecretBag {
 impl Deserialize for SecretBag {
     ghost shape = { sequence_shape ⟦<SecretBagParts as DeserializeMembers>⟧.layout };
 
-    ghost known = { known_struct ⟦<SecretBagParts as DeserializeMembers>⟧.known refl ⟦<Self as Struct>⟧.parts };
+    ghost facts = { struct_facts ⟦<SecretBagParts as DeserializeMembers>⟧.facts refl ⟦<Self as Struct>⟧.parts };
 
     fn deserialize<R: ReadExt>(deserializer: &mut Deserializer<R>) -> Result<SecretBag> {
         deserialize_struct_as(deserializer)
     }
 
-    ghost tied = { Prim.assumption };
+    ghost proved = { Prim.assumption };
 }
 
 impl Begins for SecretBag {
@@ -578,13 +578,13 @@ impl Serialize for Pkcs12PbeParams {
 impl Deserialize for Pkcs12PbeParams {
     ghost shape = { sequence_shape ⟦<Pkcs12PbeParamsParts as DeserializeMembers>⟧.layout };
 
-    ghost known = { known_struct ⟦<Pkcs12PbeParamsParts as DeserializeMembers>⟧.known refl ⟦<Self as Struct>⟧.parts };
+    ghost facts = { struct_facts ⟦<Pkcs12PbeParamsParts as DeserializeMembers>⟧.facts refl ⟦<Self as Struct>⟧.parts };
 
     fn deserialize<R: ReadExt>(deserializer: &mut Deserializer<R>) -> Result<Pkcs12PbeParams> {
         deserialize_struct_as(deserializer)
     }
 
-    ghost tied = { Prim.assumption };
+    ghost proved = { Prim.assumption };
 }
 
 impl Begins for Pkcs12PbeParams {

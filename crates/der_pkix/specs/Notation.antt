@@ -3,7 +3,7 @@
 use Rattle.std.specs.Prelude.{[], ◌∷◌}
 use Rattle.der_types.specs.ContentForms.{BIT-STRING, BIT-STRING-named, BMPString, GeneralizedTime, IA5String, INTEGER, OBJECT-IDENTIFIER, VisibleString}
 use Rattle.der_types.specs.Notation.{Notation, BOOLEAN, ENUMERATED, INTEGER-named, OCTET-STRING, UTF8String, end, none, optional, required}
-use Rattle.der_types.specs.NotationForms.{ANY, CHOICE, CONTEXT, EXPLICIT, FALSE, IMPLICIT, INTEGER-from-to, MAX, Mode, SEQUENCE, SEQUENCE-OF, SET-OF, SIZE, TRUE, default, default-as-optional, instead, ◌∣◌, ◌⨾◌}
+use Rattle.der_types.specs.NotationForms.{ANY, CHOICE, CONTEXT, EXPLICIT, FALSE, IMPLICIT, INTEGER-from-to, MAX, Mode, SEQUENCE, SEQUENCE-OF, SET-OF, SIZE, TRUE, default, default-as-optional, wider, ◌∣◌, ◌⨾◌}
 use Rattle.der_x509.specs.Notation.{AlgorithmIdentifier, AttributeType, AttributeValue, CertificateSerialNumber, Extensions, Name, RelativeDistinguishedName, SubjectPublicKeyInfo, UniqueIdentifier}
 
 -- PKIX1Implicit88 DEFINITIONS IMPLICIT TAGS
@@ -34,7 +34,7 @@ AttrSpec = SEQUENCE-OF OBJECT-IDENTIFIER
 abbrev pub AaControls : Notation
 AaControls = SEQUENCE (
     -- pathLenConstraint INTEGER (0..MAX) OPTIONAL
-    optional (instead INTEGER) ⨾
+    optional (wider INTEGER) ⨾
     -- permittedAttrs [0] AttrSpec OPTIONAL
     optional (CONTEXT 0 TAGS-PKIXAttributeCertificate-2008 AttrSpec) ⨾
     -- excludedAttrs [1] AttrSpec OPTIONAL
@@ -282,7 +282,7 @@ AuthorityKeyIdentifier = SEQUENCE (
 
 -- CRLNumber of PKIX1Implicit88: INTEGER (0..MAX)
 abbrev pub CrlNumber : Notation
-CrlNumber = instead INTEGER
+CrlNumber = wider INTEGER
 
 -- BaseCRLNumber of PKIX1Implicit88: CRLNumber
 abbrev pub BaseCrlNumber : Notation
@@ -290,7 +290,7 @@ BaseCrlNumber = CrlNumber
 
 -- BaseDistance of PKIX1Implicit88: INTEGER (0..MAX)
 abbrev pub BaseDistance : Notation
-BaseDistance = instead INTEGER
+BaseDistance = wider INTEGER
 
 -- BasicConstraints of PKIX1Implicit88
 abbrev pub BasicConstraints : Notation
@@ -298,7 +298,7 @@ BasicConstraints = SEQUENCE (
     -- cA BOOLEAN DEFAULT FALSE
     default FALSE BOOLEAN ⨾
     -- pathLenConstraint INTEGER (0..MAX) OPTIONAL
-    optional (instead INTEGER) ⨾
+    optional (wider INTEGER) ⨾
     end)
 
 -- CertPolicyId of PKIX1Implicit88: OBJECT IDENTIFIER
@@ -379,7 +379,7 @@ SecurityCategory = SEQUENCE (
 
 -- Clearance of PKIXAttributeCertificate-2008
 abbrev pub Clearance : Notation
-Clearance = instead (SEQUENCE (
+Clearance = wider (SEQUENCE (
     -- policyId OBJECT IDENTIFIER
     required OBJECT-IDENTIFIER ⨾
     -- classList ClassList DEFAULT { unclassified }
@@ -479,7 +479,7 @@ FreshestCrl = CrlDistributionPoints
 
 -- GeneralSubtree of PKIX1Implicit88
 abbrev pub GeneralSubtree : Notation
-GeneralSubtree = instead (SEQUENCE (
+GeneralSubtree = wider (SEQUENCE (
     -- base GeneralName
     required GeneralName ⨾
     -- minimum [0] BaseDistance DEFAULT 0
@@ -518,7 +518,7 @@ IetfAttrSyntax = SEQUENCE (
 
 -- SkipCerts of PKIX1Implicit88: INTEGER (0..MAX)
 abbrev pub SkipCerts : Notation
-SkipCerts = instead INTEGER
+SkipCerts = wider INTEGER
 
 -- InhibitAnyPolicy of PKIX1Implicit88: SkipCerts
 abbrev pub InhibitAnyPolicy : Notation

@@ -3,8 +3,8 @@
 //! Types of AsymmetricKeyPackageModuleV1.
 ghost use Rattle.std.proofs.Common.{lit≤};
 ghost use Rattle.std.specs.Prelude.{[], refl, ◌∷◌, ◌≡◌};
-ghost use Rattle.picky_der_de.specs.KnownMembers.{known_struct, sequence_of, sequence_shape};
-ghost use Rattle.der_types.specs.KnownContents.{contents_of, contents_shape, known_contents};
+ghost use Rattle.picky_der_de.specs.MembersFacts.{sequence_of, sequence_shape, struct_facts};
+ghost use Rattle.der_types.specs.ContentsFacts.{contents_facts, contents_of, contents_shape};
 ghost use Rattle.der_types.specs.Notation.{Notation};
 ghost use Rattle.der_pkix.specs.Enumerations.{is_key_version, key_version_number, same_key_version};
 
@@ -99,13 +99,13 @@ impl Serialize for OneAsymmetricKey {
 impl Deserialize for OneAsymmetricKey {
     ghost shape = { sequence_shape ⟦<OneAsymmetricKeyParts as DeserializeMembers>⟧.layout };
 
-    ghost known = { known_struct ⟦<OneAsymmetricKeyParts as DeserializeMembers>⟧.known refl ⟦<Self as Struct>⟧.parts };
+    ghost facts = { struct_facts ⟦<OneAsymmetricKeyParts as DeserializeMembers>⟧.facts refl ⟦<Self as Struct>⟧.parts };
 
     fn deserialize<R: ReadExt>(deserializer: &mut Deserializer<R>) -> Result<OneAsymmetricKey> {
         deserialize_struct_as(deserializer)
     }
 
-    ghost tied = { Prim.assumption };
+    ghost proved = { Prim.assumption };
 }
 
 impl Begins for OneAsymmetricKey {
@@ -129,7 +129,7 @@ impl Notated for OneAsymmetricKey {
 pub type PrivateKeyInfo = OneAsymmetricKey;
 
 /// RFC 5958 calls it Version. `KeyVersion` of AsymmetricKeyPackageModuleV1, as an INTEGER with a
-/// name for each number. Every other content is rejected with `InvalidData`.
+/// name for each number. Every other content is refused with `InvalidData`.
 #[derive(Debug, Clone, Copy, PartialEq, Eq)]
 pub enum KeyVersion {
     /// `v1`, 0.
@@ -202,9 +202,9 @@ impl Serialize for KeyVersion {
 impl Deserialize for KeyVersion {
     ghost shape = { contents_shape 0x02 };
 
-    ghost known = { known_contents 0x02 (λ it. key_version_number it ∷ []) ⟦<Self as PartialEq>⟧.eq ⟦<Self as Contents>⟧.same };
+    ghost facts = { contents_facts 0x02 (λ it. key_version_number it ∷ []) ⟦<Self as PartialEq>⟧.eq ⟦<Self as Contents>⟧.same };
 
-    ghost tied = { Prim.assumption };
+    ghost proved = { Prim.assumption };
 
     fn deserialize<R: ReadExt>(deserializer: &mut Deserializer<R>) -> Result<KeyVersion> {
         deserialize_contents_as(deserializer)
@@ -277,7 +277,7 @@ impl Serialize for EncryptedPrivateKeyInfo {
 impl Deserialize for EncryptedPrivateKeyInfo {
     ghost shape = { sequence_shape ⟦<EncryptedPrivateKeyInfoParts as DeserializeMembers>⟧.layout };
 
-    ghost known = { known_struct ⟦<EncryptedPrivateKeyInfoParts as DeserializeMembers>⟧.known refl ⟦<Self as Struct>⟧.parts };
+    ghost facts = { struct_facts ⟦<EncryptedPrivateKeyInfoParts as DeserializeMembers>⟧.facts refl ⟦<Self as Struct>⟧.parts };
 
     fn deserialize<R: ReadExt>(
         deserializer: &mut Deserializer<R>,
@@ -285,7 +285,7 @@ impl Deserialize for EncryptedPrivateKeyInfo {
         deserialize_struct_as(deserializer)
     }
 
-    ghost tied = { Prim.assumption };
+    ghost proved = { Prim.assumption };
 }
 
 impl Begins for EncryptedPrivateKeyInfo {

@@ -2,7 +2,7 @@
 //!
 //! Types of ECPrivateKey.
 ghost use Rattle.std.specs.Prelude.{refl};
-ghost use Rattle.picky_der_de.specs.KnownMembers.{known_struct, sequence_of, sequence_shape};
+ghost use Rattle.picky_der_de.specs.MembersFacts.{sequence_of, sequence_shape, struct_facts};
 ghost use Rattle.der_types.specs.Notation.{Notation};
 
 use der_types::{BitString, InRange, Notated, NotatedMembers, ObjectIdentifier};
@@ -76,13 +76,13 @@ impl Serialize for EcPrivateKey {
 impl Deserialize for EcPrivateKey {
     ghost shape = { sequence_shape ⟦<EcPrivateKeyParts as DeserializeMembers>⟧.layout };
 
-    ghost known = { known_struct ⟦<EcPrivateKeyParts as DeserializeMembers>⟧.known refl ⟦<Self as Struct>⟧.parts };
+    ghost facts = { struct_facts ⟦<EcPrivateKeyParts as DeserializeMembers>⟧.facts refl ⟦<Self as Struct>⟧.parts };
 
     fn deserialize<R: ReadExt>(deserializer: &mut Deserializer<R>) -> Result<EcPrivateKey> {
         deserialize_struct_as(deserializer)
     }
 
-    ghost tied = { Prim.assumption };
+    ghost proved = { Prim.assumption };
 }
 
 impl Begins for EcPrivateKey {

@@ -4,17 +4,17 @@
 ghost use Rattle.std.specs.Prelude.{refl};
 ghost use Rattle.picky_der_core.specs.Shape.{Shape};
 ghost use Rattle.picky_der_de.specs.declared.alternatives.OneOf.TheVariants.{This};
-ghost use Rattle.picky_der_de.specs.declared.alternatives4.OneOf4.TheVariants.{First, Fourth, Later, Second, Third};
-ghost use Rattle.picky_der_de.specs.KnownChoices.{known_choice};
-ghost use Rattle.picky_der_de.specs.KnownMembers.{known_struct, sequence_of, sequence_shape};
+ghost use Rattle.picky_der_de.specs.declared.choice4.Choice4.TheVariants.{First, Fourth, Later, Second, Third};
+ghost use Rattle.picky_der_de.specs.ChoiceFacts.{choice_facts};
+ghost use Rattle.picky_der_de.specs.MembersFacts.{sequence_of, sequence_shape, struct_facts};
 ghost use Rattle.der_types.specs.Notation.{Notation};
 
 use der_types::{
     Ia5String, Notated, NotatedAlternatives, NotatedMembers, ObjectIdentifier, WithSize,
 };
 use der_x509::Name;
+use picky_asn1_der::Choice4::{First, Fourth, Later, Second, Third};
 use picky_asn1_der::OneOf::This;
-use picky_asn1_der::OneOf4::{First, Fourth, Later, Second, Third};
 use picky_asn1_der::asn1::{
     ByteBuf, ExplicitContextTag0, ExplicitContextTag4, ImplicitContextTag1, ImplicitContextTag2,
     ImplicitContextTag6, ImplicitContextTag7, ImplicitContextTag8, ImplicitList0, ImplicitList3,
@@ -23,8 +23,8 @@ use picky_asn1_der::asn1::{
 use picky_asn1_der::de::{Begins, deserialize_choice_as};
 use picky_asn1_der::misc::{ReadExt, WriteExt};
 use picky_asn1_der::{
-    Alternatives, Asn1RawDer, Choice, Deserialize, DeserializeMembers, Deserializer, List, NoneOf,
-    OneOf, OneOf4, Result, Serialize, SerializeMembers, Serializer, Struct, deserialize_struct_as,
+    Alternatives, Asn1RawDer, Choice, Choice4, Deserialize, DeserializeMembers, Deserializer, List,
+    NoneOf, OneOf, Result, Serialize, SerializeMembers, Serializer, Struct, deserialize_struct_as,
 };
 
 /// `SubjectAltName` of PKIX1Implicit88: `GeneralNames`.
@@ -56,12 +56,12 @@ pub enum GeneralName {
     RegisteredId(ImplicitContextTag8<ObjectIdentifier>),
 }
 
-type GeneralNameParts = OneOf4<
+type GeneralNameParts = Choice4<
     ImplicitList0<AnotherName>,
     ImplicitContextTag1<Ia5String>,
     ImplicitContextTag2<Ia5String>,
     ImplicitList3<OrAddress>,
-    OneOf4<
+    Choice4<
         ExplicitContextTag4<Name>,
         ImplicitList5<EdiPartyName>,
         ImplicitContextTag6<Ia5String>,
@@ -133,10 +133,10 @@ impl Deserialize for GeneralName {
 
     ghost shape = { Shape.choice ⟦<GeneralNameParts as Alternatives>⟧.shapes };
 
-    ghost known = { known_choice ⟦<GeneralNameParts as Alternatives>⟧.known refl ⟦<Self as Choice>⟧.parts ⟦<Self as PartialEq>⟧.eq
+    ghost facts = { choice_facts ⟦<GeneralNameParts as Alternatives>⟧.facts refl ⟦<Self as Choice>⟧.parts ⟦<Self as PartialEq>⟧.eq
         (elim [ variants.OtherName _ ↦ elim [ variants.OtherName _ ↦ λ h. h | _ ↦ λ h. h ] | _ ↦ elim [ variants.OtherName _ ↦ λ h. h | _ ↦ λ h. h ] ]) };
 
-    ghost tied = { Prim.assumption };
+    ghost proved = { Prim.assumption };
 
     fn deserialize<R: ReadExt>(deserializer: &mut Deserializer<R>) -> Result<GeneralName> {
         deserialize_choice_as(deserializer)
@@ -188,13 +188,13 @@ impl Serialize for AnotherName {
 impl Deserialize for AnotherName {
     ghost shape = { sequence_shape ⟦<AnotherNameParts as DeserializeMembers>⟧.layout };
 
-    ghost known = { known_struct ⟦<AnotherNameParts as DeserializeMembers>⟧.known refl ⟦<Self as Struct>⟧.parts };
+    ghost facts = { struct_facts ⟦<AnotherNameParts as DeserializeMembers>⟧.facts refl ⟦<Self as Struct>⟧.parts };
 
     fn deserialize<R: ReadExt>(deserializer: &mut Deserializer<R>) -> Result<AnotherName> {
         deserialize_struct_as(deserializer)
     }
 
-    ghost tied = { Prim.assumption };
+    ghost proved = { Prim.assumption };
 }
 
 impl Begins for AnotherName {

@@ -5,9 +5,9 @@ ghost use Rattle.std.proofs.Common.{lit≤};
 ghost use Rattle.std.specs.Prelude.{[], refl, ◌∷◌, ◌≡◌};
 ghost use Rattle.picky_der_core.specs.Shape.{Shape};
 ghost use Rattle.picky_der_de.specs.declared.alternatives.OneOf.TheVariants.{Other, This};
-ghost use Rattle.picky_der_de.specs.KnownChoices.{known_choice};
-ghost use Rattle.picky_der_de.specs.KnownMembers.{known_struct, sequence_of, sequence_shape};
-ghost use Rattle.der_types.specs.KnownContents.{contents_of, contents_shape, known_contents};
+ghost use Rattle.picky_der_de.specs.ChoiceFacts.{choice_facts};
+ghost use Rattle.picky_der_de.specs.MembersFacts.{sequence_of, sequence_shape, struct_facts};
+ghost use Rattle.der_types.specs.ContentsFacts.{contents_facts, contents_of, contents_shape};
 ghost use Rattle.der_types.specs.Notation.{Notation};
 ghost use Rattle.der_pkix.specs.Enumerations.{digested_object_type_number, is_digested_object_type, same_digested_object_type};
 
@@ -88,13 +88,13 @@ impl Serialize for Holder {
 impl Deserialize for Holder {
     ghost shape = { sequence_shape ⟦<HolderParts as DeserializeMembers>⟧.layout };
 
-    ghost known = { known_struct ⟦<HolderParts as DeserializeMembers>⟧.known refl ⟦<Self as Struct>⟧.parts };
+    ghost facts = { struct_facts ⟦<HolderParts as DeserializeMembers>⟧.facts refl ⟦<Self as Struct>⟧.parts };
 
     fn deserialize<R: ReadExt>(deserializer: &mut Deserializer<R>) -> Result<Holder> {
         deserialize_struct_as(deserializer)
     }
 
-    ghost tied = { Prim.assumption };
+    ghost proved = { Prim.assumption };
 }
 
 impl Begins for Holder {
@@ -180,13 +180,13 @@ impl Serialize for ObjectDigestInfo {
 impl Deserialize for ObjectDigestInfo {
     ghost shape = { sequence_shape ⟦<ObjectDigestInfoParts as DeserializeMembers>⟧.layout };
 
-    ghost known = { known_struct ⟦<ObjectDigestInfoParts as DeserializeMembers>⟧.known refl ⟦<Self as Struct>⟧.parts };
+    ghost facts = { struct_facts ⟦<ObjectDigestInfoParts as DeserializeMembers>⟧.facts refl ⟦<Self as Struct>⟧.parts };
 
     fn deserialize<R: ReadExt>(deserializer: &mut Deserializer<R>) -> Result<ObjectDigestInfo> {
         deserialize_struct_as(deserializer)
     }
 
-    ghost tied = { Prim.assumption };
+    ghost proved = { Prim.assumption };
 }
 
 impl Begins for ObjectDigestInfo {
@@ -206,7 +206,7 @@ impl Notated for ObjectDigestInfo {
 }
 
 /// RFC 5755 gives this type no name. `DigestedObjectType` of PKIXAttributeCertificate-2008, as an
-/// ENUMERATED. Every other content is rejected with `InvalidData`.
+/// ENUMERATED. Every other content is refused with `InvalidData`.
 #[derive(Debug, Clone, Copy, PartialEq, Eq)]
 pub enum DigestedObjectType {
     /// `publicKey`, 0.
@@ -284,9 +284,9 @@ impl Serialize for DigestedObjectType {
 impl Deserialize for DigestedObjectType {
     ghost shape = { contents_shape 0x0A };
 
-    ghost known = { known_contents 0x0A (λ it. digested_object_type_number it ∷ []) ⟦<Self as PartialEq>⟧.eq ⟦<Self as Contents>⟧.same };
+    ghost facts = { contents_facts 0x0A (λ it. digested_object_type_number it ∷ []) ⟦<Self as PartialEq>⟧.eq ⟦<Self as Contents>⟧.same };
 
-    ghost tied = { Prim.assumption };
+    ghost proved = { Prim.assumption };
 
     fn deserialize<R: ReadExt>(deserializer: &mut Deserializer<R>) -> Result<DigestedObjectType> {
         deserialize_contents_as(deserializer)
@@ -353,10 +353,10 @@ impl Deserialize for AttCertIssuer {
 
     ghost shape = { Shape.choice ⟦<AttCertIssuerParts as Alternatives>⟧.shapes };
 
-    ghost known = { known_choice ⟦<AttCertIssuerParts as Alternatives>⟧.known refl ⟦<Self as Choice>⟧.parts ⟦<Self as PartialEq>⟧.eq
+    ghost facts = { choice_facts ⟦<AttCertIssuerParts as Alternatives>⟧.facts refl ⟦<Self as Choice>⟧.parts ⟦<Self as PartialEq>⟧.eq
         (elim [ variants.V1Form _ ↦ elim [ variants.V1Form _ ↦ λ h. h | _ ↦ λ h. h ] | _ ↦ elim [ variants.V1Form _ ↦ λ h. h | _ ↦ λ h. h ] ]) };
 
-    ghost tied = { Prim.assumption };
+    ghost proved = { Prim.assumption };
 
     fn deserialize<R: ReadExt>(deserializer: &mut Deserializer<R>) -> Result<AttCertIssuer> {
         deserialize_choice_as(deserializer)
@@ -435,13 +435,13 @@ impl Serialize for V2Form {
 impl Deserialize for V2Form {
     ghost shape = { sequence_shape ⟦<V2FormParts as DeserializeMembers>⟧.layout };
 
-    ghost known = { known_struct ⟦<V2FormParts as DeserializeMembers>⟧.known refl ⟦<Self as Struct>⟧.parts };
+    ghost facts = { struct_facts ⟦<V2FormParts as DeserializeMembers>⟧.facts refl ⟦<Self as Struct>⟧.parts };
 
     fn deserialize<R: ReadExt>(deserializer: &mut Deserializer<R>) -> Result<V2Form> {
         deserialize_struct_as(deserializer)
     }
 
-    ghost tied = { Prim.assumption };
+    ghost proved = { Prim.assumption };
 }
 
 impl Begins for V2Form {
@@ -510,13 +510,13 @@ impl Serialize for IssuerSerial {
 impl Deserialize for IssuerSerial {
     ghost shape = { sequence_shape ⟦<IssuerSerialParts as DeserializeMembers>⟧.layout };
 
-    ghost known = { known_struct ⟦<IssuerSerialParts as DeserializeMembers>⟧.known refl ⟦<Self as Struct>⟧.parts };
+    ghost facts = { struct_facts ⟦<IssuerSerialParts as DeserializeMembers>⟧.facts refl ⟦<Self as Struct>⟧.parts };
 
     fn deserialize<R: ReadExt>(deserializer: &mut Deserializer<R>) -> Result<IssuerSerial> {
         deserialize_struct_as(deserializer)
     }
 
-    ghost tied = { Prim.assumption };
+    ghost proved = { Prim.assumption };
 }
 
 impl Begins for IssuerSerial {

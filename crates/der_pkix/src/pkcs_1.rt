@@ -2,7 +2,7 @@
 //!
 //! Types of PKCS-1.
 ghost use Rattle.std.specs.Prelude.{refl};
-ghost use Rattle.picky_der_de.specs.KnownMembers.{known_struct, sequence_of, sequence_shape};
+ghost use Rattle.picky_der_de.specs.MembersFacts.{sequence_of, sequence_shape, struct_facts};
 ghost use Rattle.der_types.specs.Notation.{Notation};
 
 use der_types::{Integer, Notated, NotatedMembers, WithSize};
@@ -51,13 +51,13 @@ impl Serialize for RsaPublicKey {
 impl Deserialize for RsaPublicKey {
     ghost shape = { sequence_shape ⟦<RsaPublicKeyParts as DeserializeMembers>⟧.layout };
 
-    ghost known = { known_struct ⟦<RsaPublicKeyParts as DeserializeMembers>⟧.known refl ⟦<Self as Struct>⟧.parts };
+    ghost facts = { struct_facts ⟦<RsaPublicKeyParts as DeserializeMembers>⟧.facts refl ⟦<Self as Struct>⟧.parts };
 
     fn deserialize<R: ReadExt>(deserializer: &mut Deserializer<R>) -> Result<RsaPublicKey> {
         deserialize_struct_as(deserializer)
     }
 
-    ghost tied = { Prim.assumption };
+    ghost proved = { Prim.assumption };
 }
 
 impl Begins for RsaPublicKey {
@@ -182,13 +182,13 @@ impl Serialize for RsaPrivateKey {
 impl Deserialize for RsaPrivateKey {
     ghost shape = { sequence_shape ⟦<RsaPrivateKeyParts as DeserializeMembers>⟧.layout };
 
-    ghost known = { known_struct ⟦<RsaPrivateKeyParts as DeserializeMembers>⟧.known refl ⟦<Self as Struct>⟧.parts };
+    ghost facts = { struct_facts ⟦<RsaPrivateKeyParts as DeserializeMembers>⟧.facts refl ⟦<Self as Struct>⟧.parts };
 
     fn deserialize<R: ReadExt>(deserializer: &mut Deserializer<R>) -> Result<RsaPrivateKey> {
         deserialize_struct_as(deserializer)
     }
 
-    ghost tied = { Prim.assumption };
+    ghost proved = { Prim.assumption };
 }
 
 impl Begins for RsaPrivateKey {
@@ -253,13 +253,13 @@ impl Serialize for OtherPrimeInfo {
 impl Deserialize for OtherPrimeInfo {
     ghost shape = { sequence_shape ⟦<OtherPrimeInfoParts as DeserializeMembers>⟧.layout };
 
-    ghost known = { known_struct ⟦<OtherPrimeInfoParts as DeserializeMembers>⟧.known refl ⟦<Self as Struct>⟧.parts };
+    ghost facts = { struct_facts ⟦<OtherPrimeInfoParts as DeserializeMembers>⟧.facts refl ⟦<Self as Struct>⟧.parts };
 
     fn deserialize<R: ReadExt>(deserializer: &mut Deserializer<R>) -> Result<OtherPrimeInfo> {
         deserialize_struct_as(deserializer)
     }
 
-    ghost tied = { Prim.assumption };
+    ghost proved = { Prim.assumption };
 }
 
 impl Begins for OtherPrimeInfo {

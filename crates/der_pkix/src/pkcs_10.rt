@@ -2,7 +2,7 @@
 //!
 //! Types of PKCS-10.
 ghost use Rattle.std.specs.Prelude.{refl};
-ghost use Rattle.picky_der_de.specs.KnownMembers.{known_struct, sequence_of, sequence_shape};
+ghost use Rattle.picky_der_de.specs.MembersFacts.{sequence_of, sequence_shape, struct_facts};
 ghost use Rattle.der_types.specs.Notation.{Notation};
 
 use crate::Attribute;
@@ -62,13 +62,13 @@ impl Serialize for CertificationRequest {
 impl Deserialize for CertificationRequest {
     ghost shape = { sequence_shape ⟦<CertificationRequestParts as DeserializeMembers>⟧.layout };
 
-    ghost known = { known_struct ⟦<CertificationRequestParts as DeserializeMembers>⟧.known refl ⟦<Self as Struct>⟧.parts };
+    ghost facts = { struct_facts ⟦<CertificationRequestParts as DeserializeMembers>⟧.facts refl ⟦<Self as Struct>⟧.parts };
 
     fn deserialize<R: ReadExt>(deserializer: &mut Deserializer<R>) -> Result<CertificationRequest> {
         deserialize_struct_as(deserializer)
     }
 
-    ghost tied = { Prim.assumption };
+    ghost proved = { Prim.assumption };
 }
 
 impl Begins for CertificationRequest {
@@ -142,7 +142,7 @@ impl Serialize for CertificationRequestInfo {
 impl Deserialize for CertificationRequestInfo {
     ghost shape = { sequence_shape ⟦<CertificationRequestInfoParts as DeserializeMembers>⟧.layout };
 
-    ghost known = { known_struct ⟦<CertificationRequestInfoParts as DeserializeMembers>⟧.known refl ⟦<Self as Struct>⟧.parts };
+    ghost facts = { struct_facts ⟦<CertificationRequestInfoParts as DeserializeMembers>⟧.facts refl ⟦<Self as Struct>⟧.parts };
 
     fn deserialize<R: ReadExt>(
         deserializer: &mut Deserializer<R>,
@@ -150,7 +150,7 @@ impl Deserialize for CertificationRequestInfo {
         deserialize_struct_as(deserializer)
     }
 
-    ghost tied = { Prim.assumption };
+    ghost proved = { Prim.assumption };
 }
 
 impl Begins for CertificationRequestInfo {

@@ -2,7 +2,7 @@
 //!
 //! Types of PKIX1Explicit88.
 ghost use Rattle.std.specs.Prelude.{refl};
-ghost use Rattle.picky_der_de.specs.KnownMembers.{known_struct, sequence_of, sequence_shape};
+ghost use Rattle.picky_der_de.specs.MembersFacts.{sequence_of, sequence_shape, struct_facts};
 ghost use Rattle.der_types.specs.Notation.{Notation};
 
 use der_types::{Notated, NotatedMembers, WithSize};
@@ -53,13 +53,13 @@ impl Serialize for Attribute {
 impl Deserialize for Attribute {
     ghost shape = { sequence_shape ⟦<AttributeParts as DeserializeMembers>⟧.layout };
 
-    ghost known = { known_struct ⟦<AttributeParts as DeserializeMembers>⟧.known refl ⟦<Self as Struct>⟧.parts };
+    ghost facts = { struct_facts ⟦<AttributeParts as DeserializeMembers>⟧.facts refl ⟦<Self as Struct>⟧.parts };
 
     fn deserialize<R: ReadExt>(deserializer: &mut Deserializer<R>) -> Result<Attribute> {
         deserialize_struct_as(deserializer)
     }
 
-    ghost tied = { Prim.assumption };
+    ghost proved = { Prim.assumption };
 }
 
 impl Begins for Attribute {

@@ -2,7 +2,7 @@
 //!
 //! Types of PKIX1Implicit88.
 ghost use Rattle.std.specs.Prelude.{refl};
-ghost use Rattle.picky_der_de.specs.KnownMembers.{known_struct, sequence_of, sequence_shape};
+ghost use Rattle.picky_der_de.specs.MembersFacts.{sequence_of, sequence_shape, struct_facts};
 ghost use Rattle.der_types.specs.Notation.{Notation};
 
 use crate::{GeneralName, GeneralNames};
@@ -80,7 +80,7 @@ impl Serialize for AuthorityKeyIdentifier {
 impl Deserialize for AuthorityKeyIdentifier {
     ghost shape = { sequence_shape ⟦<AuthorityKeyIdentifierParts as DeserializeMembers>⟧.layout };
 
-    ghost known = { known_struct ⟦<AuthorityKeyIdentifierParts as DeserializeMembers>⟧.known refl ⟦<Self as Struct>⟧.parts };
+    ghost facts = { struct_facts ⟦<AuthorityKeyIdentifierParts as DeserializeMembers>⟧.facts refl ⟦<Self as Struct>⟧.parts };
 
     fn deserialize<R: ReadExt>(
         deserializer: &mut Deserializer<R>,
@@ -88,7 +88,7 @@ impl Deserialize for AuthorityKeyIdentifier {
         deserialize_struct_as(deserializer)
     }
 
-    ghost tied = { Prim.assumption };
+    ghost proved = { Prim.assumption };
 }
 
 impl Begins for AuthorityKeyIdentifier {
@@ -156,13 +156,13 @@ impl Serialize for BasicConstraints {
 impl Deserialize for BasicConstraints {
     ghost shape = { sequence_shape ⟦<BasicConstraintsParts as DeserializeMembers>⟧.layout };
 
-    ghost known = { known_struct ⟦<BasicConstraintsParts as DeserializeMembers>⟧.known refl ⟦<Self as Struct>⟧.parts };
+    ghost facts = { struct_facts ⟦<BasicConstraintsParts as DeserializeMembers>⟧.facts refl ⟦<Self as Struct>⟧.parts };
 
     fn deserialize<R: ReadExt>(deserializer: &mut Deserializer<R>) -> Result<BasicConstraints> {
         deserialize_struct_as(deserializer)
     }
 
-    ghost tied = { Prim.assumption };
+    ghost proved = { Prim.assumption };
 }
 
 impl Begins for BasicConstraints {
@@ -229,13 +229,13 @@ impl Serialize for NameConstraints {
 impl Deserialize for NameConstraints {
     ghost shape = { sequence_shape ⟦<NameConstraintsParts as DeserializeMembers>⟧.layout };
 
-    ghost known = { known_struct ⟦<NameConstraintsParts as DeserializeMembers>⟧.known refl ⟦<Self as Struct>⟧.parts };
+    ghost facts = { struct_facts ⟦<NameConstraintsParts as DeserializeMembers>⟧.facts refl ⟦<Self as Struct>⟧.parts };
 
     fn deserialize<R: ReadExt>(deserializer: &mut Deserializer<R>) -> Result<NameConstraints> {
         deserialize_struct_as(deserializer)
     }
 
-    ghost tied = { Prim.assumption };
+    ghost proved = { Prim.assumption };
 }
 
 impl Begins for NameConstraints {
@@ -313,13 +313,13 @@ impl Serialize for GeneralSubtree {
 impl Deserialize for GeneralSubtree {
     ghost shape = { sequence_shape ⟦<GeneralSubtreeParts as DeserializeMembers>⟧.layout };
 
-    ghost known = { known_struct ⟦<GeneralSubtreeParts as DeserializeMembers>⟧.known refl ⟦<Self as Struct>⟧.parts };
+    ghost facts = { struct_facts ⟦<GeneralSubtreeParts as DeserializeMembers>⟧.facts refl ⟦<Self as Struct>⟧.parts };
 
     fn deserialize<R: ReadExt>(deserializer: &mut Deserializer<R>) -> Result<GeneralSubtree> {
         deserialize_struct_as(deserializer)
     }
 
-    ghost tied = { Prim.assumption };
+    ghost proved = { Prim.assumption };
 }
 
 impl Begins for GeneralSubtree {
@@ -391,13 +391,13 @@ impl Serialize for AccessDescription {
 impl Deserialize for AccessDescription {
     ghost shape = { sequence_shape ⟦<AccessDescriptionParts as DeserializeMembers>⟧.layout };
 
-    ghost known = { known_struct ⟦<AccessDescriptionParts as DeserializeMembers>⟧.known refl ⟦<Self as Struct>⟧.parts };
+    ghost facts = { struct_facts ⟦<AccessDescriptionParts as DeserializeMembers>⟧.facts refl ⟦<Self as Struct>⟧.parts };
 
     fn deserialize<R: ReadExt>(deserializer: &mut Deserializer<R>) -> Result<AccessDescription> {
         deserialize_struct_as(deserializer)
     }
 
-    ghost tied = { Prim.assumption };
+    ghost proved = { Prim.assumption };
 }
 
 impl Begins for AccessDescription {

@@ -4,8 +4,8 @@
 ghost use Rattle.std.specs.Prelude.{refl};
 ghost use Rattle.picky_der_core.specs.Shape.{Shape};
 ghost use Rattle.picky_der_de.specs.declared.alternatives.OneOf.TheVariants.{Other, This};
-ghost use Rattle.picky_der_de.specs.KnownChoices.{known_choice};
-ghost use Rattle.picky_der_de.specs.KnownMembers.{known_struct, sequence_of, sequence_shape};
+ghost use Rattle.picky_der_de.specs.ChoiceFacts.{choice_facts};
+ghost use Rattle.picky_der_de.specs.MembersFacts.{sequence_of, sequence_shape, struct_facts};
 ghost use Rattle.der_types.specs.Notation.{Notation};
 
 use crate::{AttCertIssuer, Attribute, GeneralName, Holder, IssuerSerial, ObjectDigestInfo};
@@ -72,13 +72,13 @@ impl Serialize for AttributeCertificate {
 impl Deserialize for AttributeCertificate {
     ghost shape = { sequence_shape ⟦<AttributeCertificateParts as DeserializeMembers>⟧.layout };
 
-    ghost known = { known_struct ⟦<AttributeCertificateParts as DeserializeMembers>⟧.known refl ⟦<Self as Struct>⟧.parts };
+    ghost facts = { struct_facts ⟦<AttributeCertificateParts as DeserializeMembers>⟧.facts refl ⟦<Self as Struct>⟧.parts };
 
     fn deserialize<R: ReadExt>(deserializer: &mut Deserializer<R>) -> Result<AttributeCertificate> {
         deserialize_struct_as(deserializer)
     }
 
-    ghost tied = { Prim.assumption };
+    ghost proved = { Prim.assumption };
 }
 
 impl Begins for AttributeCertificate {
@@ -199,7 +199,7 @@ impl Serialize for AttributeCertificateInfo {
 impl Deserialize for AttributeCertificateInfo {
     ghost shape = { sequence_shape ⟦<AttributeCertificateInfoParts as DeserializeMembers>⟧.layout };
 
-    ghost known = { known_struct ⟦<AttributeCertificateInfoParts as DeserializeMembers>⟧.known refl ⟦<Self as Struct>⟧.parts };
+    ghost facts = { struct_facts ⟦<AttributeCertificateInfoParts as DeserializeMembers>⟧.facts refl ⟦<Self as Struct>⟧.parts };
 
     fn deserialize<R: ReadExt>(
         deserializer: &mut Deserializer<R>,
@@ -207,7 +207,7 @@ impl Deserialize for AttributeCertificateInfo {
         deserialize_struct_as(deserializer)
     }
 
-    ghost tied = { Prim.assumption };
+    ghost proved = { Prim.assumption };
 }
 
 impl Begins for AttributeCertificateInfo {
@@ -270,7 +270,7 @@ impl Serialize for AttCertValidityPeriod {
 impl Deserialize for AttCertValidityPeriod {
     ghost shape = { sequence_shape ⟦<AttCertValidityPeriodParts as DeserializeMembers>⟧.layout };
 
-    ghost known = { known_struct ⟦<AttCertValidityPeriodParts as DeserializeMembers>⟧.known refl ⟦<Self as Struct>⟧.parts };
+    ghost facts = { struct_facts ⟦<AttCertValidityPeriodParts as DeserializeMembers>⟧.facts refl ⟦<Self as Struct>⟧.parts };
 
     fn deserialize<R: ReadExt>(
         deserializer: &mut Deserializer<R>,
@@ -278,7 +278,7 @@ impl Deserialize for AttCertValidityPeriod {
         deserialize_struct_as(deserializer)
     }
 
-    ghost tied = { Prim.assumption };
+    ghost proved = { Prim.assumption };
 }
 
 impl Begins for AttCertValidityPeriod {
@@ -357,10 +357,10 @@ impl Deserialize for Target {
 
     ghost shape = { Shape.choice ⟦<TargetParts as Alternatives>⟧.shapes };
 
-    ghost known = { known_choice ⟦<TargetParts as Alternatives>⟧.known refl ⟦<Self as Choice>⟧.parts ⟦<Self as PartialEq>⟧.eq
+    ghost facts = { choice_facts ⟦<TargetParts as Alternatives>⟧.facts refl ⟦<Self as Choice>⟧.parts ⟦<Self as PartialEq>⟧.eq
         (elim [ variants.TargetName _ ↦ elim [ variants.TargetName _ ↦ λ h. h | _ ↦ λ h. h ] | _ ↦ elim [ variants.TargetName _ ↦ λ h. h | _ ↦ λ h. h ] ]) };
 
-    ghost tied = { Prim.assumption };
+    ghost proved = { Prim.assumption };
 
     fn deserialize<R: ReadExt>(deserializer: &mut Deserializer<R>) -> Result<Target> {
         deserialize_choice_as(deserializer)
@@ -434,13 +434,13 @@ impl Serialize for TargetCert {
 impl Deserialize for TargetCert {
     ghost shape = { sequence_shape ⟦<TargetCertParts as DeserializeMembers>⟧.layout };
 
-    ghost known = { known_struct ⟦<TargetCertParts as DeserializeMembers>⟧.known refl ⟦<Self as Struct>⟧.parts };
+    ghost facts = { struct_facts ⟦<TargetCertParts as DeserializeMembers>⟧.facts refl ⟦<Self as Struct>⟧.parts };
 
     fn deserialize<R: ReadExt>(deserializer: &mut Deserializer<R>) -> Result<TargetCert> {
         deserialize_struct_as(deserializer)
     }
 
-    ghost tied = { Prim.assumption };
+    ghost proved = { Prim.assumption };
 }
 
 impl Begins for TargetCert {
@@ -531,13 +531,13 @@ impl Serialize for AaControls {
 impl Deserialize for AaControls {
     ghost shape = { sequence_shape ⟦<AaControlsParts as DeserializeMembers>⟧.layout };
 
-    ghost known = { known_struct ⟦<AaControlsParts as DeserializeMembers>⟧.known refl ⟦<Self as Struct>⟧.parts };
+    ghost facts = { struct_facts ⟦<AaControlsParts as DeserializeMembers>⟧.facts refl ⟦<Self as Struct>⟧.parts };
 
     fn deserialize<R: ReadExt>(deserializer: &mut Deserializer<R>) -> Result<AaControls> {
         deserialize_struct_as(deserializer)
     }
 
-    ghost tied = { Prim.assumption };
+    ghost proved = { Prim.assumption };
 }
 
 impl Begins for AaControls {

@@ -3,23 +3,23 @@
 //! Types of PKIX1Implicit88.
 ghost use Rattle.std.specs.Prelude.{refl};
 ghost use Rattle.picky_der_core.specs.Shape.{Shape};
-ghost use Rattle.picky_der_de.specs.declared.alternatives4.OneOf4.TheVariants.{First, Fourth, Second, Third};
-ghost use Rattle.picky_der_de.specs.KnownChoices.{known_choice};
-ghost use Rattle.picky_der_de.specs.KnownMembers.{known_struct, sequence_of, sequence_shape};
+ghost use Rattle.picky_der_de.specs.declared.choice4.Choice4.TheVariants.{First, Fourth, Second, Third};
+ghost use Rattle.picky_der_de.specs.ChoiceFacts.{choice_facts};
+ghost use Rattle.picky_der_de.specs.MembersFacts.{sequence_of, sequence_shape, struct_facts};
 ghost use Rattle.der_types.specs.Notation.{Notation};
 
 use der_types::{
     BmpString, Ia5String, Integer, Notated, NotatedAlternatives, NotatedMembers, ObjectIdentifier,
     VisibleString, WithSize,
 };
-use picky_asn1_der::OneOf4::{First, Fourth, Second, Third};
+use picky_asn1_der::Choice4::{First, Fourth, Second, Third};
 use picky_asn1_der::asn1::{ImplicitContextTag0, ImplicitContextTag1, Tag};
 use picky_asn1_der::de::{Begins, deserialize_choice_as};
 use picky_asn1_der::misc::{ReadExt, WriteExt};
 use picky_asn1_der::ser::{Optional, OptionalRef};
 use picky_asn1_der::{
-    Alternatives, Asn1RawDer, Choice, Deserialize, DeserializeMembers, Deserializer, List, NoneOf,
-    OneOf4, Result, Serialize, SerializeMembers, Serializer, Struct, deserialize_struct_as,
+    Alternatives, Asn1RawDer, Choice, Choice4, Deserialize, DeserializeMembers, Deserializer, List,
+    NoneOf, Result, Serialize, SerializeMembers, Serializer, Struct, deserialize_struct_as,
 };
 
 /// `CertificatePolicies` of PKIX1Implicit88: `SEQUENCE SIZE (1..MAX) OF PolicyInformation`.
@@ -70,13 +70,13 @@ impl Serialize for PolicyInformation {
 impl Deserialize for PolicyInformation {
     ghost shape = { sequence_shape ⟦<PolicyInformationParts as DeserializeMembers>⟧.layout };
 
-    ghost known = { known_struct ⟦<PolicyInformationParts as DeserializeMembers>⟧.known refl ⟦<Self as Struct>⟧.parts };
+    ghost facts = { struct_facts ⟦<PolicyInformationParts as DeserializeMembers>⟧.facts refl ⟦<Self as Struct>⟧.parts };
 
     fn deserialize<R: ReadExt>(deserializer: &mut Deserializer<R>) -> Result<PolicyInformation> {
         deserialize_struct_as(deserializer)
     }
 
-    ghost tied = { Prim.assumption };
+    ghost proved = { Prim.assumption };
 }
 
 impl Begins for PolicyInformation {
@@ -134,13 +134,13 @@ impl Serialize for PolicyQualifierInfo {
 impl Deserialize for PolicyQualifierInfo {
     ghost shape = { sequence_shape ⟦<PolicyQualifierInfoParts as DeserializeMembers>⟧.layout };
 
-    ghost known = { known_struct ⟦<PolicyQualifierInfoParts as DeserializeMembers>⟧.known refl ⟦<Self as Struct>⟧.parts };
+    ghost facts = { struct_facts ⟦<PolicyQualifierInfoParts as DeserializeMembers>⟧.facts refl ⟦<Self as Struct>⟧.parts };
 
     fn deserialize<R: ReadExt>(deserializer: &mut Deserializer<R>) -> Result<PolicyQualifierInfo> {
         deserialize_struct_as(deserializer)
     }
 
-    ghost tied = { Prim.assumption };
+    ghost proved = { Prim.assumption };
 }
 
 impl Begins for PolicyQualifierInfo {
@@ -206,13 +206,13 @@ impl Serialize for UserNotice {
 impl Deserialize for UserNotice {
     ghost shape = { sequence_shape ⟦<UserNoticeParts as DeserializeMembers>⟧.layout };
 
-    ghost known = { known_struct ⟦<UserNoticeParts as DeserializeMembers>⟧.known refl ⟦<Self as Struct>⟧.parts };
+    ghost facts = { struct_facts ⟦<UserNoticeParts as DeserializeMembers>⟧.facts refl ⟦<Self as Struct>⟧.parts };
 
     fn deserialize<R: ReadExt>(deserializer: &mut Deserializer<R>) -> Result<UserNotice> {
         deserialize_struct_as(deserializer)
     }
 
-    ghost tied = { Prim.assumption };
+    ghost proved = { Prim.assumption };
 }
 
 impl Begins for UserNotice {
@@ -267,13 +267,13 @@ impl Serialize for NoticeReference {
 impl Deserialize for NoticeReference {
     ghost shape = { sequence_shape ⟦<NoticeReferenceParts as DeserializeMembers>⟧.layout };
 
-    ghost known = { known_struct ⟦<NoticeReferenceParts as DeserializeMembers>⟧.known refl ⟦<Self as Struct>⟧.parts };
+    ghost facts = { struct_facts ⟦<NoticeReferenceParts as DeserializeMembers>⟧.facts refl ⟦<Self as Struct>⟧.parts };
 
     fn deserialize<R: ReadExt>(deserializer: &mut Deserializer<R>) -> Result<NoticeReference> {
         deserialize_struct_as(deserializer)
     }
 
-    ghost tied = { Prim.assumption };
+    ghost proved = { Prim.assumption };
 }
 
 impl Begins for NoticeReference {
@@ -305,7 +305,7 @@ pub enum DisplayText {
     Utf8String(WithSize<String, 1, 200>),
 }
 
-type DisplayTextParts = OneOf4<
+type DisplayTextParts = Choice4<
     WithSize<Ia5String, 1, 200>,
     WithSize<VisibleString, 1, 200>,
     WithSize<BmpString, 1, 200>,
@@ -355,10 +355,10 @@ impl Deserialize for DisplayText {
 
     ghost shape = { Shape.choice ⟦<DisplayTextParts as Alternatives>⟧.shapes };
 
-    ghost known = { known_choice ⟦<DisplayTextParts as Alternatives>⟧.known refl ⟦<Self as Choice>⟧.parts ⟦<Self as PartialEq>⟧.eq
+    ghost facts = { choice_facts ⟦<DisplayTextParts as Alternatives>⟧.facts refl ⟦<Self as Choice>⟧.parts ⟦<Self as PartialEq>⟧.eq
         (elim [ variants.Ia5String _ ↦ elim [ variants.Ia5String _ ↦ λ h. h | _ ↦ λ h. h ] | _ ↦ elim [ variants.Ia5String _ ↦ λ h. h | _ ↦ λ h. h ] ]) };
 
-    ghost tied = { Prim.assumption };
+    ghost proved = { Prim.assumption };
 
     fn deserialize<R: ReadExt>(deserializer: &mut Deserializer<R>) -> Result<DisplayText> {
         deserialize_choice_as(deserializer)
@@ -417,13 +417,13 @@ impl Serialize for PolicyMappingsItem {
 impl Deserialize for PolicyMappingsItem {
     ghost shape = { sequence_shape ⟦<PolicyMappingsItemParts as DeserializeMembers>⟧.layout };
 
-    ghost known = { known_struct ⟦<PolicyMappingsItemParts as DeserializeMembers>⟧.known refl ⟦<Self as Struct>⟧.parts };
+    ghost facts = { struct_facts ⟦<PolicyMappingsItemParts as DeserializeMembers>⟧.facts refl ⟦<Self as Struct>⟧.parts };
 
     fn deserialize<R: ReadExt>(deserializer: &mut Deserializer<R>) -> Result<PolicyMappingsItem> {
         deserialize_struct_as(deserializer)
     }
 
-    ghost tied = { Prim.assumption };
+    ghost proved = { Prim.assumption };
 }
 
 impl Begins for PolicyMappingsItem {
@@ -489,13 +489,13 @@ impl Serialize for PolicyConstraints {
 impl Deserialize for PolicyConstraints {
     ghost shape = { sequence_shape ⟦<PolicyConstraintsParts as DeserializeMembers>⟧.layout };
 
-    ghost known = { known_struct ⟦<PolicyConstraintsParts as DeserializeMembers>⟧.known refl ⟦<Self as Struct>⟧.parts };
+    ghost facts = { struct_facts ⟦<PolicyConstraintsParts as DeserializeMembers>⟧.facts refl ⟦<Self as Struct>⟧.parts };
 
     fn deserialize<R: ReadExt>(deserializer: &mut Deserializer<R>) -> Result<PolicyConstraints> {
         deserialize_struct_as(deserializer)
     }
 
-    ghost tied = { Prim.assumption };
+    ghost proved = { Prim.assumption };
 }
 
 impl Begins for PolicyConstraints {

@@ -4,8 +4,8 @@
 ghost use Rattle.std.specs.Prelude.{refl};
 ghost use Rattle.picky_der_core.specs.Shape.{Shape};
 ghost use Rattle.picky_der_de.specs.declared.alternatives.OneOf.TheVariants.{Other, This};
-ghost use Rattle.picky_der_de.specs.KnownChoices.{known_choice};
-ghost use Rattle.picky_der_de.specs.KnownMembers.{known_struct, sequence_of, sequence_shape};
+ghost use Rattle.picky_der_de.specs.ChoiceFacts.{choice_facts};
+ghost use Rattle.picky_der_de.specs.MembersFacts.{sequence_of, sequence_shape, struct_facts};
 ghost use Rattle.der_types.specs.Notation.{Notation};
 
 use crate::{Attribute, GeneralName, GeneralNames};
@@ -64,13 +64,13 @@ impl Serialize for IetfAttrSyntax {
 impl Deserialize for IetfAttrSyntax {
     ghost shape = { sequence_shape ⟦<IetfAttrSyntaxParts as DeserializeMembers>⟧.layout };
 
-    ghost known = { known_struct ⟦<IetfAttrSyntaxParts as DeserializeMembers>⟧.known refl ⟦<Self as Struct>⟧.parts };
+    ghost facts = { struct_facts ⟦<IetfAttrSyntaxParts as DeserializeMembers>⟧.facts refl ⟦<Self as Struct>⟧.parts };
 
     fn deserialize<R: ReadExt>(deserializer: &mut Deserializer<R>) -> Result<IetfAttrSyntax> {
         deserialize_struct_as(deserializer)
     }
 
-    ghost tied = { Prim.assumption };
+    ghost proved = { Prim.assumption };
 }
 
 impl Begins for IetfAttrSyntax {
@@ -139,10 +139,10 @@ impl Deserialize for IetfAttrValue {
 
     ghost shape = { Shape.choice ⟦<IetfAttrValueParts as Alternatives>⟧.shapes };
 
-    ghost known = { known_choice ⟦<IetfAttrValueParts as Alternatives>⟧.known refl ⟦<Self as Choice>⟧.parts ⟦<Self as PartialEq>⟧.eq
+    ghost facts = { choice_facts ⟦<IetfAttrValueParts as Alternatives>⟧.facts refl ⟦<Self as Choice>⟧.parts ⟦<Self as PartialEq>⟧.eq
         (elim [ variants.Octets _ ↦ elim [ variants.Octets _ ↦ λ h. h | _ ↦ λ h. h ] | _ ↦ elim [ variants.Octets _ ↦ λ h. h | _ ↦ λ h. h ] ]) };
 
-    ghost tied = { Prim.assumption };
+    ghost proved = { Prim.assumption };
 
     fn deserialize<R: ReadExt>(deserializer: &mut Deserializer<R>) -> Result<IetfAttrValue> {
         deserialize_choice_as(deserializer)
@@ -202,13 +202,13 @@ impl Serialize for SvceAuthInfo {
 impl Deserialize for SvceAuthInfo {
     ghost shape = { sequence_shape ⟦<SvceAuthInfoParts as DeserializeMembers>⟧.layout };
 
-    ghost known = { known_struct ⟦<SvceAuthInfoParts as DeserializeMembers>⟧.known refl ⟦<Self as Struct>⟧.parts };
+    ghost facts = { struct_facts ⟦<SvceAuthInfoParts as DeserializeMembers>⟧.facts refl ⟦<Self as Struct>⟧.parts };
 
     fn deserialize<R: ReadExt>(deserializer: &mut Deserializer<R>) -> Result<SvceAuthInfo> {
         deserialize_struct_as(deserializer)
     }
 
-    ghost tied = { Prim.assumption };
+    ghost proved = { Prim.assumption };
 }
 
 impl Begins for SvceAuthInfo {
@@ -267,13 +267,13 @@ impl Serialize for RoleSyntax {
 impl Deserialize for RoleSyntax {
     ghost shape = { sequence_shape ⟦<RoleSyntaxParts as DeserializeMembers>⟧.layout };
 
-    ghost known = { known_struct ⟦<RoleSyntaxParts as DeserializeMembers>⟧.known refl ⟦<Self as Struct>⟧.parts };
+    ghost facts = { struct_facts ⟦<RoleSyntaxParts as DeserializeMembers>⟧.facts refl ⟦<Self as Struct>⟧.parts };
 
     fn deserialize<R: ReadExt>(deserializer: &mut Deserializer<R>) -> Result<RoleSyntax> {
         deserialize_struct_as(deserializer)
     }
 
-    ghost tied = { Prim.assumption };
+    ghost proved = { Prim.assumption };
 }
 
 impl Begins for RoleSyntax {
@@ -345,13 +345,13 @@ impl Serialize for Clearance {
 impl Deserialize for Clearance {
     ghost shape = { sequence_shape ⟦<ClearanceParts as DeserializeMembers>⟧.layout };
 
-    ghost known = { known_struct ⟦<ClearanceParts as DeserializeMembers>⟧.known refl ⟦<Self as Struct>⟧.parts };
+    ghost facts = { struct_facts ⟦<ClearanceParts as DeserializeMembers>⟧.facts refl ⟦<Self as Struct>⟧.parts };
 
     fn deserialize<R: ReadExt>(deserializer: &mut Deserializer<R>) -> Result<Clearance> {
         deserialize_struct_as(deserializer)
     }
 
-    ghost tied = { Prim.assumption };
+    ghost proved = { Prim.assumption };
 }
 
 impl Begins for Clearance {
@@ -411,13 +411,13 @@ impl Serialize for SecurityCategory {
 impl Deserialize for SecurityCategory {
     ghost shape = { sequence_shape ⟦<SecurityCategoryParts as DeserializeMembers>⟧.layout };
 
-    ghost known = { known_struct ⟦<SecurityCategoryParts as DeserializeMembers>⟧.known refl ⟦<Self as Struct>⟧.parts };
+    ghost facts = { struct_facts ⟦<SecurityCategoryParts as DeserializeMembers>⟧.facts refl ⟦<Self as Struct>⟧.parts };
 
     fn deserialize<R: ReadExt>(deserializer: &mut Deserializer<R>) -> Result<SecurityCategory> {
         deserialize_struct_as(deserializer)
     }
 
-    ghost tied = { Prim.assumption };
+    ghost proved = { Prim.assumption };
 }
 
 impl Begins for SecurityCategory {
@@ -476,13 +476,13 @@ impl Serialize for AcClearAttrs {
 impl Deserialize for AcClearAttrs {
     ghost shape = { sequence_shape ⟦<AcClearAttrsParts as DeserializeMembers>⟧.layout };
 
-    ghost known = { known_struct ⟦<AcClearAttrsParts as DeserializeMembers>⟧.known refl ⟦<Self as Struct>⟧.parts };
+    ghost facts = { struct_facts ⟦<AcClearAttrsParts as DeserializeMembers>⟧.facts refl ⟦<Self as Struct>⟧.parts };
 
     fn deserialize<R: ReadExt>(deserializer: &mut Deserializer<R>) -> Result<AcClearAttrs> {
         deserialize_struct_as(deserializer)
     }
 
-    ghost tied = { Prim.assumption };
+    ghost proved = { Prim.assumption };
 }
 
 impl Begins for AcClearAttrs {

@@ -5,9 +5,9 @@ ghost use Rattle.std.proofs.Common.{lit≤};
 ghost use Rattle.std.specs.Prelude.{[], refl, ◌∷◌, ◌≡◌};
 ghost use Rattle.picky_der_core.specs.Shape.{Shape};
 ghost use Rattle.picky_der_de.specs.declared.alternatives.OneOf.TheVariants.{Other, This};
-ghost use Rattle.picky_der_de.specs.KnownChoices.{known_choice};
-ghost use Rattle.picky_der_de.specs.KnownMembers.{known_struct, sequence_of, sequence_shape};
-ghost use Rattle.der_types.specs.KnownContents.{contents_of, contents_shape, known_contents};
+ghost use Rattle.picky_der_de.specs.ChoiceFacts.{choice_facts};
+ghost use Rattle.picky_der_de.specs.MembersFacts.{sequence_of, sequence_shape, struct_facts};
+ghost use Rattle.der_types.specs.ContentsFacts.{contents_facts, contents_of, contents_shape};
 ghost use Rattle.der_types.specs.Notation.{Notation};
 ghost use Rattle.der_pkix.specs.Enumerations.{crl_reason_number, is_crl_reason, same_crl_reason};
 
@@ -88,13 +88,13 @@ impl Serialize for DistributionPoint {
 impl Deserialize for DistributionPoint {
     ghost shape = { sequence_shape ⟦<DistributionPointParts as DeserializeMembers>⟧.layout };
 
-    ghost known = { known_struct ⟦<DistributionPointParts as DeserializeMembers>⟧.known refl ⟦<Self as Struct>⟧.parts };
+    ghost facts = { struct_facts ⟦<DistributionPointParts as DeserializeMembers>⟧.facts refl ⟦<Self as Struct>⟧.parts };
 
     fn deserialize<R: ReadExt>(deserializer: &mut Deserializer<R>) -> Result<DistributionPoint> {
         deserialize_struct_as(deserializer)
     }
 
-    ghost tied = { Prim.assumption };
+    ghost proved = { Prim.assumption };
 }
 
 impl Begins for DistributionPoint {
@@ -162,10 +162,10 @@ impl Deserialize for DistributionPointName {
 
     ghost shape = { Shape.choice ⟦<DistributionPointNameParts as Alternatives>⟧.shapes };
 
-    ghost known = { known_choice ⟦<DistributionPointNameParts as Alternatives>⟧.known refl ⟦<Self as Choice>⟧.parts ⟦<Self as PartialEq>⟧.eq
+    ghost facts = { choice_facts ⟦<DistributionPointNameParts as Alternatives>⟧.facts refl ⟦<Self as Choice>⟧.parts ⟦<Self as PartialEq>⟧.eq
         (elim [ variants.FullName _ ↦ elim [ variants.FullName _ ↦ λ h. h | _ ↦ λ h. h ] | _ ↦ elim [ variants.FullName _ ↦ λ h. h | _ ↦ λ h. h ] ]) };
 
-    ghost tied = { Prim.assumption };
+    ghost proved = { Prim.assumption };
 
     fn deserialize<R: ReadExt>(
         deserializer: &mut Deserializer<R>,
@@ -287,7 +287,7 @@ impl Serialize for IssuingDistributionPoint {
 impl Deserialize for IssuingDistributionPoint {
     ghost shape = { sequence_shape ⟦<IssuingDistributionPointParts as DeserializeMembers>⟧.layout };
 
-    ghost known = { known_struct ⟦<IssuingDistributionPointParts as DeserializeMembers>⟧.known refl ⟦<Self as Struct>⟧.parts };
+    ghost facts = { struct_facts ⟦<IssuingDistributionPointParts as DeserializeMembers>⟧.facts refl ⟦<Self as Struct>⟧.parts };
 
     fn deserialize<R: ReadExt>(
         deserializer: &mut Deserializer<R>,
@@ -295,7 +295,7 @@ impl Deserialize for IssuingDistributionPoint {
         deserialize_struct_as(deserializer)
     }
 
-    ghost tied = { Prim.assumption };
+    ghost proved = { Prim.assumption };
 }
 
 impl Begins for IssuingDistributionPoint {
@@ -314,7 +314,7 @@ impl Notated for IssuingDistributionPoint {
     ghost denoted = { refl };
 }
 
-/// `CRLReason` of PKIX1Implicit88, as an ENUMERATED. Every other content is rejected with
+/// `CRLReason` of PKIX1Implicit88, as an ENUMERATED. Every other content is refused with
 /// `InvalidData`.
 #[derive(Debug, Clone, Copy, PartialEq, Eq)]
 pub enum CrlReason {
@@ -428,9 +428,9 @@ impl Serialize for CrlReason {
 impl Deserialize for CrlReason {
     ghost shape = { contents_shape 0x0A };
 
-    ghost known = { known_contents 0x0A (λ it. crl_reason_number it ∷ []) ⟦<Self as PartialEq>⟧.eq ⟦<Self as Contents>⟧.same };
+    ghost facts = { contents_facts 0x0A (λ it. crl_reason_number it ∷ []) ⟦<Self as PartialEq>⟧.eq ⟦<Self as Contents>⟧.same };
 
-    ghost tied = { Prim.assumption };
+    ghost proved = { Prim.assumption };
 
     fn deserialize<R: ReadExt>(deserializer: &mut Deserializer<R>) -> Result<CrlReason> {
         deserialize_contents_as(deserializer)

@@ -7,15 +7,15 @@ use Rattle.picky_der_core.specs.declared.error.Asn1DerError.TheVariants.{Unsuppo
 use Rattle.picky_der_core.specs.declared.misc.writer.WriteExt.{Ghosts}
 use Rattle.picky_der_core.specs.Error.{error_of_kind}
 use Rattle.picky_der_core.specs.Faults.{Fault}
-use Rattle.picky_der_core.specs.Reader.{TellsFault}
+use Rattle.picky_der_core.specs.Reader.{ReportsFault}
 use Rattle.picky_der_core.specs.WriterFaults.{fails_since}
 use Rattle.der_program_base.specs.Text.{IsLine}
 use Rattle.der_program_base.specs.Run.{StopsLine, no_memory, no_sink, not_ended, just_ended, WroteWhole, Stops, memory, reader, writer, too_long}
 use Rattle.der_program_base.proofs.RunSteps.{RunsOn, reads_byte, reads_nothing, begins, begins_last, too_many}
 
 -- the reader failed once since then
-pub fault_told : {before between after : List Fault} {left : Option (List ℕ)} {e : Asn1DerError} {k : ErrorKind} → between ≡ before → after ≡ record { kind = k; left = left } ∷ between → e ≡ error_of_kind k → TellsFault before after left e
-fault_told {left = left} {k = k} kept once is = TellsFault.fault k (once ∙ ap (λ l. record { kind = k; left = left } ∷ l) kept) is
+pub fault_reported : {before between after : List Fault} {left : Option (List ℕ)} {e : Asn1DerError} {k : ErrorKind} → between ≡ before → after ≡ record { kind = k; left = left } ∷ between → e ≡ error_of_kind k → ReportsFault before after left e
+fault_reported {left = left} {k = k} kept once is = ReportsFault.fault k (once ∙ ap (λ l. record { kind = k; left = left } ∷ l) kept) is
 
 module _ {IsAnswer : List ℕ → List ℕ → Type 0} {W : Type 0} (g : Ghosts W) {a b : Option (List ℕ)} {w v : W} {line : List ℕ} {count : ℕ} (h : RunsOn IsAnswer a b (g.written w) (g.written v) line count) (i j : List Fault) where
   -- the reader failed

@@ -166,8 +166,8 @@ module _ (lines : List (Bor (List ℕ))) (start : ℕ) (block : Block) (rest : L
       ∙ length-append (lines_in first.section) (texts rest)
       ∙ ap (λ n. length (lines_in first.section) + n) (length-texts rest)
 
-  pub goes_on : (length rest ≤ length lines) × (start < length lines - length rest)
-  goes_on = (omega (arith, counted, within), omega (arith, counted, within, some_lines first.section))
+  pub continues : (length rest ≤ length lines) × (start < length lines - length rest)
+  continues = (omega (arith, counted, within), omega (arith, counted, within, some_lines first.section))
 
   left_after : texts (drop (length lines - length rest) lines) ≡ texts rest
   left_after =

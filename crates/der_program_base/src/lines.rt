@@ -1,7 +1,7 @@
 //! The lines of an input, one after another, and their answers.
 ghost use Rattle.std.specs.Prelude.{◌≡◌, ℕ, List, IfOk, OnOk, IfErr, string_bytes};
 ghost use Rattle.std.specs.Io.KnownBytes.{IsAtEnd};
-ghost use Rattle.picky_der_core.specs.Reader.{TellsFault};
+ghost use Rattle.picky_der_core.specs.Reader.{ReportsFault};
 ghost use Rattle.picky_der_core.specs.WriterFaults.{IsOnceAtMost};
 ghost use Rattle.der_program_base.specs.Run.{AnswersLine, Stops, StopsLine};
 ghost use Rattle.der_program_base.specs.Text.{WritesAnswers};
@@ -16,7 +16,7 @@ pub trait Answers {
     ghost is_answer: { List ℕ → List ℕ → Type 0 };
 
     /// Returns the answer to a line. The only error is `OutOfMemory`.
-    fn answer_to(alloc: Global, line: &[u8]) -> Result<String>
+    fn output_of(alloc: Global, line: &[u8]) -> Result<String>
         ensures ok { IfOk result (λ text. is_answer line.now (string_bytes text)) }
         ensures err { IfErr result (λ e. e ≡ Asn1DerError.OutOfMemory) };
 }
@@ -27,9 +27,9 @@ fn answer_line<A: Answers, W: WriteExt>(alloc: Global, line: &[u8], output: &mut
     ensures err { IfErr result (StopsLine A.is_answer W.WriteExt.own line.now output.old output.new) }
     ensures counted { IsOnceAtMost (W.faults output.old) (W.faults output.new) }
     ensures no_fault { OnOk result (W.faults output.new ≡ W.faults output.old) }
-    ensures goes_on { W.later output.old output.new }
+    ensures continues { W.later output.old output.new }
 {
-    let mut answer = A::answer_to(alloc, line)?;
+    let mut answer = A::output_of(alloc, line)?;
     if answer.push('\n').is_err() {
         return Err(Asn1DerError::OutOfMemory);
     }
@@ -54,13 +54,13 @@ pub fn answer_lines<A: Answers, R: ReadExt, W: WriteExt>(
     ensures at_end { OnOk result (IsAtEnd (R.remaining input.new)) }
     ensures stops { IfErr result (Stops A.is_answer W.WriteExt.own (R.remaining input.old)
         (R.remaining input.new) (R.faults input.old) (R.faults input.new) output.old output.new) }
-    ensures reads { IfErr result (TellsFault (R.faults input.old) (R.faults input.new)
+    ensures reads { IfErr result (ReportsFault (R.faults input.old) (R.faults input.new)
         (R.remaining input.new)) }
     ensures writes_counted { IsOnceAtMost (W.faults output.old) (W.faults output.new) }
     ensures no_read_fault { OnOk result (R.faults input.new ≡ R.faults input.old) }
     ensures no_write_fault { OnOk result (W.faults output.new ≡ W.faults output.old) }
     ensures same_references { R.references input.new ≡ R.references input.old }
-    ensures goes_on { W.later output.old output.new }
+    ensures continues { W.later output.old output.new }
 {
     let mut line = Vec::new(alloc);
     for _read in 0..u64::MAX {

@@ -25,8 +25,8 @@ module _ {V : Type 0} {meaning : V → Tree} {s : Shape} {bytes : List ℕ} {e :
   ]
 
   -- if there is none before it, none is at the front
-  pub none_in_front : {f : Asn1DerError} {other : ℕ} → IsNoEncoding meaning s (take position bytes) f other → f ≢ OutOfMemory → (v : V) → ReadsFrom meaning s bytes (length bytes) v → ⊥
-  none_in_front front kept v reads =
+  pub none_at_front : {f : Asn1DerError} {other : ℕ} → IsNoEncoding meaning s (take position bytes) f other → f ≢ OutOfMemory → (v : V) → ReadsFrom meaning s bytes (length bytes) v → ⊥
+  none_at_front front kept v reads =
       let size : position ≡ length (der (meaning v)) = (refused.left_over memory v reads).1 in
       let encoding : take position bytes ≡ der (meaning v) = ap (λ n. take n bytes) size ∙ ap (λ z. take (length (der (meaning v))) z) reads.front.is ∙ take-append_seam (der (meaning v)) reads.front.rest in
       front.none kept v (record { of_shape = reads.of_shape; readable = reads.readable; encoding = encoding })

@@ -1,7 +1,7 @@
 -- The types of which bytes are a message, found one after another.
 use Rattle.std.proofs.Common.{◌≡◌, ℕ, suc, ◌+◌, ◌<◌, true, false, Option, Some, None, is_some, List, [], ◌∷◌, ◌++◌, length, get_or, drop, append_assoc, append-nil, add-one, drop-cons, subst, sym, ap, ◌∙◌}
 use Rattle.der_read.specs.declared.message_type.MessageType.{MessageType}
-use Rattle.picky_der_de.specs.declared.whole.DecodeError.{DecodeError}
+use Rattle.picky_der_de.specs.declared.whole_input.DecodeError.{DecodeError}
 use Rattle.der_read.specs.contracts.message_type.MessageTypeDescribed.TheImpl as known
 use Rattle.der_read.specs.Described.{Description}
 use Rattle.der_read.specs.Message.{IsMessageOf, IsRefusalOf}

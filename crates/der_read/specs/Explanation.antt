@@ -1,6 +1,6 @@
 -- Why bytes are refused, in the words of der_show. Which words these are isn't said here.
 use Rattle.std.specs.Prelude.{◌≡◌, ℕ, List, string_bytes}
-use Rattle.picky_der_de.specs.declared.whole.DecodeError.{DecodeError}
+use Rattle.picky_der_de.specs.declared.whole_input.DecodeError.{DecodeError}
 use Rattle.der_show.specs.declared.outline.Complaint.{Complaint}
 use Rattle.der_show.specs.declared.reason.Reason.{Reason}
 use Rattle.der_show.specs.Reasons.{IsReason}

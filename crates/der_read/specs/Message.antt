@@ -1,7 +1,7 @@
 -- Which bytes are a message of a type, and why others aren't.
 use Rattle.std.specs.Prelude.{◌≢◌, ℕ, List, Option, Some, None}
 use Rattle.picky_der_core.specs.declared.error.Asn1DerError.TheVariants.{OutOfMemory}
-use Rattle.picky_der_de.specs.declared.whole.DecodeError.{DecodeError}
+use Rattle.picky_der_de.specs.declared.whole_input.DecodeError.{DecodeError}
 use Rattle.picky_der_de.specs.Whole.{IsEncodingOf, IsNoEncoding}
 use Rattle.der_read.specs.Described.{Description}
 

@@ -2,7 +2,7 @@
 use Rattle.std.specs.Prelude.{◌≢◌, ℕ, ◌<◌, List, length, take, IsTrue}
 use Rattle.picky_der_core.specs.declared.error.Asn1DerError.TheVariants.{OutOfMemory}
 use Rattle.picky_der_core.specs.Reading.{ReadsFrom}
-use Rattle.picky_der_de.specs.declared.whole.DecodeError.{DecodeError}
+use Rattle.picky_der_de.specs.declared.whole_input.DecodeError.{DecodeError}
 use Rattle.picky_der_de.specs.Whole.{IsWhole, IsNoEncoding}
 use Rattle.der_x509.specs.declared.pkix1_explicit88.Certificate.{Certificate}
 use Rattle.der_x509.specs.contracts.pkix1_explicit88.CertificateSerialize.TheImpl as certificate_written

@@ -1,7 +1,7 @@
 -- What comes of reading bytes as a message.
 use Rattle.std.specs.Prelude.{◌≡◌, ◌≢◌, ℕ, List, [], ◌∷◌, Option, None, Some}
 use Rattle.std.specs.List.{Contains}
-use Rattle.picky_der_de.specs.declared.whole.DecodeError.{DecodeError}
+use Rattle.picky_der_de.specs.declared.whole_input.DecodeError.{DecodeError}
 use Rattle.der_program_base.specs.declared.status.Status.{Status}
 use Rattle.der_program_base.specs.declared.status.Status.TheVariants as status
 use Rattle.der_show.specs.declared.element.Element.{Element}

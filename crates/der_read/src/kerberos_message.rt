@@ -2,8 +2,8 @@
 ghost use Rattle.std.specs.Prelude.{refl};
 ghost use Rattle.picky_der_core.specs.Shape.{Shape};
 ghost use Rattle.picky_der_de.specs.declared.alternatives.OneOf.TheVariants.{This, Other};
-ghost use Rattle.picky_der_de.specs.declared.alternatives4.OneOf4.TheVariants.{First, Second, Third, Fourth, Later};
-ghost use Rattle.picky_der_de.specs.KnownChoices.{known_choice};
+ghost use Rattle.picky_der_de.specs.declared.choice4.Choice4.TheVariants.{First, Second, Third, Fourth, Later};
+ghost use Rattle.picky_der_de.specs.ChoiceFacts.{choice_facts};
 ghost use Rattle.der_read.specs.declared.kerberos_message.KerberosMessage.TheVariants.{AsReq, AsRep, TgsReq, TgsRep, ApReq};
 ghost use Rattle.der_read.specs.declared.kerberos_message.KerberosMessage.TheVariants.{ApRep, KrbSafe, KrbPriv, KrbCred};
 ghost use Rattle.der_read.specs.declared.kerberos_message.KerberosMessage.TheVariants.{KrbError};
@@ -11,12 +11,12 @@ ghost use Rattle.der_read.specs.declared.kerberos_message.KerberosMessage.TheVar
 use der_kerberos::{
     ApRep, ApReq, AsRep, AsReq, KrbCred, KrbError, KrbPriv, KrbSafe, TgsRep, TgsReq,
 };
+use picky_asn1_der::Choice4::{First, Fourth, Later, Second, Third};
 use picky_asn1_der::OneOf::{Other, This};
-use picky_asn1_der::OneOf4::{First, Fourth, Later, Second, Third};
 use picky_asn1_der::de::deserialize_choice_as;
 use picky_asn1_der::misc::{ReadExt, WriteExt};
 use picky_asn1_der::{
-    Alternatives, Choice, Deserialize, Deserializer, NoneOf, OneOf, OneOf4, Result, Serialize,
+    Alternatives, Choice, Choice4, Deserialize, Deserializer, NoneOf, OneOf, Result, Serialize,
     Serializer,
 };
 
@@ -45,12 +45,12 @@ pub enum KerberosMessage {
     KrbError(KrbError),
 }
 
-type Parts = OneOf4<
+type Parts = Choice4<
     AsReq,
     AsRep,
     TgsReq,
     TgsRep,
-    OneOf4<ApReq, ApRep, KrbSafe, KrbPriv, OneOf<KrbCred, OneOf<KrbError, NoneOf>>>,
+    Choice4<ApReq, ApRep, KrbSafe, KrbPriv, OneOf<KrbCred, OneOf<KrbError, NoneOf>>>,
 >;
 
 impl Choice for KerberosMessage {
@@ -107,10 +107,10 @@ impl Serialize for KerberosMessage {
 impl Deserialize for KerberosMessage {
     ghost shape = { Shape.choice ⟦<Parts as Alternatives>⟧.shapes };
 
-    ghost known = { known_choice ⟦<Parts as Alternatives>⟧.known refl ⟦<Self as Choice>⟧.parts ⟦<Self as PartialEq>⟧.eq
+    ghost facts = { choice_facts ⟦<Parts as Alternatives>⟧.facts refl ⟦<Self as Choice>⟧.parts ⟦<Self as PartialEq>⟧.eq
         (elim [ AsReq _ ↦ elim [ AsReq _ ↦ λ h. h | _ ↦ λ h. h ] | _ ↦ elim [ AsReq _ ↦ λ h. h | _ ↦ λ h. h ] ]) };
 
-    ghost tied = { Prim.assumption };
+    ghost proved = { Prim.assumption };
 
     fn deserialize<R: ReadExt>(deserializer: &mut Deserializer<R>) -> Result<KerberosMessage> {
         deserialize_choice_as(deserializer)

@@ -19,11 +19,11 @@ module _ (bytes : List ℕ) (tag : ℕ) (first : tag ≡ get_or bytes 0 0) (some
   pub whole : bytes ≡ tag ∷ slice_range bytes 1 (length bytes)
   whole = first_rest bytes 0 some ∙ ap (λ t. t ∷ slice_range bytes 1 (length bytes)) (sym first)
 
-  module _ (n : ℕ) (rest : List ℕ) (behind : slice_range bytes 1 (length bytes) ≡ length_octets n ++ rest) where
+  module _ (n : ℕ) (rest : List ℕ) (after : slice_range bytes 1 (length bytes) ≡ length_octets n ++ rest) where
     pub header_read : IsTagNumber (number_of tag) → n ≤ length rest → HasHeader bytes (record { tag = tag; header_len = length bytes - length rest; content_len = n })
     unfolding tlv
     header_read number enough =
-        let all : bytes ≡ tag ∷ (length_octets n ++ rest) = whole ∙ ap (λ s. tag ∷ s) behind in
+        let all : bytes ≡ tag ∷ (length_octets n ++ rest) = whole ∙ ap (λ s. tag ∷ s) after in
         let size : length (take n rest) ≡ n = length-take-le n rest enough in
         let counts : length bytes ≡ 1 + (length (length_octets n) + length rest) = ap length all ∙ (omega (arith, length-append (length_octets n) rest)) in
         let split : length_octets n ++ rest ≡ (length_octets n ++ take n rest) ++ drop n rest = ap (λ s. length_octets n ++ s) (sym (take-append-drop n rest)) ∙ sym (append_assoc (length_octets n) (take n rest) (drop n rest)) in
@@ -37,7 +37,7 @@ module _ (bytes : List ℕ) (tag : ℕ) (first : tag ≡ get_or bytes 0 0) (some
         }
 
     pub passes_end : length rest < n → BreaksHeader bytes rule.PastEnd
-    passes_end few = past_end tag n rest (whole ∙ ap (λ s. tag ∷ s) behind) few refl
+    passes_end few = past_end tag n rest (whole ∙ ap (λ s. tag ∷ s) after) few refl
 
 -- ---- no element begins bytes that break a rule of headers
 
@@ -58,12 +58,12 @@ module _ (tag : ℕ) (content rest bytes : List ℕ) (number : IsTagNumber (numb
       absurd (omega arith)
   begins_well r (no_length t others e broken) =
       let same : t ∷ others ≡ tag ∷ (length_octets (length content) ++ (content ++ rest)) = sym e ∙ split in
-      let behind : others ≡ length_octets (length content) ++ (content ++ rest) = cc in
-      no_length_begins TruncatedData others (broken.error, broken.left) broken.refused (length content) short (record { rest = content ++ rest; is = behind })
+      let after : others ≡ length_octets (length content) ++ (content ++ rest) = cc in
+      no_length_begins TruncatedData others (broken.error, broken.left) broken.refused (length content) short (record { rest = content ++ rest; is = after })
   begins_well r (past_end t n others e few k) =
       let same : t ∷ (length_octets n ++ others) ≡ tag ∷ (length_octets (length content) ++ (content ++ rest)) = sym e ∙ split in
-      let behind : length_octets n ++ others ≡ length_octets (length content) ++ (content ++ rest) = cc in
-      let (sizes, left) = length_octets_prefix n (length content) others (content ++ rest) behind in
+      let after : length_octets n ++ others ≡ length_octets (length content) ++ (content ++ rest) = cc in
+      let (sizes, left) = length_octets_prefix n (length content) others (content ++ rest) after in
       absurd (omega (arith, ap length left, length-append content rest))
 
 -- ---- elements at the front of the same bytes
@@ -75,8 +75,8 @@ begins_with bytes r small broken m element front =
 pub one_element : (a b s t : List ℕ) → IsElement a → IsElement b → a ++ s ≡ b ++ t → (a ≡ b) × (s ≡ t)
 one_element a b s t x y e =
     let same : tlv x.tag x.content ++ s ≡ tlv y.tag y.content ++ t = ap (λ b. b ++ s) (sym x.is) ∙ e ∙ ap (λ b. b ++ t) y.is in
-    let (tags, contents, behind) = tlv_prefix x.tag y.tag x.content y.content s t same in
-    (x.is ∙ ap (λ g. tlv g x.content) tags ∙ ap (tlv y.tag) contents ∙ sym y.is, behind)
+    let (tags, contents, after) = tlv_prefix x.tag y.tag x.content y.content s t same in
+    (x.is ∙ ap (λ g. tlv g x.content) tags ∙ ap (tlv y.tag) contents ∙ sym y.is, after)
 
 -- ---- the two parts of an element that was found
 
@@ -97,6 +97,6 @@ content_found bytes h has =
     ap (λ k. take k (drop h.header_len bytes)) size ∙ ap (λ k. take (length has.content) (drop k bytes)) (sym has.header_len)
     ∙ ap (λ b. take (length has.content) (drop (length front) b)) all ∙ ap (take (length has.content)) (drop-append_seam front (has.content ++ has.rest)) ∙ take-append_seam has.content has.rest
 
-pub element_shorter : (m bytes behind : List ℕ) → bytes ≡ m ++ behind → IsElement m → length behind < length bytes
+pub element_shorter : (m bytes after : List ℕ) → bytes ≡ m ++ after → IsElement m → length after < length bytes
 unfolding tlv
-element_shorter m bytes behind e x = omega (arith, ap length e, length-append m behind, ap length x.is)
+element_shorter m bytes after e x = omega (arith, ap length e, length-append m after, ap length x.is)

@@ -11,7 +11,7 @@ use Rattle.der_show.specs.Contents.{form_rule, IsContent, BreaksContent}
 use Rattle.der_show.specs.Nodes.{Nodes, encoding, IsCanonical, AreCanonical, header_size, element, elements}
 use Rattle.der_show.specs.Outlines.{Breaks}
 use Rattle.der_show.proofs.HeaderLemmas.{begins_well}
-use Rattle.der_show.proofs.Ranges.{length-range, front_within, range_behind, range_front, range_empty}
+use Rattle.der_show.proofs.Ranges.{length-range, front_within, range_after, range_front, range_empty}
 
 -- from one index of the bytes up to another these are the elements, at this depth, and each is in DER
 pub record Lists (bytes : List ℕ) (at end depth : ℕ) (rows : List Element) : Type 0 where
@@ -25,8 +25,8 @@ pub record Lists (bytes : List ℕ) (at end depth : ℕ) (rows : List Element) :
 no_nodes : (nodes : Nodes) (depth at : ℕ) → encoding nodes ≡ [] → elements depth at nodes ≡ []
 unfolding encoding elements tlv
 no_nodes Nodes.none depth at e = refl
-no_nodes (Nodes.primitive tag content behind) depth at e = cc
-no_nodes (Nodes.constructed tag inside behind) depth at e = cc
+no_nodes (Nodes.primitive tag content after) depth at e = cc
+no_nodes (Nodes.constructed tag inside after) depth at e = cc
 
 pub closed_in : (bytes : List ℕ) (at depth : ℕ) → Lists bytes at at depth []
 unfolding encoding elements
@@ -53,45 +53,45 @@ module _ (bytes : List ℕ) (at end depth : ℕ) (order : at ≤ end) (within : 
   abbrev pub inside_at : ℕ
   inside_at = at + header_size (length content)
 
-  abbrev pub behind_at : ℕ
-  behind_at = at + header_size (length content) + length content
+  abbrev pub after_at : ℕ
+  after_at = at + header_size (length content) + length content
 
-  ends_at : at + length (tlv tag content) ≡ behind_at
+  ends_at : at + length (tlv tag content) ≡ after_at
   ends_at = omega (arith, length-element tag content)
 
-  pub behind_within : behind_at ≤ end
-  behind_within = omega (arith, front_within bytes at end within (tlv tag content) rest is order, length-element tag content)
+  pub after_within : after_at ≤ end
+  after_within = omega (arith, front_within bytes at end within (tlv tag content) rest is order, length-element tag content)
 
-  behind : slice_range bytes behind_at end ≡ rest
-  behind = ap (λ k. slice_range bytes k end) (sym ends_at) ∙ range_behind bytes at end within (tlv tag content) rest is order
+  after : slice_range bytes after_at end ≡ rest
+  after = ap (λ k. slice_range bytes k end) (sym ends_at) ∙ range_after bytes at end within (tlv tag content) rest is order
 
-  own : slice_range bytes at behind_at ≡ (tag ∷ length_octets (length content)) ++ content
+  own : slice_range bytes at after_at ≡ (tag ∷ length_octets (length content)) ++ content
   own = ap (slice_range bytes at) (sym ends_at) ∙ range_front bytes at end within (tlv tag content) rest is order ∙ header_and_content tag content
 
-  inside : slice_range bytes inside_at behind_at ≡ content
+  inside : slice_range bytes inside_at after_at ≡ content
   inside =
-      let to : at ≤ behind_at = omega arith in
+      let to : at ≤ after_at = omega arith in
       let size : at + length (tag ∷ length_octets (length content)) ≡ inside_at = omega arith in
-      ap (λ k. slice_range bytes k behind_at) (sym size) ∙ range_behind bytes at behind_at (omega (arith, behind_within)) (tag ∷ length_octets (length content)) content own to
+      ap (λ k. slice_range bytes k after_at) (sym size) ∙ range_after bytes at after_at (omega (arith, after_within)) (tag ∷ length_octets (length content)) content own to
 
   module _ (canonical : IsCanonical tag content) where
-    pub primitive_in : (rows : List Element) → is_constructed tag ≡ false → Lists bytes behind_at end depth rows → Lists bytes at end depth (element depth at tag (length content) ∷ rows)
+    pub primitive_in : (rows : List Element) → is_constructed tag ≡ false → Lists bytes after_at end depth rows → Lists bytes at end depth (element depth at tag (length content) ∷ rows)
     unfolding encoding elements
     primitive_in rows bit l = record {
       nodes = Nodes.primitive tag content l.nodes;
       canonical = (canonical, bit, l.canonical);
-      is = is ∙ ap (λ b. tlv tag content ++ b) (sym behind ∙ l.is);
+      is = is ∙ ap (λ b. tlv tag content ++ b) (sym after ∙ l.is);
       rows_are = ap (λ more. element depth at tag (length content) ∷ more) l.rows_are;
     }
 
-    pub constructed_in : (inner outer : List Element) → is_constructed tag ≡ true → Lists bytes inside_at behind_at (depth + 1) inner → Lists bytes behind_at end depth outer → Lists bytes at end depth (element depth at tag (length content) ∷ (inner ++ outer))
+    pub constructed_in : (inner outer : List Element) → is_constructed tag ≡ true → Lists bytes inside_at after_at (depth + 1) inner → Lists bytes after_at end depth outer → Lists bytes at end depth (element depth at tag (length content) ∷ (inner ++ outer))
     unfolding encoding elements
     constructed_in inner outer bit i o =
         let same : content ≡ encoding i.nodes = sym inside ∙ i.is in
         record {
           nodes = Nodes.constructed tag i.nodes o.nodes;
           canonical = (subst (IsCanonical tag) same canonical, bit, i.canonical, o.canonical);
-          is = is ∙ ap (λ c. tlv tag c ++ rest) same ∙ ap (λ b. tlv tag (encoding i.nodes) ++ b) (sym behind ∙ o.is);
+          is = is ∙ ap (λ c. tlv tag c ++ rest) same ∙ ap (λ b. tlv tag (encoding i.nodes) ++ b) (sym after ∙ o.is);
           rows_are =
               ap (λ x. element depth at tag (length content) ∷ (x ++ outer)) i.rows_are
               ∙ ap (λ x. element depth at tag (length content) ∷ (elements (depth + 1) inside_at i.nodes ++ x)) o.rows_are
@@ -99,15 +99,15 @@ module _ (bytes : List ℕ) (at end depth : ℕ) (order : at ≤ end) (within : 
         }
 
   abbrev pub PrimitiveFirst : List Element → Type 0
-  PrimitiveFirst rows = (more : List Element) × Lists bytes behind_at end depth more × (rows ≡ element depth at tag (length content) ∷ more)
+  PrimitiveFirst rows = (more : List Element) × Lists bytes after_at end depth more × (rows ≡ element depth at tag (length content) ∷ more)
 
   primitive_first : (rows : List Element) (nodes : Nodes) → is_constructed tag ≡ false → AreCanonical nodes → tlv tag content ++ rest ≡ encoding nodes → rows ≡ elements depth at nodes → PrimitiveFirst rows
   unfolding encoding elements
   primitive_first rows Nodes.none bit canonical e r = absurd (not_none tag content rest e)
   primitive_first rows (Nodes.primitive t c ns) bit canonical e r =
       let (tags, contents, left) = tlv_prefix tag t content c rest (encoding ns) e in (
-        elements depth behind_at ns,
-        record { nodes = ns; canonical = canonical.2; is = behind ∙ left; rows_are = refl },
+        elements depth after_at ns,
+        record { nodes = ns; canonical = canonical.2; is = after ∙ left; rows_are = refl },
         r ∙ ap (λ g. element depth at g (length c) ∷ elements depth (at + header_size (length c) + length c) ns) (sym tags)
             ∙ ap (λ d. element depth at tag (length d) ∷ elements depth (at + header_size (length d) + length d) ns) (sym contents),
       )
@@ -121,7 +121,7 @@ module _ (bytes : List ℕ) (at end depth : ℕ) (order : at ≤ end) (within : 
   primitive_out rows bit l = primitive_first rows l.nodes bit l.canonical (sym is ∙ l.is) l.rows_are
 
   abbrev pub ConstructedFirst : List Element → Type 0
-  ConstructedFirst rows = (inner outer : List Element) × Lists bytes inside_at behind_at (depth + 1) inner × Lists bytes behind_at end depth outer × (rows ≡ element depth at tag (length content) ∷ (inner ++ outer))
+  ConstructedFirst rows = (inner outer : List Element) × Lists bytes inside_at after_at (depth + 1) inner × Lists bytes after_at end depth outer × (rows ≡ element depth at tag (length content) ∷ (inner ++ outer))
 
   constructed_first : (rows : List Element) (nodes : Nodes) → is_constructed tag ≡ true → AreCanonical nodes → tlv tag content ++ rest ≡ encoding nodes → rows ≡ elements depth at nodes → ConstructedFirst rows
   unfolding encoding elements
@@ -134,9 +134,9 @@ module _ (bytes : List ℕ) (at end depth : ℕ) (order : at ≤ end) (within : 
   constructed_first rows (Nodes.constructed t i ns) bit canonical e r =
       let (tags, contents, left) = tlv_prefix tag t content (encoding i) rest (encoding ns) e in (
         elements (depth + 1) inside_at i,
-        elements depth behind_at ns,
+        elements depth after_at ns,
         record { nodes = i; canonical = canonical.2; is = inside ∙ contents; rows_are = refl },
-        record { nodes = ns; canonical = canonical.3; is = behind ∙ left; rows_are = refl },
+        record { nodes = ns; canonical = canonical.3; is = after ∙ left; rows_are = refl },
         r ∙ ap (λ g. element depth at g (length (encoding i)) ∷ (elements (depth + 1) (at + header_size (length (encoding i))) i ++ elements depth (at + header_size (length (encoding i)) + length (encoding i)) ns)) (sym tags)
             ∙ ap (λ d. element depth at tag (length d) ∷ (elements (depth + 1) (at + header_size (length d)) i ++ elements depth (at + header_size (length d) + length d) ns)) (sym contents),
       )
@@ -157,11 +157,11 @@ contents_apart tag content r good (BreaksContent.set is none e) = sets_apart con
 first_breaks : (b : List ℕ) (r : Rule) (tag : ℕ) (content rest : List ℕ) → length b < 2 ^ 64 → IsCanonical tag content → b ≡ tlv tag content ++ rest → Breaks b r → ⊥
 first_breaks b r tag content rest small canonical e (Breaks.header broken) = begins_well tag content rest b canonical.number e small r broken
 first_breaks b r tag content rest small canonical e (Breaks.form t c left is broken) =
-    let (tags, contents, behind) = tlv_prefix tag t content c rest left (sym e ∙ is) in
+    let (tags, contents, after) = tlv_prefix tag t content c rest left (sym e ∙ is) in
     let bad : None ≡ Some r = sym canonical.form ∙ ap form_rule tags ∙ broken in
     cc
 first_breaks b r tag content rest small canonical e (Breaks.content t c left is broken) =
-    let (tags, contents, behind) = tlv_prefix tag t content c rest left (sym e ∙ is) in
+    let (tags, contents, after) = tlv_prefix tag t content c rest left (sym e ∙ is) in
     contents_apart tag content r canonical.is_content (subst (λ g. BreaksContent g content r) (sym tags) (subst (λ d. BreaksContent t d r) (sym contents) broken))
 
 module _ (bytes : List ℕ) (at end : ℕ) (r : Rule) (order : at < end) (within : end ≤ length bytes) (small : length bytes < 2 ^ 64) (broken : Breaks (slice_range bytes at end) r) where
@@ -171,8 +171,8 @@ module _ (bytes : List ℕ) (at end : ℕ) (r : Rule) (order : at < end) (within
   none_begin : (nodes : Nodes) → AreCanonical nodes → slice_range bytes at end ≡ encoding nodes → ⊥
   unfolding encoding
   none_begin Nodes.none canonical e = absurd (omega (arith, size, ap length e))
-  none_begin (Nodes.primitive tag content behind) canonical e = first_breaks _ r tag content (encoding behind) (omega (arith, size)) canonical.0 e broken
-  none_begin (Nodes.constructed tag inside behind) canonical e = first_breaks _ r tag (encoding inside) (encoding behind) (omega (arith, size)) canonical.0 e broken
+  none_begin (Nodes.primitive tag content after) canonical e = first_breaks _ r tag content (encoding after) (omega (arith, size)) canonical.0 e broken
+  none_begin (Nodes.constructed tag inside after) canonical e = first_breaks _ r tag (encoding inside) (encoding after) (omega (arith, size)) canonical.0 e broken
 
   pub broken_out : (depth : ℕ) (rows : List Element) → Lists bytes at end depth rows → ⊥
   broken_out depth rows l = none_begin l.nodes l.canonical l.is

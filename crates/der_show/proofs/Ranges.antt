@@ -18,8 +18,8 @@ module _ (bytes : List ℕ) (at end : ℕ) (within : end ≤ length bytes) (fron
   front_within h = omega (arith, size)
 
   -- what is after the front
-  pub range_behind : at ≤ end → slice_range bytes (at + length front) end ≡ rest
-  range_behind h =
+  pub range_after : at ≤ end → slice_range bytes (at + length front) end ≡ rest
+  range_after h =
       let m = end - (at + length front) in
       let parts : end - at ≡ length front + m = omega (arith, size) in
       let moved : drop (length front) (take (end - at) (drop at bytes)) ≡ take m (drop (at + length front) bytes) =

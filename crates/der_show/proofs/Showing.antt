@@ -20,10 +20,10 @@ use Rattle.der_show.specs.Ends.{innermost, without_reached}
 use Rattle.der_show.specs.Outlines.{Breaks, IsBefore}
 use Rattle.der_show.specs.Entries.{IsReached, IsSoFar, IsListing, ahead, complaint_at}
 use Rattle.der_show.specs.Entries as kind
-use Rattle.der_show.specs.Steps.{IsStep, step_entries, offset_after, ends_after, is_element, goes_on}
+use Rattle.der_show.specs.Steps.{IsStep, step_entries, offset_after, ends_after, is_element, continues}
 use Rattle.der_show.specs.Shown.{IsTextOf, IsPlain, listed, refused, IsBeginning, none, first, all, WritesEntries, IsFailure, Shows, StopsAmong, Stops}
-use Rattle.der_show.proofs.Walking.{Walks, walk_begins, walk_ends, walk_refused, walk_goes_on, before_goes_on}
-use Rattle.der_show.proofs.Places.{Stands, stands_at_first, stands_open, stands_last, step_stands}
+use Rattle.der_show.proofs.Walking.{Walks, walk_begins, walk_ends, walk_refused, walk_continues, before_continues}
+use Rattle.der_show.proofs.Places.{IsPlace, place_at_first, place_open, place_last, step_place}
 use Rattle.der_show.proofs.Texts.{no_text, joined, failure_since}
 
 -- ---- ends that are reached
@@ -50,7 +50,7 @@ pub record Plainly (bytes ends : List ℕ) (at : ℕ) (es : List Entry) : Type 0
 -- ---- a step
 
 abbrev pub GoesOn : Step → Type 0
-GoesOn t = goes_on t ≡ true
+GoesOn t = continues t ≡ true
 
 module _ (o : ShowOptions) (bytes ends : List ℕ) (at : ℕ) (es : List Entry) where
   abbrev end : ℕ
@@ -68,8 +68,8 @@ module _ (o : ShowOptions) (bytes ends : List ℕ) (at : ℕ) (es : List Entry) 
       → Plainly bytes (ends_after end at ends t) (offset_after end at t) (es ++ step_entries (length ends) at t)
   step_plain (step.Element h None) on plain is more p = record {
     elements = _;
-    walks = walk_goes_on bytes ends at p.elements h p.walks more is.0;
-    before = before_goes_on bytes ends at p.elements h p.before is.0;
+    walks = walk_continues bytes ends at p.elements h p.walks more is.0;
+    before = before_continues bytes ends at p.elements h p.before is.0;
     are = ap (λ x. x ++ step_entries (length ends) at (step.Element h None)) p.are ∙ sym (map-append entry.Element p.elements _);
   }
   step_plain (step.Element h (Some skipped)) on plain is more p = let flat = plain.flat in let bad : false ≡ true = sym is.1.asked ∙ flat in cc
@@ -109,7 +109,7 @@ module _ (o : ShowOptions) (bytes ends : List ℕ) (at : ℕ) (es : List Entry) 
 
 -- the listing has come to this offset, and the text of its entries is written
 pub record Comes (form : LineForm) (o : ShowOptions) (bytes ends : List ℕ) (at : ℕ) (is_der : Bool) (old new : Option (List ℕ)) : Type 0 where
-  pub stands : Stands bytes ends at
+  pub place : IsPlace bytes ends at
   pub entries : List Entry
   pub reached : IsReached o bytes ends at entries
   pub fine : is_der ≡ list_all kind.is_element entries
@@ -120,7 +120,7 @@ pub record Comes (form : LineForm) (o : ShowOptions) (bytes ends : List ℕ) (at
 
 pub comes_first : (form : LineForm) (o : ShowOptions) (bytes : List ℕ) (at : ℕ) (w : Option (List ℕ)) → at ≡ min o.start (length bytes) → Comes form o bytes [] at true w w
 comes_first form o bytes at w e = record {
-  stands = stands_at_first bytes at (omega (arith, e));
+  place = place_at_first bytes at (omega (arith, e));
   entries = [];
   reached = subst (λ k. IsReached o bytes [] k []) (sym e) IsReached.start;
   fine = refl;
@@ -134,7 +134,7 @@ module _ (form : LineForm) (o : ShowOptions) (bytes ends : List ℕ) (at : ℕ) 
   module _ (more : at < length bytes) (t : Step) (is : IsStep o (length ends) (ahead bytes ends at) t) (new : Option (List ℕ)) (w : WritesEntries form (step_entries (length ends) at t) mid new) where
     pub comes_on : GoesOn t → Comes form o bytes (ends_after (innermost (length bytes) ends) at ends t) (offset_after (innermost (length bytes) ends) at t) (is_der && is_element t) old new
     comes_on on = record {
-      stands = (step_stands bytes ends at c.stands more o t is).0;
+      place = (step_place bytes ends at c.place more o t is).0;
       entries = c.entries ++ step_entries (length ends) at t;
       reached = step_reached o bytes ends at c.entries t on is c.reached;
       fine = fine_more o bytes ends at c.entries t is_der c.fine;
@@ -147,7 +147,7 @@ module _ (form : LineForm) (o : ShowOptions) (bytes ends : List ℕ) (at : ℕ) 
   -- all is listed
   pub comes_to_end : length bytes ≤ at → Shows form o bytes (record { is_der = is_der }) old mid
   comes_to_end done =
-      let none_open = stands_last bytes ends at c.stands done in record {
+      let none_open = place_last bytes ends at c.place done in record {
         entries = c.entries;
         listing = IsListing.whole at c.entries (subst (λ x. IsReached o bytes x at c.entries) none_open c.reached) done;
         is_der = c.fine;
@@ -162,7 +162,7 @@ module _ (form : LineForm) (o : ShowOptions) (bytes ends : List ℕ) (at : ℕ) 
       → WritesEntries form (complaint_at at r ∷ []) mid new → Shows form o bytes (record { is_der = is_der && is_element (step.Stopped r) }) old new
   comes_to_rule more small r is new w = record {
     entries = c.entries ++ (complaint_at at r ∷ []);
-    listing = IsListing.stopped ends at c.entries r is.0 c.reached (stands_open bytes ends at c.stands more).0 is.1;
+    listing = IsListing.stopped ends at c.entries r is.0 c.reached (place_open bytes ends at c.place more).0 is.1;
     is_der = fine_more o bytes ends at c.entries (step.Stopped r) is_der c.fine;
     plain = λ p.
         let q = c.plain p in
@@ -172,7 +172,7 @@ module _ (form : LineForm) (o : ShowOptions) (bytes ends : List ℕ) (at : ℕ) 
     written = Appends-trans old mid new c.text w.text c.written w.written;
   }
 
-  pub comes_to_stop : at < length bytes → length bytes < 2 ^ 64 → (t : Step) → goes_on t ≡ false → IsStep o (length ends) (ahead bytes ends at) t → (new : Option (List ℕ))
+  pub comes_to_stop : at < length bytes → length bytes < 2 ^ 64 → (t : Step) → continues t ≡ false → IsStep o (length ends) (ahead bytes ends at) t → (new : Option (List ℕ))
       → WritesEntries form (step_entries (length ends) at t) mid new → Shows form o bytes (record { is_der = is_der && is_element t }) old new
   comes_to_stop more small (step.Element h opening) off is new w = cc
   comes_to_stop more small (step.Broken r h) off is new w = cc

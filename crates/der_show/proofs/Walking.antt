@@ -11,7 +11,7 @@ use Rattle.der_show.specs.Nodes.{IsCanonical, header_size, element, elements}
 use Rattle.der_show.specs.Ends.{innermost, without_reached, next_offset, next_ends}
 use Rattle.der_show.specs.Outlines.{Breaks, IsFound, IsListed, listed_at, IsBefore, IsRefused}
 use Rattle.der_show.proofs.Ranges.{range_whole}
-use Rattle.der_show.proofs.Listed.{Lists, closed_in, closed_out, behind_within, primitive_in, primitive_out, constructed_in, constructed_out, broken_out}
+use Rattle.der_show.proofs.Listed.{Lists, closed_in, closed_out, after_within, primitive_in, primitive_out, constructed_in, constructed_out, broken_out}
 
 -- ---- ends
 
@@ -52,27 +52,27 @@ closes len at (end ∷ ends) h = closes_one len at end ends (end == at) refl h (
 -- ---- what is ahead
 
 -- from each of the ends on, elements up to the next, and these are all
-abbrev pub Behind : List ℕ → List ℕ → List Element → Type 0
-Behind bytes [] rows = rows ≡ []
-Behind bytes (end ∷ ends) rows = (front back : List Element) × Lists bytes end (innermost (length bytes) ends) (length ends) front × Behind bytes ends back × (rows ≡ front ++ back)
+abbrev pub IsLater : List ℕ → List ℕ → List Element → Type 0
+IsLater bytes [] rows = rows ≡ []
+IsLater bytes (end ∷ ends) rows = (front back : List Element) × Lists bytes end (innermost (length bytes) ends) (length ends) front × IsLater bytes ends back × (rows ≡ front ++ back)
 
 -- the same from the offset on
 pub record Ahead (bytes : List ℕ) (ends : List ℕ) (at : ℕ) (rows : List Element) : Type 0 where
   pub front : List Element
   pub back : List Element
   pub here : Lists bytes at (innermost (length bytes) ends) (length ends) front
-  pub behind : Behind bytes ends back
+  pub later : IsLater bytes ends back
   pub is : rows ≡ front ++ back
 
 -- an end that is reached
 close_in : (bytes ends : List ℕ) (at : ℕ) (rows : List Element) → Ahead bytes ends at rows → Ahead bytes (at ∷ ends) at rows
-close_in bytes ends at rows a = record { front = []; back = rows; here = closed_in bytes at (length (at ∷ ends)); behind = (a.front, a.back, a.here, a.behind, a.is); is = refl }
+close_in bytes ends at rows a = record { front = []; back = rows; here = closed_in bytes at (length (at ∷ ends)); later = (a.front, a.back, a.here, a.later, a.is); is = refl }
 
 close_out : (bytes ends : List ℕ) (at : ℕ) (rows : List Element) → Ahead bytes (at ∷ ends) at rows → Ahead bytes ends at rows
 close_out bytes ends at rows a =
     let none : a.front ≡ [] = closed_out bytes at (length (at ∷ ends)) a.front a.here in
     let all : rows ≡ a.back = a.is ∙ ap (λ f. f ++ a.back) none in
-    record { front = a.behind.0; back = a.behind.1; here = a.behind.2; behind = a.behind.3; is = all ∙ a.behind.4 }
+    record { front = a.later.0; back = a.later.1; here = a.later.2; later = a.later.3; is = all ∙ a.later.4 }
 
 -- all that are
 closed_one : (bytes ends : List ℕ) (at end : ℕ) (rows : List Element) (b : Bool) → (end == at) ≡ b
@@ -108,14 +108,14 @@ pub walk_begins : (bytes : List ℕ) → Walks bytes [] 0 []
 walk_begins bytes = record {
   are_ends = omega arith;
   open_end = tt;
-  sound = λ more a. subst (Lists bytes 0 (length bytes) 0) (sym (a.is ∙ ap (λ b. a.front ++ b) a.behind ∙ append-nil a.front)) a.here;
-  complete = λ all l. (all, record { front = all; back = []; here = l; behind = refl; is = sym (append-nil all) }, refl);
+  sound = λ more a. subst (Lists bytes 0 (length bytes) 0) (sym (a.is ∙ ap (λ b. a.front ++ b) a.later ∙ append-nil a.front)) a.here;
+  complete = λ all l. (all, record { front = all; back = []; here = l; later = refl; is = sym (append-nil all) }, refl);
 }
 
 pub walk_ends : (bytes ends : List ℕ) (at : ℕ) (rows : List Element) → Walks bytes ends at rows → length bytes ≤ at → IsListed bytes rows
 walk_ends bytes [] at rows w done =
     let last : length bytes ≡ at = omega (arith, w.are_ends) in
-    let all = w.sound [] (record { front = []; back = []; here = subst (λ k. Lists bytes at k 0 []) (sym last) (closed_in bytes at 0); behind = refl; is = refl }) in
+    let all = w.sound [] (record { front = []; back = []; here = subst (λ k. Lists bytes at k 0 []) (sym last) (closed_in bytes at 0); later = refl; is = refl }) in
     record { nodes = all.nodes; canonical = all.canonical; is = sym (range_whole bytes) ∙ all.is; listed = sym (append-nil rows) ∙ all.rows_are }
 walk_ends bytes (end ∷ ends) at rows w done =
     let (low, high) = ends_within (length bytes) end ends w.are_ends.1 in
@@ -161,11 +161,11 @@ module _ (bytes ends : List ℕ) (at : ℕ) (rows : List Element) (w : Walks byt
   abbrev inside_at : ℕ
   inside_at = at + header_size (length content)
 
-  abbrev behind_at : ℕ
-  behind_at = at + header_size (length content) + length content
+  abbrev after_at : ℕ
+  after_at = at + header_size (length content) + length content
 
-  within : behind_at ≤ end
-  within = behind_within bytes at end depth low high tag content rest is
+  within : after_at ≤ end
+  within = after_within bytes at end depth low high tag content rest is
 
   abbrev row : Element
   row = element depth at tag (length content)
@@ -174,49 +174,49 @@ module _ (bytes ends : List ℕ) (at : ℕ) (rows : List Element) (w : Walks byt
   one_more more = sym (append_assoc rows (row ∷ []) more)
 
   -- after a primitive one
-  primitive_ahead : (more : List Element) → is_constructed tag ≡ false → Ahead bytes ends behind_at more → Ahead bytes ends at (row ∷ more)
+  primitive_ahead : (more : List Element) → is_constructed tag ≡ false → Ahead bytes ends after_at more → Ahead bytes ends at (row ∷ more)
   primitive_ahead more bit a = record {
     front = row ∷ a.front;
     back = a.back;
     here = primitive_in bytes at end depth low high tag content rest is canonical a.front bit a.here;
-    behind = a.behind;
+    later = a.later;
     is = ap (λ m. row ∷ m) a.is;
   }
 
-  ahead_primitive : (all : List Element) → is_constructed tag ≡ false → Ahead bytes ends at all → (more : List Element) × Ahead bytes ends behind_at more × (all ≡ row ∷ more)
+  ahead_primitive : (all : List Element) → is_constructed tag ≡ false → Ahead bytes ends at all → (more : List Element) × Ahead bytes ends after_at more × (all ≡ row ∷ more)
   ahead_primitive all bit a =
       let found = primitive_out bytes at end depth low high tag content rest is a.front bit a.here in
-      (found.0 ++ a.back, record { front = found.0; back = a.back; here = found.1; behind = a.behind; is = refl }, a.is ∙ ap (λ f. f ++ a.back) found.2)
+      (found.0 ++ a.back, record { front = found.0; back = a.back; here = found.1; later = a.later; is = refl }, a.is ∙ ap (λ f. f ++ a.back) found.2)
 
   -- in a constructed one
-  constructed_ahead : (more : List Element) → is_constructed tag ≡ true → Ahead bytes (behind_at ∷ ends) inside_at more → Ahead bytes ends at (row ∷ more)
+  constructed_ahead : (more : List Element) → is_constructed tag ≡ true → Ahead bytes (after_at ∷ ends) inside_at more → Ahead bytes ends at (row ∷ more)
   constructed_ahead more bit a =
       let inner = a.front in
-      let outer = a.behind.0 in
-      let back = a.behind.1 in
+      let outer = a.later.0 in
+      let back = a.later.1 in
       record {
         front = row ∷ (inner ++ outer);
         back = back;
-        here = constructed_in bytes at end depth low high tag content rest is canonical inner outer bit (deeper a.here) a.behind.2;
-        behind = a.behind.3;
-        is = ap (λ m. row ∷ m) (a.is ∙ ap (λ b. inner ++ b) a.behind.4 ∙ sym (append_assoc inner outer back));
+        here = constructed_in bytes at end depth low high tag content rest is canonical inner outer bit (deeper a.here) a.later.2;
+        later = a.later.3;
+        is = ap (λ m. row ∷ m) (a.is ∙ ap (λ b. inner ++ b) a.later.4 ∙ sym (append_assoc inner outer back));
       }
     where
-      deeper : {inner : List Element} → Lists bytes inside_at behind_at (length (behind_at ∷ ends)) inner → Lists bytes inside_at behind_at (depth + 1) inner
-      deeper {inner} l = let e : length (behind_at ∷ ends) ≡ depth + 1 = omega arith in subst (λ d. Lists bytes inside_at behind_at d inner) e l
+      deeper : {inner : List Element} → Lists bytes inside_at after_at (length (after_at ∷ ends)) inner → Lists bytes inside_at after_at (depth + 1) inner
+      deeper {inner} l = let e : length (after_at ∷ ends) ≡ depth + 1 = omega arith in subst (λ d. Lists bytes inside_at after_at d inner) e l
 
-  ahead_constructed : (all : List Element) → is_constructed tag ≡ true → Ahead bytes ends at all → (more : List Element) × Ahead bytes (behind_at ∷ ends) inside_at more × (all ≡ row ∷ more)
+  ahead_constructed : (all : List Element) → is_constructed tag ≡ true → Ahead bytes ends at all → (more : List Element) × Ahead bytes (after_at ∷ ends) inside_at more × (all ≡ row ∷ more)
   ahead_constructed all bit a =
       let found = constructed_out bytes at end depth low high tag content rest is a.front bit a.here in
       let inner = found.0 in
       let outer = found.1 in
-      let e : depth + 1 ≡ length (behind_at ∷ ends) = omega arith in (
+      let e : depth + 1 ≡ length (after_at ∷ ends) = omega arith in (
         inner ++ (outer ++ a.back),
         record {
           front = inner;
           back = outer ++ a.back;
-          here = subst (λ d. Lists bytes inside_at behind_at d inner) e found.2;
-          behind = (outer, a.back, found.3, a.behind, refl);
+          here = subst (λ d. Lists bytes inside_at after_at d inner) e found.2;
+          later = (outer, a.back, found.3, a.later, refl);
           is = refl;
         },
         a.is ∙ ap (λ f. f ++ a.back) found.4 ∙ ap (λ m. row ∷ m) (append_assoc inner outer a.back),
@@ -239,11 +239,11 @@ module _ (bytes ends : List ℕ) (at : ℕ) (rows : List Element) (w : Walks byt
             (found.0, ahead_closed bytes opened next found.0 found.1, before.2 ∙ ap (λ m. rows ++ m) found.2 ∙ one_more found.0);
       }
 
-  pub after_primitive : is_constructed tag ≡ false → Walks bytes (without_reached behind_at ends) behind_at (rows ++ (row ∷ []))
-  after_primitive bit = after behind_at ends (ends_from (length bytes) at behind_at ends w.are_ends within) (λ more. primitive_ahead more bit) (λ all. ahead_primitive all bit)
+  pub after_primitive : is_constructed tag ≡ false → Walks bytes (without_reached after_at ends) after_at (rows ++ (row ∷ []))
+  after_primitive bit = after after_at ends (ends_from (length bytes) at after_at ends w.are_ends within) (λ more. primitive_ahead more bit) (λ all. ahead_primitive all bit)
 
-  pub after_constructed : is_constructed tag ≡ true → Walks bytes (without_reached inside_at (behind_at ∷ ends)) inside_at (rows ++ (row ∷ []))
-  after_constructed bit = after inside_at (behind_at ∷ ends) (omega arith, ends_from (length bytes) at behind_at ends w.are_ends within) (λ more. constructed_ahead more bit) (λ all. ahead_constructed all bit)
+  pub after_constructed : is_constructed tag ≡ true → Walks bytes (without_reached inside_at (after_at ∷ ends)) inside_at (rows ++ (row ∷ []))
+  after_constructed bit = after inside_at (after_at ∷ ends) (omega arith, ends_from (length bytes) at after_at ends w.are_ends within) (λ more. constructed_ahead more bit) (λ all. ahead_constructed all bit)
 
 -- by the header that was found
 module _ (bytes ends : List ℕ) (at : ℕ) (rows : List Element) (h : Header) (w : Walks bytes ends at rows) (some : at < length bytes) (found : IsFound (slice_range bytes at (innermost (length bytes) ends)) h) where
@@ -266,8 +266,8 @@ module _ (bytes ends : List ℕ) (at : ℕ) (rows : List Element) (h : Header) (
       subst (λ k. Passed k h.content_len) (sym found.header_len) (subst (Passed (header_size (length found.content))) (sym found.content_len)
       (after_primitive bytes ends at rows w some h.tag found.content found.rest found.is found.canonical bit))
 
-  pub walk_goes_on : Walks bytes (next_ends h at ends) (next_offset h at) (rows ++ (listed h.header_len h.content_len ∷ []))
-  walk_goes_on = by_form (is_constructed h.tag) refl
+  pub walk_continues : Walks bytes (next_ends h at ends) (next_offset h at) (rows ++ (listed h.header_len h.content_len ∷ []))
+  walk_continues = by_form (is_constructed h.tag) refl
 
   -- the element isn't past the end of the bytes
   pub found_within : at + h.header_len + h.content_len ≤ length bytes
@@ -300,5 +300,5 @@ module _ (bytes ends : List ℕ) (at : ℕ) (rows : List Element) (h : Header) (
   before_by_form true bit = reached bytes ((at + h.header_len + h.content_len) ∷ ends) (at + h.header_len) _ (IsBefore.inside ends at rows h before found bit)
   before_by_form false bit = reached bytes ends (at + h.header_len + h.content_len) _ (IsBefore.after ends at rows h before found bit)
 
-  pub before_goes_on : IsBefore bytes (next_ends h at ends) (next_offset h at) (rows ++ (listed_at (length ends) at h ∷ []))
-  before_goes_on = before_by_form (is_constructed h.tag) refl
+  pub before_continues : IsBefore bytes (next_ends h at ends) (next_offset h at) (rows ++ (listed_at (length ends) at h ∷ []))
+  before_continues = before_by_form (is_constructed h.tag) refl

@@ -22,13 +22,13 @@ may_follow Tags x y = nat_lt (tag_place (leading x)) (tag_place (leading y))
 may_follow Encodings x y = not (is_less y x)
 
 -- each may come right after the one before it, the first after this one
-abbrev pub AreBehind : Order → List ℕ → List (List ℕ) → Type 0
-AreBehind order x [] = ⊤
-AreBehind order x (y ∷ ys) = (may_follow order x y ≡ true) × AreBehind order y ys
+abbrev pub AreAfter : Order → List ℕ → List (List ℕ) → Type 0
+AreAfter order x [] = ⊤
+AreAfter order x (y ∷ ys) = (may_follow order x y ≡ true) × AreAfter order y ys
 
 abbrev pub AreInOrder : Order → List (List ℕ) → Type 0
 AreInOrder order [] = ⊤
-AreInOrder order (x ∷ xs) = AreBehind order x xs
+AreInOrder order (x ∷ xs) = AreAfter order x xs
 
 -- no elements at the front are out of order
 abbrev pub IsOrdered : Order → List ℕ → Type 0

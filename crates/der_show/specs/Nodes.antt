@@ -13,8 +13,8 @@ pub data Nodes : Type 0 where
 
 unfoldable pub encoding : Nodes → List ℕ
 encoding Nodes.none = []
-encoding (Nodes.primitive tag content behind) = tlv tag content ++ encoding behind
-encoding (Nodes.constructed tag inside behind) = tlv tag (encoding inside) ++ encoding behind
+encoding (Nodes.primitive tag content after) = tlv tag content ++ encoding after
+encoding (Nodes.constructed tag inside after) = tlv tag (encoding inside) ++ encoding after
 
 -- the tag has the short form, its type may have such an encoding, and the content is one that DER has
 pub record IsCanonical (tag : ℕ) (content : List ℕ) : Type 0 where
@@ -25,8 +25,8 @@ pub record IsCanonical (tag : ℕ) (content : List ℕ) : Type 0 where
 -- each element is in DER
 abbrev pub AreCanonical : Nodes → Type 0
 AreCanonical Nodes.none = ⊤
-AreCanonical (Nodes.primitive tag content behind) = IsCanonical tag content × (is_constructed tag ≡ false) × AreCanonical behind
-AreCanonical (Nodes.constructed tag inside behind) = IsCanonical tag (encoding inside) × (is_constructed tag ≡ true) × AreCanonical inside × AreCanonical behind
+AreCanonical (Nodes.primitive tag content after) = IsCanonical tag content × (is_constructed tag ≡ false) × AreCanonical after
+AreCanonical (Nodes.constructed tag inside after) = IsCanonical tag (encoding inside) × (is_constructed tag ≡ true) × AreCanonical inside × AreCanonical after
 
 -- how many bytes the tag and the length take before a content of so many
 abbrev pub header_size : ℕ → ℕ
@@ -39,9 +39,9 @@ element depth offset tag n = record { offset = offset; depth = depth; tag = tag;
 -- what is listed of elements at this depth and from this offset on: each before those in it
 unfoldable pub elements : ℕ → ℕ → Nodes → List Element
 elements depth offset Nodes.none = []
-elements depth offset (Nodes.primitive tag content behind) =
-    element depth offset tag (length content) ∷ elements depth (offset + header_size (length content) + length content) behind
-elements depth offset (Nodes.constructed tag inside behind) =
+elements depth offset (Nodes.primitive tag content after) =
+    element depth offset tag (length content) ∷ elements depth (offset + header_size (length content) + length content) after
+elements depth offset (Nodes.constructed tag inside after) =
     element depth offset tag (length (encoding inside))
     ∷ (elements (depth + 1) (offset + header_size (length (encoding inside))) inside
-    ++ elements depth (offset + header_size (length (encoding inside)) + length (encoding inside)) behind)
+    ++ elements depth (offset + header_size (length (encoding inside)) + length (encoding inside)) after)

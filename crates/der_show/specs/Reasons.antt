@@ -1,7 +1,7 @@
--- Why bytes were rejected.
+-- Why bytes were refused.
 use Rattle.std.specs.Prelude.{◌≡◌, ℕ, ◌+◌, ◌-◌, ◌/◌, Bool, false, ◌&&◌, not, ◌==◌, Option, Some, None, List, length, nat_lt, nat_le, slice_get, find, reverse, take, drop, if◌then◌else◌}
 use Rattle.picky_der_core.specs.Order.{is_less}
-use Rattle.picky_der_de.specs.declared.whole.DecodeError.{DecodeError}
+use Rattle.picky_der_de.specs.declared.whole_input.DecodeError.{DecodeError}
 use Rattle.der_show.specs.declared.element.Element.{Element}
 use Rattle.der_show.specs.declared.outline.Complaint.{Complaint}
 use Rattle.der_show.specs.declared.reason.Reason.{Reason}

@@ -61,8 +61,8 @@ is_element (step.Skipped r) = false
 is_element (step.Stopped r) = false
 
 -- the listing goes on after it
-abbrev pub goes_on : Step → Bool
-goes_on (step.Element h opening) = true
-goes_on (step.Broken r h) = true
-goes_on (step.Skipped r) = true
-goes_on (step.Stopped r) = false
+abbrev pub continues : Step → Bool
+continues (step.Element h opening) = true
+continues (step.Broken r h) = true
+continues (step.Skipped r) = true
+continues (step.Stopped r) = false

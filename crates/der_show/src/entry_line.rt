@@ -48,7 +48,7 @@ pub(crate) fn write_step<W: WriteExt>(
         (step_entries place.depth place.offset step.now) output.old e output.new) }
     ensures counted { IsOnceAtMost (W.faults output.old) (W.faults output.new) }
     ensures no_fault { OnOk result (W.faults output.new ≡ W.faults output.old) }
-    ensures goes_on { W.later output.old output.new }
+    ensures continues { W.later output.old output.new }
 {
     let offset = place.offset;
     match *step {
@@ -104,7 +104,7 @@ fn write_entry<W: WriteExt>(
         output.new) }
     ensures counted { IsOnceAtMost (W.faults output.old) (W.faults output.new) }
     ensures no_fault { OnOk result (W.faults output.new ≡ W.faults output.old) }
-    ensures goes_on { W.later output.old output.new }
+    ensures continues { W.later output.old output.new }
 {
     let mut line = line_of(alloc, ahead, &entry, form, format)?;
     if line.push('\n').is_err() {

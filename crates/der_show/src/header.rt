@@ -28,14 +28,14 @@ pub fn header_of(bytes: &[u8]) -> Result<Header, Rule>
     ensures small { length bytes.now < 2 ^ 64 }
 {
     let len = bytes.len();
-    let [first, behind @ ..] = bytes else {
+    let [first, after @ ..] = bytes else {
         return Err(Rule::CutHeader);
     };
     let tag = Tag::from(*first);
     if tag.number() > Tag::MAX_NUMBER {
         return Err(Rule::LongTag);
     }
-    match split_length(behind) {
+    match split_length(after) {
         Ok((content_len, rest)) if content_len <= rest.len() => Ok(Header {
             tag,
             header_len: len - rest.len(),
@@ -58,7 +58,7 @@ fn split_length(bytes: &[u8]) -> Result<(usize, &[u8]), Rule>
     }
 }
 
-// The rule that a length breaks if it is rejected with this error.
+// The rule that a length breaks if it is refused with this error.
 fn length_rule(bytes: &[u8], error: Asn1DerError) -> Rule
     ensures { result ≡ length_rule bytes.now error }
 {

@@ -25,11 +25,11 @@ static NAMES: [&str; 9] = [
 ];
 
 // Returns the index of the BIT STRING in the extension keyUsage whose identifier is at the front of these bytes, or `None` if none is.
-pub(crate) fn bits_behind(ahead: &[u8]) -> Option<usize> {
-    let behind = ahead.strip_prefix(KEY_USAGE)?;
-    let (value, skipped) = match behind.strip_prefix(CRITICAL) {
+pub(crate) fn bits_after_header(ahead: &[u8]) -> Option<usize> {
+    let after = ahead.strip_prefix(KEY_USAGE)?;
+    let (value, skipped) = match after.strip_prefix(CRITICAL) {
         Some(value) => (value, KEY_USAGE.len() + CRITICAL.len()),
-        None => (behind, KEY_USAGE.len()),
+        None => (after, KEY_USAGE.len()),
     };
     match header_of(value) {
         Ok(header) if header.tag == Tag::OCTET_STRING => {

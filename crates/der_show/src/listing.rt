@@ -5,7 +5,7 @@ ghost use Rattle.der_show.specs.Shown.{Shows, Stops};
 
 use crate::ends::Ends;
 use crate::entry_line::{Place, write_step};
-use crate::key_usage::bits_behind;
+use crate::key_usage::bits_after_header;
 use crate::step::{move_past, step_at};
 use crate::value::ValueForm;
 use crate::{LineForm, ShowOptions};
@@ -36,7 +36,7 @@ pub fn show<W: WriteExt>(
         output.old e output.new) }
     ensures counted { IsOnceAtMost (W.faults output.old) (W.faults output.new) }
     ensures no_fault { OnOk result (W.faults output.new ≡ W.faults output.old) }
-    ensures goes_on { W.later output.old output.new }
+    ensures continues { W.later output.old output.new }
 {
     show_as(alloc, bytes, options, &LineForm::Text, output)
 }
@@ -61,7 +61,7 @@ pub fn show_as<W: WriteExt>(
         e output.new) }
     ensures counted { IsOnceAtMost (W.faults output.old) (W.faults output.new) }
     ensures no_fault { OnOk result (W.faults output.new ≡ W.faults output.old) }
-    ensures goes_on { W.later output.old output.new }
+    ensures continues { W.later output.old output.new }
 {
     let len = bytes.len();
     let mut ends = Ends::new(alloc);
@@ -84,7 +84,7 @@ pub fn show_as<W: WriteExt>(
             output,
         )?;
         is_der &= step.is_element();
-        if !step.goes_on() {
+        if !step.continues() {
             return Ok(Shown { is_der });
         }
         key_usage = bits_after(ahead, offset).or(key_usage);
@@ -103,5 +103,5 @@ fn value_form(options: &ShowOptions, is_key_usage: bool) -> ValueForm {
 
 // The offset of the bits of the extension keyUsage, if the bytes at this offset are its identifier.
 fn bits_after(ahead: &[u8], offset: usize) -> Option<usize> {
-    bits_behind(ahead).map(|index| offset.saturating_add(index))
+    bits_after_header(ahead).map(|index| offset.saturating_add(index))
 }

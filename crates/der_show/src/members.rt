@@ -29,11 +29,11 @@ pub fn are_in_set_order(content: &[u8]) -> bool
 fn are_in_order(order: Order, content: &[u8]) -> bool
     ensures { MatchBool result (IsOrdered order content.now) (IsUnordered order content.now) }
 {
-    let Some((first, behind)) = split_member(content) else {
+    let Some((first, after)) = split_member(content) else {
         return true;
     };
     let mut last = first;
-    let mut rest = behind;
+    let mut rest = after;
     while let Some((member, others)) = split_member(rest) {
         if !may_follow(order, last, member) {
             return false;

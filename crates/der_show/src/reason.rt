@@ -1,4 +1,4 @@
-//! Why bytes were rejected as a value of a type.
+//! Why bytes were refused as a value of a type.
 ghost use Rattle.std.specs.Prelude.{◌≡◌, IfOk};
 ghost use Rattle.der_show.specs.Reasons.{IsReason, refused_at, has_more, misplaced_before, ends_at, offset_before, last_before, previous_of, parent_of, encoding_of, is_below, may_be_set, is_misplaced};
 
@@ -8,7 +8,7 @@ use picky_der_de::DecodeError;
 use std::alloc::{AllocError, Global};
 use std::fmt;
 
-/// Why bytes were rejected, and where.
+/// Why bytes were refused, and where.
 ///
 /// It prints as `not DER at 2: the length is indefinite (X.690, 8.1.3.6, 10.1): this is BER`, or as
 /// `refused at 402: another element or value than the type has`.
@@ -20,7 +20,7 @@ pub struct Reason {
     pub cause: Cause,
 }
 
-/// What is wrong with bytes that were rejected.
+/// What is wrong with bytes that were refused.
 #[derive(Debug, Clone, Copy, PartialEq, Eq)]
 pub enum Cause {
     /// They aren't elements in DER: one breaks this rule.
@@ -34,7 +34,7 @@ pub enum Cause {
     BytesAfter,
 }
 
-/// Returns why bytes were rejected with this error. The only error is a failed allocation.
+/// Returns why bytes were refused with this error. The only error is a failed allocation.
 ///
 /// If the bytes aren't DER, it is the first rule that they break, with the offset of the element that breaks it. If they are, and reading
 /// stopped after the first element, though bytes follow it, the offset is that of these bytes. Else it is that of the member of a SET OF
@@ -52,7 +52,7 @@ pub fn reason_of(alloc: Global, bytes: &[u8], refusal: DecodeError) -> Result<Re
     }
 }
 
-// Why bytes with these elements were rejected.
+// Why bytes with these elements were refused.
 fn refused_at(bytes: &[u8], elements: &[Element], refusal: DecodeError) -> Reason
     ensures { result ≡ refused_at bytes.now elements.now refusal }
 {
@@ -178,7 +178,7 @@ fn encoding_of<'a>(bytes: &'a [u8], element: &Element) -> &'a [u8]
     &rest[..size.min(rest.len())]
 }
 
-// What is wrong with bytes that are DER and were rejected with this error, or `None` for errors that aren't about the bytes.
+// What is wrong with bytes that are DER and were refused with this error, or `None` for errors that aren't about the bytes.
 fn words_of(error: Asn1DerError) -> Option<&'static str> {
     match error {
         Asn1DerError::InvalidData => Some("another element or value than the type has"),

@@ -1,6 +1,6 @@
 //! The steps of a listing.
 ghost use Rattle.std.specs.Prelude.{◌≡◌, IfOk, OnOk};
-ghost use Rattle.der_show.specs.Steps.{IsStep, CanMove, offset_after, ends_after, is_element, goes_on};
+ghost use Rattle.der_show.specs.Steps.{IsStep, CanMove, offset_after, ends_after, is_element, continues};
 
 use crate::ends::Ends;
 use crate::opening::opening_of;
@@ -30,8 +30,8 @@ impl Step {
     }
 
     // Whether the listing goes on after it.
-    pub(crate) fn goes_on(&self) -> bool
-        ensures { result ≡ goes_on self.now }
+    pub(crate) fn continues(&self) -> bool
+        ensures { result ≡ continues self.now }
     {
         !matches!(self, Step::Stopped(_))
     }

@@ -8,11 +8,11 @@ pub(crate) fn is_bmp(content: &[u8]) -> bool
     ensures { result ≡ is_string_content Two is_bmp content.now }
 {
     let mut rest = content;
-    while let [high, low, behind @ ..] = rest {
+    while let [high, low, after @ ..] = rest {
         if !is_bmp_character(u32::from(*high) * 256 + u32::from(*low)) {
             return false;
         }
-        rest = behind;
+        rest = after;
     }
     rest.is_empty()
 }
@@ -22,11 +22,11 @@ pub(crate) fn is_universal(content: &[u8]) -> bool
     ensures { result ≡ is_string_content Four is_universal content.now }
 {
     let mut rest = content;
-    while let [first, second, third, fourth, behind @ ..] = rest {
+    while let [first, second, third, fourth, after @ ..] = rest {
         if !is_universal_character(u32::from_be_bytes([*first, *second, *third, *fourth])) {
             return false;
         }
-        rest = behind;
+        rest = after;
     }
     rest.is_empty()
 }

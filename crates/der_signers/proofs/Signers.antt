@@ -11,14 +11,14 @@ use Rattle.der_cms.specs.contracts.signed_data.SignedDataSerialize.TheImpl as si
 use Rattle.der_signers.specs.Attributes.{set_of}
 use Rattle.der_signers.specs.Report.{AreWritable, IsWritableSigner}
 use Rattle.der_signers.specs.Outcome.{IsSignedData}
-use Rattle.der_signers.proofs.Writable.{IsShort, short-writable, list_short, retagged_short, first, rest, maybe_first, maybe_rest, items_short, some_mapped}
+use Rattle.der_signers.proofs.Writable.{IsShort, short-writable, list_short, implicit_list_short, first, rest, maybe_first, maybe_rest, items_short, some_mapped}
 
 -- those of a signer
 signer_writable : (s : SignerInfo) → IsShort (signer.ghosts.meaning s) → IsWritableSigner s
 signer_writable s h =
     let members = list_short ListKind.sequence _ h in
     let attributes = maybe_first _ s.signed_attrs _ (rest _ _ (rest _ _ (rest _ _ members))) in
-    some_mapped _ _ _ (λ a short. short-writable (set_of a.0.value.0.items) (retagged_short 0xA0 ListKind.set _ short)) s.signed_attrs attributes
+    some_mapped _ _ _ (λ a short. short-writable (set_of a.0.value.0.items) (implicit_list_short 0xA0 ListKind.set _ short)) s.signed_attrs attributes
 
 -- those of each signer
 signers_writable : (d : SignedData) → IsShort (signed_data.ghosts.meaning d) → All IsWritableSigner d.signer_infos.0.items

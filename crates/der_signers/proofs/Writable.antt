@@ -2,7 +2,7 @@
 use Rattle.std.proofs.Common.{◌≡◌, true, ℕ, zero, suc, ◌^◌, ◌<◌, ◌≤◌, List, [], ◌∷◌, length, map, Option, Some, None, refl, ap, ◌∙◌, arith, length-append}
 use Rattle.std.specs.Prelude.{All, IfSome, option_map, ⊤}
 use Rattle.std.specs.List.{concat}
-use Rattle.picky_der_core.specs.declared.asn1.wrapper.Wrapper.TheVariants.{Retagged}
+use Rattle.picky_der_core.specs.declared.asn1.wrapper.Wrapper.TheVariants.{ImplicitList}
 use Rattle.picky_der_core.specs.Element.{tlv, length_octets}
 use Rattle.picky_der_core.specs.ElementLaws.{length-tlv}
 use Rattle.picky_der_core.specs.Primitive.{Primitive}
@@ -49,10 +49,10 @@ list_short kind ts h =
     members_short ts h.readable.1 (omega (arith, h.short, size, tlv_longer (list_tag kind) (list_content kind (encodings ts)), length-list_content kind (encodings ts)))
 
 -- a list under a tag in place of its own
-pub retagged_short : (tag : ℕ) (kind : ListKind) (ts : Trees) → IsShort (Tree.wrapped (Retagged tag) (Tree.list kind ts)) → IsShort (Tree.list kind ts)
-retagged_short tag kind ts h =
+pub implicit_list_short : (tag : ℕ) (kind : ListKind) (ts : Trees) → IsShort (Tree.wrapped (ImplicitList tag) (Tree.list kind ts)) → IsShort (Tree.list kind ts)
+implicit_list_short tag kind ts h =
     let list = Tree.list kind ts in
-    let outer = ap length (der-wrapped_present (Retagged tag) list refl ∙ ap (tlv tag) (implicit_content-plain list refl)) in
+    let outer = ap length (der-wrapped_present (ImplicitList tag) list refl ∙ ap (tlv tag) (implicit_content-plain list refl)) in
     let own = ap length (der-plain list refl) in
     record { readable = h.readable.2; short = omega (arith, h.short, outer, own, same_length tag (list_tag kind) (content list)) }
 

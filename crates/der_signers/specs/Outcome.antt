@@ -1,7 +1,7 @@
 -- What comes of reading bytes as a message.
 use Rattle.std.specs.Prelude.{◌≡◌, ◌≢◌, ℕ, ◌+◌, ◌-◌, List, [], ◌∷◌, length}
 use Rattle.picky_der_core.specs.declared.error.Asn1DerError.TheVariants.{OutOfMemory}
-use Rattle.picky_der_de.specs.declared.whole.DecodeError.{DecodeError}
+use Rattle.picky_der_de.specs.declared.whole_input.DecodeError.{DecodeError}
 use Rattle.picky_der_de.specs.Whole.{IsWhole, IsNoEncoding}
 use Rattle.der_types.specs.declared.object_identifier.ObjectIdentifier.{ObjectIdentifier}
 use Rattle.der_cms.specs.declared.cryptographic_message_syntax2004.ContentInfo.{ContentInfo}

@@ -1,6 +1,6 @@
 -- Why bytes are refused.
 use Rattle.std.specs.Prelude.{◌≡◌, ℕ, List, None, Some, string_bytes}
-use Rattle.picky_der_de.specs.declared.whole.DecodeError.{DecodeError}
+use Rattle.picky_der_de.specs.declared.whole_input.DecodeError.{DecodeError}
 use Rattle.der_program_base.specs.Line.{IsOneLine}
 use Rattle.der_show.specs.declared.reason.Reason.{Reason as Found}
 use Rattle.der_show.specs.Reasons.{IsReason as IsFound}

@@ -5,9 +5,9 @@ ghost use Rattle.std.proofs.Common.{lit≤};
 ghost use Rattle.std.specs.Prelude.{[], refl, ◌∷◌, ◌≡◌};
 ghost use Rattle.picky_der_core.specs.Shape.{Shape};
 ghost use Rattle.picky_der_de.specs.declared.alternatives.OneOf.TheVariants.{Other, This};
-ghost use Rattle.picky_der_de.specs.KnownChoices.{known_choice};
-ghost use Rattle.picky_der_de.specs.KnownMembers.{known_struct, sequence_of, sequence_shape};
-ghost use Rattle.der_types.specs.KnownContents.{contents_of, contents_shape, known_contents};
+ghost use Rattle.picky_der_de.specs.ChoiceFacts.{choice_facts};
+ghost use Rattle.picky_der_de.specs.MembersFacts.{sequence_of, sequence_shape, struct_facts};
+ghost use Rattle.der_types.specs.ContentsFacts.{contents_facts, contents_of, contents_shape};
 ghost use Rattle.der_types.specs.Notation.{Notation};
 ghost use Rattle.der_status.specs.Enumerations.{is_ocsp_response_status, ocsp_response_status_number, same_ocsp_response_status};
 
@@ -77,13 +77,13 @@ impl Serialize for OcspResponse {
 impl Deserialize for OcspResponse {
     ghost shape = { sequence_shape ⟦<OcspResponseParts as DeserializeMembers>⟧.layout };
 
-    ghost known = { known_struct ⟦<OcspResponseParts as DeserializeMembers>⟧.known refl ⟦<Self as Struct>⟧.parts };
+    ghost facts = { struct_facts ⟦<OcspResponseParts as DeserializeMembers>⟧.facts refl ⟦<Self as Struct>⟧.parts };
 
     fn deserialize<R: ReadExt>(deserializer: &mut Deserializer<R>) -> Result<OcspResponse> {
         deserialize_struct_as(deserializer)
     }
 
-    ghost tied = { Prim.assumption };
+    ghost proved = { Prim.assumption };
 }
 
 impl Begins for OcspResponse {
@@ -102,7 +102,7 @@ impl Notated for OcspResponse {
     ghost denoted = { refl };
 }
 
-/// `OCSPResponseStatus` of OCSP-2013-88, as an ENUMERATED. Every other content is rejected with
+/// `OCSPResponseStatus` of OCSP-2013-88, as an ENUMERATED. Every other content is refused with
 /// `InvalidData`.
 #[derive(Debug, Clone, Copy, PartialEq, Eq)]
 pub enum OcspResponseStatus {
@@ -196,9 +196,9 @@ impl Serialize for OcspResponseStatus {
 impl Deserialize for OcspResponseStatus {
     ghost shape = { contents_shape 0x0A };
 
-    ghost known = { known_contents 0x0A (λ it. ocsp_response_status_number it ∷ []) ⟦<Self as PartialEq>⟧.eq ⟦<Self as Contents>⟧.same };
+    ghost facts = { contents_facts 0x0A (λ it. ocsp_response_status_number it ∷ []) ⟦<Self as PartialEq>⟧.eq ⟦<Self as Contents>⟧.same };
 
-    ghost tied = { Prim.assumption };
+    ghost proved = { Prim.assumption };
 
     fn deserialize<R: ReadExt>(deserializer: &mut Deserializer<R>) -> Result<OcspResponseStatus> {
         deserialize_contents_as(deserializer)
@@ -263,13 +263,13 @@ impl Serialize for ResponseBytes {
 impl Deserialize for ResponseBytes {
     ghost shape = { sequence_shape ⟦<ResponseBytesParts as DeserializeMembers>⟧.layout };
 
-    ghost known = { known_struct ⟦<ResponseBytesParts as DeserializeMembers>⟧.known refl ⟦<Self as Struct>⟧.parts };
+    ghost facts = { struct_facts ⟦<ResponseBytesParts as DeserializeMembers>⟧.facts refl ⟦<Self as Struct>⟧.parts };
 
     fn deserialize<R: ReadExt>(deserializer: &mut Deserializer<R>) -> Result<ResponseBytes> {
         deserialize_struct_as(deserializer)
     }
 
-    ghost tied = { Prim.assumption };
+    ghost proved = { Prim.assumption };
 }
 
 impl Begins for ResponseBytes {
@@ -344,13 +344,13 @@ impl Serialize for BasicOcspResponse {
 impl Deserialize for BasicOcspResponse {
     ghost shape = { sequence_shape ⟦<BasicOcspResponseParts as DeserializeMembers>⟧.layout };
 
-    ghost known = { known_struct ⟦<BasicOcspResponseParts as DeserializeMembers>⟧.known refl ⟦<Self as Struct>⟧.parts };
+    ghost facts = { struct_facts ⟦<BasicOcspResponseParts as DeserializeMembers>⟧.facts refl ⟦<Self as Struct>⟧.parts };
 
     fn deserialize<R: ReadExt>(deserializer: &mut Deserializer<R>) -> Result<BasicOcspResponse> {
         deserialize_struct_as(deserializer)
     }
 
-    ghost tied = { Prim.assumption };
+    ghost proved = { Prim.assumption };
 }
 
 impl Begins for BasicOcspResponse {
@@ -443,13 +443,13 @@ impl Serialize for ResponseData {
 impl Deserialize for ResponseData {
     ghost shape = { sequence_shape ⟦<ResponseDataParts as DeserializeMembers>⟧.layout };
 
-    ghost known = { known_struct ⟦<ResponseDataParts as DeserializeMembers>⟧.known refl ⟦<Self as Struct>⟧.parts };
+    ghost facts = { struct_facts ⟦<ResponseDataParts as DeserializeMembers>⟧.facts refl ⟦<Self as Struct>⟧.parts };
 
     fn deserialize<R: ReadExt>(deserializer: &mut Deserializer<R>) -> Result<ResponseData> {
         deserialize_struct_as(deserializer)
     }
 
-    ghost tied = { Prim.assumption };
+    ghost proved = { Prim.assumption };
 }
 
 impl Begins for ResponseData {
@@ -513,10 +513,10 @@ impl Deserialize for ResponderId {
 
     ghost shape = { Shape.choice ⟦<ResponderIdParts as Alternatives>⟧.shapes };
 
-    ghost known = { known_choice ⟦<ResponderIdParts as Alternatives>⟧.known refl ⟦<Self as Choice>⟧.parts ⟦<Self as PartialEq>⟧.eq
+    ghost facts = { choice_facts ⟦<ResponderIdParts as Alternatives>⟧.facts refl ⟦<Self as Choice>⟧.parts ⟦<Self as PartialEq>⟧.eq
         (elim [ variants.ByName _ ↦ elim [ variants.ByName _ ↦ λ h. h | _ ↦ λ h. h ] | _ ↦ elim [ variants.ByName _ ↦ λ h. h | _ ↦ λ h. h ] ]) };
 
-    ghost tied = { Prim.assumption };
+    ghost proved = { Prim.assumption };
 
     fn deserialize<R: ReadExt>(deserializer: &mut Deserializer<R>) -> Result<ResponderId> {
         deserialize_choice_as(deserializer)
@@ -612,13 +612,13 @@ impl Serialize for SingleResponse {
 impl Deserialize for SingleResponse {
     ghost shape = { sequence_shape ⟦<SingleResponseParts as DeserializeMembers>⟧.layout };
 
-    ghost known = { known_struct ⟦<SingleResponseParts as DeserializeMembers>⟧.known refl ⟦<Self as Struct>⟧.parts };
+    ghost facts = { struct_facts ⟦<SingleResponseParts as DeserializeMembers>⟧.facts refl ⟦<Self as Struct>⟧.parts };
 
     fn deserialize<R: ReadExt>(deserializer: &mut Deserializer<R>) -> Result<SingleResponse> {
         deserialize_struct_as(deserializer)
     }
 
-    ghost tied = { Prim.assumption };
+    ghost proved = { Prim.assumption };
 }
 
 impl Begins for SingleResponse {
@@ -690,10 +690,10 @@ impl Deserialize for CertStatus {
 
     ghost shape = { Shape.choice ⟦<CertStatusParts as Alternatives>⟧.shapes };
 
-    ghost known = { known_choice ⟦<CertStatusParts as Alternatives>⟧.known refl ⟦<Self as Choice>⟧.parts ⟦<Self as PartialEq>⟧.eq
+    ghost facts = { choice_facts ⟦<CertStatusParts as Alternatives>⟧.facts refl ⟦<Self as Choice>⟧.parts ⟦<Self as PartialEq>⟧.eq
         (elim [ variants.Good _ ↦ elim [ variants.Good _ ↦ λ h. h | _ ↦ λ h. h ] | _ ↦ elim [ variants.Good _ ↦ λ h. h | _ ↦ λ h. h ] ]) };
 
-    ghost tied = { Prim.assumption };
+    ghost proved = { Prim.assumption };
 
     fn deserialize<R: ReadExt>(deserializer: &mut Deserializer<R>) -> Result<CertStatus> {
         deserialize_choice_as(deserializer)
@@ -753,13 +753,13 @@ impl Serialize for RevokedInfo {
 impl Deserialize for RevokedInfo {
     ghost shape = { sequence_shape ⟦<RevokedInfoParts as DeserializeMembers>⟧.layout };
 
-    ghost known = { known_struct ⟦<RevokedInfoParts as DeserializeMembers>⟧.known refl ⟦<Self as Struct>⟧.parts };
+    ghost facts = { struct_facts ⟦<RevokedInfoParts as DeserializeMembers>⟧.facts refl ⟦<Self as Struct>⟧.parts };
 
     fn deserialize<R: ReadExt>(deserializer: &mut Deserializer<R>) -> Result<RevokedInfo> {
         deserialize_struct_as(deserializer)
     }
 
-    ghost tied = { Prim.assumption };
+    ghost proved = { Prim.assumption };
 }
 
 impl Begins for RevokedInfo {

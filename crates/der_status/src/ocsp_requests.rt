@@ -2,7 +2,7 @@
 //!
 //! Types of OCSP-2013-88.
 ghost use Rattle.std.specs.Prelude.{refl};
-ghost use Rattle.picky_der_de.specs.KnownMembers.{known_struct, sequence_of, sequence_shape};
+ghost use Rattle.picky_der_de.specs.MembersFacts.{sequence_of, sequence_shape, struct_facts};
 ghost use Rattle.der_types.specs.Notation.{Notation};
 
 use der_pkix::GeneralName;
@@ -57,13 +57,13 @@ impl Serialize for OcspRequest {
 impl Deserialize for OcspRequest {
     ghost shape = { sequence_shape ⟦<OcspRequestParts as DeserializeMembers>⟧.layout };
 
-    ghost known = { known_struct ⟦<OcspRequestParts as DeserializeMembers>⟧.known refl ⟦<Self as Struct>⟧.parts };
+    ghost facts = { struct_facts ⟦<OcspRequestParts as DeserializeMembers>⟧.facts refl ⟦<Self as Struct>⟧.parts };
 
     fn deserialize<R: ReadExt>(deserializer: &mut Deserializer<R>) -> Result<OcspRequest> {
         deserialize_struct_as(deserializer)
     }
 
-    ghost tied = { Prim.assumption };
+    ghost proved = { Prim.assumption };
 }
 
 impl Begins for OcspRequest {
@@ -149,13 +149,13 @@ impl Serialize for TbsRequest {
 impl Deserialize for TbsRequest {
     ghost shape = { sequence_shape ⟦<TbsRequestParts as DeserializeMembers>⟧.layout };
 
-    ghost known = { known_struct ⟦<TbsRequestParts as DeserializeMembers>⟧.known refl ⟦<Self as Struct>⟧.parts };
+    ghost facts = { struct_facts ⟦<TbsRequestParts as DeserializeMembers>⟧.facts refl ⟦<Self as Struct>⟧.parts };
 
     fn deserialize<R: ReadExt>(deserializer: &mut Deserializer<R>) -> Result<TbsRequest> {
         deserialize_struct_as(deserializer)
     }
 
-    ghost tied = { Prim.assumption };
+    ghost proved = { Prim.assumption };
 }
 
 impl Begins for TbsRequest {
@@ -224,13 +224,13 @@ impl Serialize for Signature {
 impl Deserialize for Signature {
     ghost shape = { sequence_shape ⟦<SignatureParts as DeserializeMembers>⟧.layout };
 
-    ghost known = { known_struct ⟦<SignatureParts as DeserializeMembers>⟧.known refl ⟦<Self as Struct>⟧.parts };
+    ghost facts = { struct_facts ⟦<SignatureParts as DeserializeMembers>⟧.facts refl ⟦<Self as Struct>⟧.parts };
 
     fn deserialize<R: ReadExt>(deserializer: &mut Deserializer<R>) -> Result<Signature> {
         deserialize_struct_as(deserializer)
     }
 
-    ghost tied = { Prim.assumption };
+    ghost proved = { Prim.assumption };
 }
 
 impl Begins for Signature {
@@ -293,13 +293,13 @@ impl Serialize for Request {
 impl Deserialize for Request {
     ghost shape = { sequence_shape ⟦<RequestParts as DeserializeMembers>⟧.layout };
 
-    ghost known = { known_struct ⟦<RequestParts as DeserializeMembers>⟧.known refl ⟦<Self as Struct>⟧.parts };
+    ghost facts = { struct_facts ⟦<RequestParts as DeserializeMembers>⟧.facts refl ⟦<Self as Struct>⟧.parts };
 
     fn deserialize<R: ReadExt>(deserializer: &mut Deserializer<R>) -> Result<Request> {
         deserialize_struct_as(deserializer)
     }
 
-    ghost tied = { Prim.assumption };
+    ghost proved = { Prim.assumption };
 }
 
 impl Begins for Request {
@@ -373,13 +373,13 @@ impl Serialize for CertId {
 impl Deserialize for CertId {
     ghost shape = { sequence_shape ⟦<CertIdParts as DeserializeMembers>⟧.layout };
 
-    ghost known = { known_struct ⟦<CertIdParts as DeserializeMembers>⟧.known refl ⟦<Self as Struct>⟧.parts };
+    ghost facts = { struct_facts ⟦<CertIdParts as DeserializeMembers>⟧.facts refl ⟦<Self as Struct>⟧.parts };
 
     fn deserialize<R: ReadExt>(deserializer: &mut Deserializer<R>) -> Result<CertId> {
         deserialize_struct_as(deserializer)
     }
 
-    ghost tied = { Prim.assumption };
+    ghost proved = { Prim.assumption };
 }
 
 impl Begins for CertId {

@@ -2,7 +2,7 @@
 //!
 //! Types of PKIXTSP.
 ghost use Rattle.std.specs.Prelude.{refl};
-ghost use Rattle.picky_der_de.specs.KnownMembers.{known_struct, sequence_of, sequence_shape};
+ghost use Rattle.picky_der_de.specs.MembersFacts.{sequence_of, sequence_shape, struct_facts};
 ghost use Rattle.der_types.specs.Notation.{Notation};
 
 use der_cms::ContentInfo;
@@ -105,13 +105,13 @@ impl Serialize for TimeStampReq {
 impl Deserialize for TimeStampReq {
     ghost shape = { sequence_shape ⟦<TimeStampReqParts as DeserializeMembers>⟧.layout };
 
-    ghost known = { known_struct ⟦<TimeStampReqParts as DeserializeMembers>⟧.known refl ⟦<Self as Struct>⟧.parts };
+    ghost facts = { struct_facts ⟦<TimeStampReqParts as DeserializeMembers>⟧.facts refl ⟦<Self as Struct>⟧.parts };
 
     fn deserialize<R: ReadExt>(deserializer: &mut Deserializer<R>) -> Result<TimeStampReq> {
         deserialize_struct_as(deserializer)
     }
 
-    ghost tied = { Prim.assumption };
+    ghost proved = { Prim.assumption };
 }
 
 impl Begins for TimeStampReq {
@@ -166,13 +166,13 @@ impl Serialize for MessageImprint {
 impl Deserialize for MessageImprint {
     ghost shape = { sequence_shape ⟦<MessageImprintParts as DeserializeMembers>⟧.layout };
 
-    ghost known = { known_struct ⟦<MessageImprintParts as DeserializeMembers>⟧.known refl ⟦<Self as Struct>⟧.parts };
+    ghost facts = { struct_facts ⟦<MessageImprintParts as DeserializeMembers>⟧.facts refl ⟦<Self as Struct>⟧.parts };
 
     fn deserialize<R: ReadExt>(deserializer: &mut Deserializer<R>) -> Result<MessageImprint> {
         deserialize_struct_as(deserializer)
     }
 
-    ghost tied = { Prim.assumption };
+    ghost proved = { Prim.assumption };
 }
 
 impl Begins for MessageImprint {
@@ -230,13 +230,13 @@ impl Serialize for TimeStampResp {
 impl Deserialize for TimeStampResp {
     ghost shape = { sequence_shape ⟦<TimeStampRespParts as DeserializeMembers>⟧.layout };
 
-    ghost known = { known_struct ⟦<TimeStampRespParts as DeserializeMembers>⟧.known refl ⟦<Self as Struct>⟧.parts };
+    ghost facts = { struct_facts ⟦<TimeStampRespParts as DeserializeMembers>⟧.facts refl ⟦<Self as Struct>⟧.parts };
 
     fn deserialize<R: ReadExt>(deserializer: &mut Deserializer<R>) -> Result<TimeStampResp> {
         deserialize_struct_as(deserializer)
     }
 
-    ghost tied = { Prim.assumption };
+    ghost proved = { Prim.assumption };
 }
 
 impl Begins for TimeStampResp {
@@ -305,13 +305,13 @@ impl Serialize for PkiStatusInfo {
 impl Deserialize for PkiStatusInfo {
     ghost shape = { sequence_shape ⟦<PkiStatusInfoParts as DeserializeMembers>⟧.layout };
 
-    ghost known = { known_struct ⟦<PkiStatusInfoParts as DeserializeMembers>⟧.known refl ⟦<Self as Struct>⟧.parts };
+    ghost facts = { struct_facts ⟦<PkiStatusInfoParts as DeserializeMembers>⟧.facts refl ⟦<Self as Struct>⟧.parts };
 
     fn deserialize<R: ReadExt>(deserializer: &mut Deserializer<R>) -> Result<PkiStatusInfo> {
         deserialize_struct_as(deserializer)
     }
 
-    ghost tied = { Prim.assumption };
+    ghost proved = { Prim.assumption };
 }
 
 impl Begins for PkiStatusInfo {
@@ -455,13 +455,13 @@ impl Serialize for TstInfo {
 impl Deserialize for TstInfo {
     ghost shape = { sequence_shape ⟦<TstInfoParts as DeserializeMembers>⟧.layout };
 
-    ghost known = { known_struct ⟦<TstInfoParts as DeserializeMembers>⟧.known refl ⟦<Self as Struct>⟧.parts };
+    ghost facts = { struct_facts ⟦<TstInfoParts as DeserializeMembers>⟧.facts refl ⟦<Self as Struct>⟧.parts };
 
     fn deserialize<R: ReadExt>(deserializer: &mut Deserializer<R>) -> Result<TstInfo> {
         deserialize_struct_as(deserializer)
     }
 
-    ghost tied = { Prim.assumption };
+    ghost proved = { Prim.assumption };
 }
 
 impl Begins for TstInfo {
@@ -530,13 +530,13 @@ impl Serialize for Accuracy {
 impl Deserialize for Accuracy {
     ghost shape = { sequence_shape ⟦<AccuracyParts as DeserializeMembers>⟧.layout };
 
-    ghost known = { known_struct ⟦<AccuracyParts as DeserializeMembers>⟧.known refl ⟦<Self as Struct>⟧.parts };
+    ghost facts = { struct_facts ⟦<AccuracyParts as DeserializeMembers>⟧.facts refl ⟦<Self as Struct>⟧.parts };
 
     fn deserialize<R: ReadExt>(deserializer: &mut Deserializer<R>) -> Result<Accuracy> {
         deserialize_struct_as(deserializer)
     }
 
-    ghost tied = { Prim.assumption };
+    ghost proved = { Prim.assumption };
 }
 
 impl Begins for Accuracy {

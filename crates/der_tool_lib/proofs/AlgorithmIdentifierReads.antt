@@ -12,9 +12,9 @@ use Rattle.picky_der_core.specs.Readable.{AreReadable}
 use Rattle.picky_der_core.specs.Shape.{Shape, IsOf, EachIs}
 use Rattle.picky_der_de.specs.State.{State}
 use Rattle.picky_der_de.specs.Reading.{Reads, Refuses}
-use Rattle.picky_der_de.specs.Ends.{Outer, Closes, RefusesClose, OpensList, RefusesList}
+use Rattle.picky_der_de.specs.Ends.{EnclosingEnd, Closes, RefusesClose, OpensList, RefusesList}
 use Rattle.picky_der_de.specs.Members.{ReadsMember, RefusesMember, HasNoMore, RefusesRest}
-use Rattle.picky_der_de.proofs.Rests.{behind_first, FirstIsUnread, nothing, first, IsAhead, rest_unopened, rest_refused, rest_head, rest_next, rest_left, rest_closed, member_as, row_read, row_reads, row_last, row_ended, reads_as}
+use Rattle.picky_der_de.proofs.Rests.{after_first, FirstIsUnread, nothing, first, IsAhead, rest_unopened, rest_refused, rest_head, rest_next, rest_left, rest_closed, member_as, members_read, reads_members, members_last, members_ended, reads_as}
 use Rattle.picky_der_ser.specs.Meaning.{list_meaning}
 use Rattle.picky_asn1_der.specs.declared.raw_der.Asn1RawDer.{Asn1RawDer}
 use Rattle.der_tool_lib.specs.declared.algorithm_identifier.AlgorithmIdentifier.{AlgorithmIdentifier}
@@ -42,7 +42,7 @@ same_element x = der-raw (tlv 0x06 x) ∙ sym (der-primitive (Primitive.bytes 0x
 pub algorithm_unopened : {a c : State} {e : Asn1DerError} → RefusesList 0x30 a c e → RefusesAlgorithm a c e
 algorithm_unopened h = rest_unopened {members = members} {kind = ListKind.sequence} refl h
 
-module _ {a b : State} {outer : Outer} (opened : OpensList 0x30 a b outer) where
+module _ {a b : State} {outer : EnclosingEnd} (opened : OpensList 0x30 a b outer) where
   refused : {c : State} {e : Asn1DerError} → RefusesRest AreElements members b c e → RefusesAlgorithm a c e
   refused r = rest_refused {kind = ListKind.sequence} refl (λ v of_shape. of_shape.1) opened r
 
@@ -64,7 +64,7 @@ module _ {a b : State} {outer : Outer} (opened : OpensList 0x30 a b outer) where
     left_over None read n k = absurd (rest_closed n k)
     left_over (Some p) read n k = refused (rest_next algorithm (rest_left (λ v. last v.parameters) read k))
       where
-        last : (q : Option Asn1RawDer) → behind_first (trees (map Tree.raw (of_parameters q))) ≡ Trees.none
+        last : (q : Option Asn1RawDer) → after_first (trees (map Tree.raw (of_parameters q))) ≡ Trees.none
         last None = refl
         last (Some q) = refl
 
@@ -76,11 +76,11 @@ algorithm_read x small r =
     let bytes = element_bytes 0x06 x (omega arith) small r.reads.of_shape.1 in
     member_as (Tree.raw (tlv 0x06 x)) bytes (record { tag = 0x06; content = x; number = omega arith; is = refl }, bytes) (sym (same_element x)) r
 
-pub reads_algorithm : {a b c d f : State} {outer closed : Outer} (x : List ℕ) (p : Option Asn1RawDer) → length x < 2 ^ 64 → OpensList 0x30 a b outer → ReadsMember (Shape.primitive (PrimitiveShape.bytes 0x06)) b c (Tree.primitive (Primitive.bytes 0x06 x))
+pub reads_algorithm : {a b c d f : State} {outer closed : EnclosingEnd} (x : List ℕ) (p : Option Asn1RawDer) → length x < 2 ^ 64 → OpensList 0x30 a b outer → ReadsMember (Shape.primitive (PrimitiveShape.bytes 0x06)) b c (Tree.primitive (Primitive.bytes 0x06 x))
     → IfSome p (λ v. ReadsMember Shape.raw c d (Tree.raw v.0.items)) → IfNone p (HasNoMore c d) → Closes closed d f → closed ≡ outer → Reads shape a f (list_meaning ListKind.sequence Tree.raw (tlv 0x06 x ∷ of_parameters p))
 reads_algorithm x None small opened algorithm read n k same =
-    let row = row_ended (algorithm_read x small algorithm) n in
-    reads_as (refl, row.of_shape) (row_reads {kind = ListKind.sequence} opened row k same)
+    let row = members_ended (algorithm_read x small algorithm) n in
+    reads_as (refl, row.of_shape) (reads_members {kind = ListKind.sequence} opened row k same)
 reads_algorithm x (Some p) small opened algorithm read n k same =
-    let row = row_read (algorithm_read x small algorithm) (row_last read) in
-    reads_as (refl, row.of_shape) (row_reads {kind = ListKind.sequence} opened row k same)
+    let row = members_read (algorithm_read x small algorithm) (members_last read) in
+    reads_as (refl, row.of_shape) (reads_members {kind = ListKind.sequence} opened row k same)

@@ -10,14 +10,14 @@ use Rattle.picky_der_core.specs.Tree.{Tree}
 use Rattle.picky_der_core.specs.Encoding.{der}
 use Rattle.picky_der_core.specs.Readable.{IsWritable}
 use Rattle.picky_der_core.specs.ReadableLaws.{readable-writable}
-use Rattle.picky_der_core.specs.Reading.{Place, StandsAt}
+use Rattle.picky_der_core.specs.Reading.{Place, IsAtFront}
 use Rattle.picky_der_core.specs.Refusal.{plain_refusal, element_refusal, error_of}
 use Rattle.picky_der_de.specs.State.{State, fresh}
-use Rattle.picky_der_de.specs.Steps.{IsJudged, IsOther, drawn_count}
+use Rattle.picky_der_de.specs.Steps.{IsJudged, IsOther, fetched_count}
 use Rattle.picky_der_de.specs.Reading.{Refuses, now, ever}
 use Rattle.der_tool_lib.specs.declared.value.ValueType.{ValueType}
 use Rattle.der_tool_lib.specs.Words.{word_of}
-use Rattle.der_tool_lib.specs.Value.{RefusalRule, plain, element, mendable, Description, description_of, StandsFirst, BeginsValue, IsErrorBy, AnswersRead, read, refused}
+use Rattle.der_tool_lib.specs.Value.{RefusalRule, plain, element, mendable, Description, description_of, IsFirstValue, BeginsValue, IsErrorBy, AnswersRead, read, refused}
 use Rattle.der_tool_lib.specs.Reads.{RefusesAs, ReadsNamed, RefusesNamed}
 
 -- ---- values
@@ -26,23 +26,23 @@ known_front : (left : Option (List ℕ)) (bytes front : List ℕ) → Consumes (
 known_front None bytes front c = absurd c
 known_front (Some rest) bytes front c = record { rest = rest; is = c }
 
-pub answers_read : {type : ValueType} {old new : State} {bytes answer digits : List ℕ} {taken : ℕ} {t : Tree} (v : (description_of type).Value) → old ≡ fresh (Some bytes) (length bytes) [] [] → ReadsNamed type old new v → (description_of type).meaning v ≡ t
-    → taken ≡ new.taken → digits ≡ encode_lower (der t) → answer ≡ codes "ok " ++ (decimal taken ++ (codes " " ++ digits)) → AnswersRead type bytes answer
-answers_read {type} {old} {new} {bytes} {answer} {digits} {taken} {t} v is r same n d a =
+pub answers_read : {type : ValueType} {old new : State} {bytes answer digits : List ℕ} {consumed : ℕ} {t : Tree} (v : (description_of type).Value) → old ≡ fresh (Some bytes) (length bytes) [] [] → ReadsNamed type old new v → (description_of type).meaning v ≡ t
+    → consumed ≡ new.consumed → digits ≡ encode_lower (der t) → answer ≡ codes "ok " ++ (decimal consumed ++ (codes " " ++ digits)) → AnswersRead type bytes answer
+answers_read {type} {old} {new} {bytes} {answer} {digits} {consumed} {t} v is r same n d a =
     let u = (description_of type).meaning v in
     let h = subst (λ o. ReadsNamed type o new v) is r in
-    let front = known_front new.input bytes (der u) h.takes.input in
-    let stands : StandsAt Place.whole (description_of type).shape bytes (length bytes) u = record { of_shape = h.of_shape; readable = h.readable; may_stand = tt; within = omega (arith, h.takes.until_end); front = front } in
-    let size : taken ≡ length (der u) = n ∙ omega (arith, h.takes.taken) in
+    let front = known_front new.input bytes (der u) h.consumes.input in
+    let at_front : IsAtFront Place.whole (description_of type).shape bytes (length bytes) u = record { of_shape = h.of_shape; readable = h.readable; may_be_there = tt; within = omega (arith, h.consumes.until_end); front = front } in
+    let size : consumed ≡ length (der u) = n ∙ omega (arith, h.consumes.consumed) in
     let text : digits ≡ encode_lower (der u) = d ∙ ap (λ x. encode_lower (der x)) (sym same) in
-    read v stands (a ∙ ap (λ m. codes "ok " ++ (decimal m ++ (codes " " ++ digits))) size ∙ ap (λ x. codes "ok " ++ (decimal (length (der u)) ++ (codes " " ++ x))) text)
+    read v at_front (a ∙ ap (λ m. codes "ok " ++ (decimal m ++ (codes " " ++ digits))) size ∙ ap (λ x. codes "ok " ++ (decimal (length (der u)) ++ (codes " " ++ x))) text)
 
 -- what was read can be written
-pub writable_read : (type : ValueType) {old new : State} {bytes : List ℕ} {taken : ℕ} {t : Tree} (v : (description_of type).Value) → old ≡ fresh (Some bytes) (length bytes) [] [] → ReadsNamed type old new v → (description_of type).meaning v ≡ t
-    → taken ≡ new.taken → taken < 2 ^ 64 → IsWritable t
+pub writable_read : (type : ValueType) {old new : State} {bytes : List ℕ} {consumed : ℕ} {t : Tree} (v : (description_of type).Value) → old ≡ fresh (Some bytes) (length bytes) [] [] → ReadsNamed type old new v → (description_of type).meaning v ≡ t
+    → consumed ≡ new.consumed → consumed < 2 ^ 64 → IsWritable t
 writable_read type {new = new} v is r same n small =
     let h = subst (λ o. ReadsNamed type o new v) is r in
-    subst IsWritable same (readable-writable ((description_of type).meaning v) h.readable (omega (arith, h.takes.taken, n, small)))
+    subst IsWritable same (readable-writable ((description_of type).meaning v) h.readable (omega (arith, h.consumes.consumed, n, small)))
 
 -- ---- refusals
 
@@ -66,15 +66,15 @@ module _ (d : Description) (bytes : List ℕ) {new : State} {e : Asn1DerError} (
   is_truncated h b = truncated_or_not e (λ final.
       let whole = der (d.meaning b.value) in
       let rest = b.begins.rest in
-      let n = drawn_count new in
+      let n = fetched_count new in
       let there : n ≤ length bytes = omega (arith, h.fails.there refl) in
       let cut : bytes ≡ take n bytes ++ drop n bytes = grind (arith, common_steps) in
       let size : length (take n bytes) + 0 ≡ n = grind (arith, common_steps) in
       let is : whole ≡ take n bytes ++ (drop n bytes ++ rest) = grind (arith, common_steps, b.begins.is) in
-      let stands : StandsAt Place.whole d.shape whole (2 ^ 64 - 1) (d.meaning b.value) = record { of_shape = b.of_shape; readable = b.readable; may_stand = tt; within = omega (arith, b.writable.fits); front = record { rest = []; is = sym (append-nil whole) } } in
-      h.none judged (2 ^ 64 - 1) whole (ever final refl (take n bytes) (drop n bytes ++ rest) (drop n bytes) (ap Some cut) size is) b.value stands)
+      let at_front : IsAtFront Place.whole d.shape whole (2 ^ 64 - 1) (d.meaning b.value) = record { of_shape = b.of_shape; readable = b.readable; may_be_there = tt; within = omega (arith, b.writable.fits); front = record { rest = []; is = sym (append-nil whole) } } in
+      h.none judged (2 ^ 64 - 1) whole (ever final refl (take n bytes) (drop n bytes ++ rest) (drop n bytes) (ap Some cut) size is) b.value at_front)
 
-  refused_as : (rule : RefusalRule) → RefusesAs d.meaning d.shape rule (start_state bytes) new e → ((v : d.Value) → StandsFirst d bytes v → ⊥) × IsErrorBy d bytes rule e
+  refused_as : (rule : RefusalRule) → RefusesAs d.meaning d.shape rule (start_state bytes) new e → ((v : d.Value) → IsFirstValue d bytes v → ⊥) × IsErrorBy d bytes rule e
   refused_as (plain tag judge) h =
       let all : take (length bytes) bytes ≡ bytes = grind (arith, common_steps) in (
         h.refuses.none judged (length bytes) bytes (now refl refl),

@@ -66,8 +66,8 @@ description_of named.Spki = record { Value = SubjectPublicKeyInfo; meaning = spk
 
 module _ (d : Description) (bytes : List ℕ) where
   -- a value of the type is at the front of the bytes
-  abbrev pub StandsFirst : d.Value → Type 0
-  StandsFirst v = ReadsFrom d.meaning d.shape bytes (length bytes) v
+  abbrev pub IsFirstValue : d.Value → Type 0
+  IsFirstValue v = ReadsFrom d.meaning d.shape bytes (length bytes) v
 
   -- with more bytes after them the bytes would be the encoding of a value that is read and written
   pub record BeginsValue : Type 0 where
@@ -89,7 +89,7 @@ is_memory _ = false
 
 -- the answer to bytes to be read as a value of the type
 pub data AnswersRead (type : ValueType) (bytes answer : List ℕ) : Type 0 where
-  read : (v : (description_of type).Value) → StandsFirst (description_of type) bytes v
+  read : (v : (description_of type).Value) → IsFirstValue (description_of type) bytes v
       → answer ≡ codes "ok " ++ (decimal (length (der ((description_of type).meaning v))) ++ (codes " " ++ encode_lower (der ((description_of type).meaning v)))) → AnswersRead type bytes answer
-  refused : (e : Asn1DerError) → ((v : (description_of type).Value) → StandsFirst (description_of type) bytes v → ⊥)
+  refused : (e : Asn1DerError) → ((v : (description_of type).Value) → IsFirstValue (description_of type) bytes v → ⊥)
       → IsErrorBy (description_of type) bytes (description_of type).rule e → answer ≡ codes "refused " ++ word_of e → AnswersRead type bytes answer

@@ -2,7 +2,7 @@
 ghost use Rattle.picky_der_core.specs.Tree.{ListKind, Tree};
 ghost use Rattle.picky_der_core.specs.Shape.{Shape};
 ghost use Rattle.picky_der_ser.specs.Meaning.{list_meaning};
-ghost use Rattle.picky_der_de.specs.Known.{known_plain};
+ghost use Rattle.picky_der_de.specs.Facts.{plain_facts};
 ghost use Rattle.der_tool_lib.specs.AlgorithmIdentifier.{elements};
 ghost use Rattle.der_tool_lib.specs.AlgorithmIdentifierLaws.{algorithm_injective, algorithm_has_shape};
 
@@ -34,14 +34,14 @@ impl Serialize for AlgorithmIdentifier {
 impl Deserialize for AlgorithmIdentifier {
     ghost shape = { Shape.list_of ListKind.sequence Shape.raw };
 
-    ghost known = { known_plain ⟦<Self as Serialize>⟧.meaning ⟦<Self as PartialEq>⟧.eq (record {
+    ghost facts = { plain_facts ⟦<Self as Serialize>⟧.meaning ⟦<Self as PartialEq>⟧.eq (record {
       has_shape = λ a r. algorithm_has_shape a r;
       injective = λ x y p q r e. algorithm_injective x y e;
       sound = tt;
       begun = λ x b h. h;
     }) };
 
-    ghost tied = { Prim.assumption };
+    ghost proved = { Prim.assumption };
 
     fn deserialize<R: ReadExt>(deserializer: &mut Deserializer<R>) -> Result<AlgorithmIdentifier> {
         let mut members = deserializer.deserialize_seq()?;

@@ -11,7 +11,7 @@ mod test_struct;
 mod value;
 
 pub use algorithm_identifier::AlgorithmIdentifier;
-pub use answer::{answer_to, kind_word};
+pub use answer::{kind_word, output_of};
 pub use line::Request;
 pub use lines::run;
 pub use subject_public_key_info::SubjectPublicKeyInfo;

@@ -1,13 +1,13 @@
 //! The lines of an input, one after another.
 ghost use Rattle.std.specs.Prelude.{◌≡◌, IfOk, OnOk, IfErr, string_bytes};
 ghost use Rattle.std.specs.Io.KnownBytes.{IsAtEnd};
-ghost use Rattle.picky_der_core.specs.Reader.{TellsFault};
+ghost use Rattle.picky_der_core.specs.Reader.{ReportsFault};
 ghost use Rattle.picky_der_core.specs.WriterFaults.{IsOnceAtMost};
 ghost use Rattle.der_program_base.specs.Run.{Stops};
 ghost use Rattle.der_program_base.specs.Text.{WritesAnswers};
 ghost use Rattle.der_tool_lib.specs.Answer.{IsAnswerTo};
 
-use crate::answer_to;
+use crate::output_of;
 use der_program_base::{Answers, answer_lines};
 use picky_der_core::misc::{ReadExt, WriteExt};
 use picky_der_core::{Asn1DerError, Result};
@@ -19,8 +19,8 @@ struct Requested;
 impl Answers for Requested {
     ghost is_answer = { IsAnswerTo };
 
-    fn answer_to(alloc: Global, line: &[u8]) -> Result<String> {
-        answer_to(alloc, line)
+    fn output_of(alloc: Global, line: &[u8]) -> Result<String> {
+        output_of(alloc, line)
     }
 }
 
@@ -37,13 +37,13 @@ pub fn run<R: ReadExt, W: WriteExt>(alloc: Global, input: &mut R, output: &mut W
     ensures at_end { OnOk result (IsAtEnd (R.remaining input.new)) }
     ensures stops { IfErr result (Stops IsAnswerTo W.WriteExt.own (R.remaining input.old)
         (R.remaining input.new) (R.faults input.old) (R.faults input.new) output.old output.new) }
-    ensures reads { IfErr result (TellsFault (R.faults input.old) (R.faults input.new)
+    ensures reads { IfErr result (ReportsFault (R.faults input.old) (R.faults input.new)
         (R.remaining input.new)) }
     ensures writes_counted { IsOnceAtMost (W.faults output.old) (W.faults output.new) }
     ensures no_read_fault { OnOk result (R.faults input.new ≡ R.faults input.old) }
     ensures no_write_fault { OnOk result (W.faults output.new ≡ W.faults output.old) }
     ensures same_references { R.references input.new ≡ R.references input.old }
-    ensures goes_on { W.later output.old output.new }
+    ensures continues { W.later output.old output.new }
 {
     answer_lines::<Requested, R, W>(alloc, input, output)
 }

@@ -99,15 +99,15 @@ refuses_text text place part e within is_part no_arc error = record {
 
 -- ---- arcs that print
 
-abbrev pub behind_points : List (Result ℕ OidError) → List ℕ
-behind_points arcs = flat_map (λ arc. 46 ∷ arc_text arc) arcs
+abbrev pub after_points : List (Result ℕ OidError) → List ℕ
+after_points arcs = flat_map (λ arc. 46 ∷ arc_text arc) arcs
 
-pub dotted_or_marked-cons : (arc : Result ℕ OidError) (arcs : List (Result ℕ OidError)) → dotted_or_marked (arc ∷ arcs) ≡ arc_text arc ++ behind_points arcs
+pub dotted_or_marked-cons : (arc : Result ℕ OidError) (arcs : List (Result ℕ OidError)) → dotted_or_marked (arc ∷ arcs) ≡ arc_text arc ++ after_points arcs
 dotted_or_marked-cons arc [] = sym (append-nil (arc_text arc))
 dotted_or_marked-cons arc (next ∷ arcs) = ap (λ bs. arc_text arc ++ (46 ∷ bs)) (dotted_or_marked-cons next arcs)
 
-pub behind_points-append : (arcs : List (Result ℕ OidError)) (arc : Result ℕ OidError) → behind_points (arcs ++ arc ∷ []) ≡ behind_points arcs ++ (46 ∷ arc_text arc)
-behind_points-append arcs arc = flat_map-append (λ arc. 46 ∷ arc_text arc) arcs (arc ∷ []) ∙ ap (λ bs. behind_points arcs ++ bs) (append-nil (46 ∷ arc_text arc))
+pub after_points-append : (arcs : List (Result ℕ OidError)) (arc : Result ℕ OidError) → after_points (arcs ++ arc ∷ []) ≡ after_points arcs ++ (46 ∷ arc_text arc)
+after_points-append arcs arc = flat_map-append (λ arc. 46 ∷ arc_text arc) arcs (arc ∷ []) ∙ ap (λ bs. after_points arcs ++ bs) (append-nil (46 ∷ arc_text arc))
 
 -- ---- errors that are passed on
 

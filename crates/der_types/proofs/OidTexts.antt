@@ -1,16 +1,13 @@
 -- Arcs of an object identifier, and of a text.
-use Rattle.std.proofs.Common.{◌≡◌, ◌≢◌, ◌⊎◌, ℕ, ◌<◌, ◌==◌, Bool, true, false, not, ◌&&◌, ◌||◌, List, [], ◌∷◌, length, map, nat_lt, Some, None, Result, Ok, Err, IfErr, refl, sym, ap, ◌∙◌, inl, inr, arith}
+use Rattle.std.proofs.Common.{◌≡◌, ◌≢◌, ◌⊎◌, ℕ, ◌==◌, Bool, true, false, not, ◌&&◌, ◌||◌, List, [], ◌∷◌, map, nat_lt, Some, None, Result, Ok, Err, IfErr, refl, sym, ap, ◌∙◌, inl, inr, arith}
 use Rattle.std.specs.Prelude.{if◌then◌else◌}
 use Rattle.std.specs.Fmt.{decimal}
 use Rattle.std.proofs.lemmas.Bool.Decides.{nat_tests}
 use Rattle.std.proofs.lemmas.Fmt.{decimal_injective}
 use Rattle.der_types.specs.declared.oid_error.OidError.{OidError}
 use Rattle.der_types.specs.declared.oid_error.OidError.TheVariants.{FirstArc, SecondArc, OutOfMemory}
-use Rattle.der_types.specs.Subidentifiers.{subidentifiers}
-use Rattle.der_types.specs.SubidentifierLaws.{valid_subidentifiers, subidentifier-some}
 use Rattle.der_types.specs.Dotted.{dotted, AreFitting, parts_of, RefusesText}
 use Rattle.der_types.specs.ObjectIdentifier.{are_arcs, arcs_error, RefusesArcs, RefusesOidText}
-use Rattle.der_types.specs.RelativeOid.{is_relative_oid}
 use Rattle.der_types.proofs.DottedLemmas.{slice_split-dotted}
 
 -- ---- arcs
@@ -26,10 +23,6 @@ are_arcs-none (x ∷ y ∷ arcs) e = by_tests (nat_lt 2 x) (nat_lt x 2) (nat_lt 
     by_tests false true false s f g h e = cc
     by_tests false false r true f g h e = refl
     by_tests false false r false f g h e = grind (arith, nat_tests)
-
-pub valid_relative : (arcs : List ℕ) → 0 < length arcs → is_relative_oid (subidentifiers arcs) ≡ true
-valid_relative [] h = absurd (omega arith)
-valid_relative (n ∷ ns) h = subidentifier-some n (subidentifiers ns) ∙ valid_subidentifiers (n ∷ ns)
 
 -- ---- texts
 

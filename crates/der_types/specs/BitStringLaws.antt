@@ -124,13 +124,13 @@ octets-append xs ys some e =
           let none : ys ≡ [] = empty ys (omega arith) in
           let all : xs ++ ys ≡ xs = ap (λ zs. xs ++ zs) none ∙ append-nil xs in
           let front : take 8 xs ≡ xs = take_all 8 xs (omega arith) in
-          let behind : drop 8 xs ≡ [] = drop_all 8 xs (omega arith) in
-          octets-step (xs ++ ys) some ∙ ap (λ zs. weigh 128 (take 8 zs) ∷ octets (drop 8 zs)) all ∙ ap (λ zs. weigh 128 zs ∷ octets (drop 8 xs)) front ∙ ap (λ zs. weigh 128 xs ∷ octets zs) (behind ∙ sym none)
+          let after : drop 8 xs ≡ [] = drop_all 8 xs (omega arith) in
+          octets-step (xs ++ ys) some ∙ ap (λ zs. weigh 128 (take 8 zs) ∷ octets (drop 8 zs)) all ∙ ap (λ zs. weigh 128 zs ∷ octets (drop 8 xs)) front ∙ ap (λ zs. weigh 128 xs ∷ octets zs) (after ∙ sym none)
       | inr whole ↦
           let eight : 8 ≡ length xs = omega arith in
           let front : take 8 (xs ++ ys) ≡ xs = ap (λ n. take n (xs ++ ys)) eight ∙ take-append_seam xs ys in
-          let behind : drop 8 (xs ++ ys) ≡ ys = ap (λ n. drop n (xs ++ ys)) eight ∙ drop-append_seam xs ys in
-          octets-step (xs ++ ys) some ∙ ap (λ zs. weigh 128 zs ∷ octets (drop 8 (xs ++ ys))) front ∙ ap (λ zs. weigh 128 xs ∷ octets zs) behind
+          let after : drop 8 (xs ++ ys) ≡ ys = ap (λ n. drop n (xs ++ ys)) eight ∙ drop-append_seam xs ys in
+          octets-step (xs ++ ys) some ∙ ap (λ zs. weigh 128 zs ∷ octets (drop 8 (xs ++ ys))) front ∙ ap (λ zs. weigh 128 xs ∷ octets zs) after
     ]
   where
     empty : (zs : List Bool) → length zs ≡ 0 → zs ≡ []

@@ -26,10 +26,10 @@ module _ {V : Type 0} (meaning : V → Tree) (s : Shape) (allows : V → Bool) (
   -- a value was read, and isn't allowed
   pub record IsNotAllowed : Type 0 where
     pub value : V
-    pub behind : State
-    pub reads : Reads s old behind (meaning value)
+    pub after : State
+    pub reads : Reads s old after (meaning value)
     pub refused : allows value ≡ false
-    pub fails : FailsAs InvalidData behind e new
+    pub fails : FailsAs InvalidData after e new
 
   -- no value of the type is there, or one that isn't allowed
   abbrev pub RefusesConstrained : Type 0

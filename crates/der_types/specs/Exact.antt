@@ -17,31 +17,31 @@ pub record IsExact {V : Type 0} (P : Tree → Type 0) (meaning : V → Tree) : T
   -- each such tree is what some value means, if vectors can hold it
   pub complete : (t : Tree) → P t → IsReadable t → IsShort t → (v : V) × (meaning v ≡ t)
 
--- What a type says of its values, and that they are exact where what is owed holds: that its parts are what they say.
+-- What a type says of its values, and that they are exact by a premise: that its parts are what they say.
 pub record Values (V : Type 0) : Type 1 where
   pub notation : Notation
   pub meaning : V → Tree
-  pub Owed : Type 0
-  pub holds : Owed → IsExact (Denotes notation) meaning
+  pub Premise : Type 0
+  pub follows : Premise → IsExact (Denotes notation) meaning
 
 -- It is said of the type's own notation and meaning.
-pub record TiedValues {V : Type 0} (values : Values V) (notation : Notation) (meaning : V → Tree) : Type 0 where
-  pub owed : values.Owed
+pub record ProvedValues {V : Type 0} (values : Values V) (notation : Notation) (meaning : V → Tree) : Type 0 where
+  pub premise : values.Premise
   pub notated : values.notation ≡ notation
   pub means : values.meaning ≡ meaning
 
-module _ {V : Type 0} (values : Values V) {notation : Notation} {meaning : V → Tree} (t : TiedValues values notation meaning) where
+module _ {V : Type 0} (values : Values V) {notation : Notation} {meaning : V → Tree} (t : ProvedValues values notation meaning) where
   pub is_exact : IsExact (Denotes notation) meaning
   is_exact =
-      let of_own : IsExact (Denotes notation) values.meaning = subst (λ n. IsExact (Denotes n) values.meaning) t.notated (values.holds t.owed) in
+      let of_own : IsExact (Denotes notation) values.meaning = subst (λ n. IsExact (Denotes n) values.meaning) t.notated (values.follows t.premise) in
       subst (λ (m : V → Tree). IsExact (Denotes notation) m) t.means of_own
 
 abbrev pub plain_values : {V : Type 0} (notation : Notation) (meaning : V → Tree) → IsExact (Denotes notation) meaning → Values V
-plain_values notation meaning is = record { notation = notation; meaning = meaning; Owed = ⊤; holds = λ o. is }
+plain_values notation meaning is = record { notation = notation; meaning = meaning; Premise = ⊤; follows = λ o. is }
 
 -- by what the type of a part says of itself
 abbrev pub values_by : {V A : Type 0} (a : Values A) (n : Notation) (means : A → Tree) (notation : Notation) (meaning : V → Tree) → (IsExact (Denotes n) means → IsExact (Denotes notation) meaning) → Values V
-values_by a n means notation meaning so = record { notation = notation; meaning = meaning; Owed = TiedValues a n means; holds = λ t. so (is_exact a t) }
+values_by a n means notation meaning so = record { notation = notation; meaning = meaning; Premise = ProvedValues a n means; follows = λ t. so (is_exact a t) }
 
 -- ---- values that are made of one part
 

@@ -16,7 +16,7 @@ use Rattle.der_types.specs.PrimitiveForm.{primitive_form}
 use Rattle.der_types.specs.Notation.{Notation}
 use Rattle.der_types.specs.ContentTypes.{string_width, string_character}
 use Rattle.der_types.specs.Denotes.{Denotes, IsMade, content_tree, HasContent}
-use Rattle.der_types.specs.Exact.{IsExact, made_exact, Values, TiedValues, is_exact, plain_values, content_exact}
+use Rattle.der_types.specs.Exact.{IsExact, made_exact, Values, ProvedValues, is_exact, plain_values, content_exact}
 
 content_same : (x y : ℕ) (xs ys : List ℕ) → content_tree x xs ≡ content_tree y ys → xs ≡ ys
 content_same x y xs ys e = cc
@@ -92,7 +92,7 @@ module _ {V : Type 0} (tag : ℕ) (width : Width) (is_character : ℕ → Bool) 
       subst (λ (c : ℕ → Bool). IsExact (HasContent tag (is_string_content (string_width tag) c)) (λ v. content_tree tag (content v))) s.same_characters wide
 
   abbrev pub string_values : Values V
-  string_values = record { notation = Notation.restricted-string tag; meaning = λ v. content_tree tag (content v); Owed = IsStandard tag width is_character; holds = string_exact }
+  string_values = record { notation = Notation.restricted-string tag; meaning = λ v. content_tree tag (content v); Premise = IsStandard tag width is_character; follows = string_exact }
 
 -- What a type says of its contents: they are under its own tag, whose number is at most 30.
 pub record OwnContents (A : Type 0) : Type 0 where
@@ -102,11 +102,11 @@ pub record OwnContents (A : Type 0) : Type 0 where
   pub content : A → List ℕ
   pub same : (x : A) → meaning x ≡ content_tree tag (content x)
 
-pub record TiedContents {A : Type 0} (d : OwnContents A) (meaning : A → Tree) (content : A → List ℕ) : Type 0 where
+pub record ProvedContents {A : Type 0} (d : OwnContents A) (meaning : A → Tree) (content : A → List ℕ) : Type 0 where
   pub means : d.meaning ≡ meaning
   pub contents : d.content ≡ content
 
-pub are_own : {A : Type 0} (d : OwnContents A) {meaning : A → Tree} {content : A → List ℕ} → TiedContents d meaning content → (x : A) → meaning x ≡ content_tree d.tag (content x)
+pub are_own : {A : Type 0} (d : OwnContents A) {meaning : A → Tree} {content : A → List ℕ} → ProvedContents d meaning content → (x : A) → meaning x ≡ content_tree d.tag (content x)
 are_own {A} d t x = sym (ap (λ (f : A → Tree). f x) t.means) ∙ (d.same x ∙ ap (λ (f : A → List ℕ). content_tree d.tag (f x)) t.contents)
 
 abbrev pub own_contents : {A : Type 0} (tag : ℕ) (content : A → List ℕ) → IsTagNumber (number_of tag) → OwnContents A
@@ -117,6 +117,6 @@ abbrev pub content_under_values : {A V : Type 0} (a : Values A) (n : Notation) (
 content_under_values a n means tag d content part whole = record {
   notation = Notation.content-under tag n;
   meaning = λ v. content_tree (primitive_form tag) (content (part v));
-  Owed = TiedValues a n means × TiedContents d means content;
-  holds = λ o. content_under_exact n means (is_exact a o.0) tag d.tag content (are_own d o.1) d.short part whole;
+  Premise = ProvedValues a n means × ProvedContents d means content;
+  follows = λ o. content_under_exact n means (is_exact a o.0) tag d.tag content (are_own d o.1) d.short part whole;
 }

@@ -8,7 +8,7 @@ use Rattle.picky_der_core.specs.Integer.{int_tree, unsigned_tree}
 use Rattle.picky_der_core.specs.Primitive.{Primitive}
 use Rattle.picky_der_core.specs.Tree.{Tree}
 use Rattle.picky_der_ser.specs.Defaults.{IsByTree, numbers_by_tree, ints_by_tree, wrapped_by_tree}
-use Rattle.der_types.specs.ExactMembers.{Default, IsDefault, TiedDefault}
+use Rattle.der_types.specs.ExactMembers.{Default, IsDefault, ProvedDefault}
 use Rattle.der_types.specs.NotationLaws.{false_value, true_value}
 
 abbrev bool_tree : Bool → Tree
@@ -62,8 +62,8 @@ module _ {A V : Type 0} (w : Wrapper) (part : V → A) (whole : (x : A) → (v :
   abbrev pub wrapped_default : Default A → Default V
   wrapped_default d = record { meaning = λ v. Tree.wrapped w (d.meaning (part v)); left_out = λ v. d.left_out (part v); value = Tree.wrapped w d.value; one = (whole d.one).0; is = wrapped_is d.is }
 
-  pub wrapped_tied : {d : Default A} {means : A → Tree} {left_out : A → Bool} {value : Tree} → TiedDefault d means left_out value → TiedDefault (wrapped_default d) (λ v. Tree.wrapped w (means (part v))) (λ v. left_out (part v)) (Tree.wrapped w value)
-  wrapped_tied t = record {
+  pub wrapped_proved : {d : Default A} {means : A → Tree} {left_out : A → Bool} {value : Tree} → ProvedDefault d means left_out value → ProvedDefault (wrapped_default d) (λ v. Tree.wrapped w (means (part v))) (λ v. left_out (part v)) (Tree.wrapped w value)
+  wrapped_proved t = record {
     means = ap {B = V → Tree} (λ (m : A → Tree) v. Tree.wrapped w (m (part v))) t.means;
     leaves_out = ap {B = V → Bool} (λ (l : A → Bool) v. l (part v)) t.leaves_out;
     is_value = ap (Tree.wrapped w) t.is_value;

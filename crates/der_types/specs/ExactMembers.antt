@@ -8,53 +8,53 @@ use Rattle.picky_der_ser.specs.Defaults.{IsByTree}
 use Rattle.picky_der_ser.specs.Meaning.{maybe_more, unless_default}
 use Rattle.der_types.specs.Notation.{Notation, Member, Members}
 use Rattle.der_types.specs.Denotes.{Denotes, DenoteMembers, DenoteFirst, IsShort, AreShort}
-use Rattle.der_types.specs.Exact.{IsExact, Values, TiedValues, is_exact, made_exact}
+use Rattle.der_types.specs.Exact.{IsExact, Values, ProvedValues, is_exact, made_exact}
 
 -- ---- one member
 
 -- a member as it is before others
-pub record IsExactMember {V : Type 0} (m : Member) (in_front : V → Trees → Trees) : Type 1 where
+pub record IsExactMember {V : Type 0} (m : Member) (prepend : V → Trees → Trees) : Type 1 where
   -- what it makes of readable others that are so
-  pub sound : (Q : Trees → Type 0) (v : V) (ts : Trees) → (AreReadable ts → Q ts) → AreReadable (in_front v ts) → DenoteFirst m Q (in_front v ts)
+  pub sound : (Q : Trees → Type 0) (v : V) (ts : Trees) → (AreReadable ts → Q ts) → AreReadable (prepend v ts) → DenoteFirst m Q (prepend v ts)
   -- and what is denoted is made so
-  pub complete : (Q : Trees → Type 0) (ts : Trees) → DenoteFirst m Q ts → AreReadable ts → AreShort ts → (v : V) × (us : Trees) × Q us × AreReadable us × AreShort us × (in_front v us ≡ ts)
+  pub complete : (Q : Trees → Type 0) (ts : Trees) → DenoteFirst m Q ts → AreReadable ts → AreShort ts → (v : V) × (us : Trees) × Q us × AreReadable us × AreShort us × (prepend v us ≡ ts)
 
 pub record MemberValues (V : Type 0) : Type 1 where
   pub member : Member
-  pub in_front : V → Trees → Trees
-  pub Owed : Type 0
-  pub holds : Owed → IsExactMember member in_front
+  pub prepend : V → Trees → Trees
+  pub Premise : Type 0
+  pub follows : Premise → IsExactMember member prepend
 
-pub record TiedMember {V : Type 0} (values : MemberValues V) (member : Member) (in_front : V → Trees → Trees) : Type 0 where
-  pub owed : values.Owed
+pub record ProvedMember {V : Type 0} (values : MemberValues V) (member : Member) (prepend : V → Trees → Trees) : Type 0 where
+  pub premise : values.Premise
   pub notated : values.member ≡ member
-  pub stands : values.in_front ≡ in_front
+  pub prepends : values.prepend ≡ prepend
 
-module _ {V : Type 0} (values : MemberValues V) {member : Member} {in_front : V → Trees → Trees} (t : TiedMember values member in_front) where
-  pub is_exact_member : IsExactMember member in_front
+module _ {V : Type 0} (values : MemberValues V) {member : Member} {prepend : V → Trees → Trees} (t : ProvedMember values member prepend) where
+  pub is_exact_member : IsExactMember member prepend
   is_exact_member =
-      let of_own : IsExactMember member values.in_front = subst (λ m. IsExactMember m values.in_front) t.notated (values.holds t.owed) in
-      subst (λ (f : V → Trees → Trees). IsExactMember member f) t.stands of_own
+      let of_own : IsExactMember member values.prepend = subst (λ m. IsExactMember m values.prepend) t.notated (values.follows t.premise) in
+      subst (λ (f : V → Trees → Trees). IsExactMember member f) t.prepends of_own
 
 pub record AreExact {V : Type 0} (ms : Members) (members : V → Trees) : Type 0 where
   pub sound : (v : V) → AreReadable (members v) → DenoteMembers ms (members v)
   pub complete : (ts : Trees) → DenoteMembers ms ts → AreReadable ts → AreShort ts → (v : V) × (members v ≡ ts)
 
-pub record RowValues (V : Type 0) : Type 1 where
+pub record MembersValues (V : Type 0) : Type 1 where
   pub notation : Members
   pub members : V → Trees
-  pub Owed : Type 0
-  pub holds : Owed → AreExact notation members
+  pub Premise : Type 0
+  pub follows : Premise → AreExact notation members
 
-pub record TiedRow {V : Type 0} (values : RowValues V) (notation : Members) (members : V → Trees) : Type 0 where
-  pub owed : values.Owed
+pub record ProvedMembers {V : Type 0} (values : MembersValues V) (notation : Members) (members : V → Trees) : Type 0 where
+  pub premise : values.Premise
   pub notated : values.notation ≡ notation
   pub mean : values.members ≡ members
 
-module _ {V : Type 0} (values : RowValues V) {notation : Members} {members : V → Trees} (t : TiedRow values notation members) where
+module _ {V : Type 0} (values : MembersValues V) {notation : Members} {members : V → Trees} (t : ProvedMembers values notation members) where
   pub are_exact : AreExact notation members
   are_exact =
-      let of_own : AreExact notation values.members = subst (λ ms. AreExact ms values.members) t.notated (values.holds t.owed) in
+      let of_own : AreExact notation values.members = subst (λ ms. AreExact ms values.members) t.notated (values.follows t.premise) in
       subst (λ (f : V → Trees). AreExact notation f) t.mean of_own
 
 module _ {V : Type 0} (v : V) where
@@ -65,39 +65,39 @@ module _ {V : Type 0} (v : V) where
   pub none_exact : AreExact Members.end (λ (w : V). Trees.none)
   none_exact = record { sound = λ w r. tt; complete = none_complete }
 
-abbrev pub none_values : {V : Type 0} → V → RowValues V
-none_values v = record { notation = Members.end; members = λ w. Trees.none; Owed = ⊤; holds = λ o. none_exact v }
+abbrev pub none_values : {V : Type 0} → V → MembersValues V
+none_values v = record { notation = Members.end; members = λ w. Trees.none; Premise = ⊤; follows = λ o. none_exact v }
 
 -- a member and those after it, where they make the value
-module _ {V X R : Type 0} {m : Member} {in_front : X → Trees → Trees} {ms : Members} {members : R → Trees} (first : V → X) (rest : V → R) (whole : (x : X) (r : R) → (v : V) × (first v ≡ x) × (rest v ≡ r)) (a : IsExactMember m in_front) (b : AreExact ms members) where
-  led_sound : (v : V) → AreReadable (in_front (first v) (members (rest v))) → DenoteMembers (Members.member m ms) (in_front (first v) (members (rest v)))
+module _ {V X R : Type 0} {m : Member} {prepend : X → Trees → Trees} {ms : Members} {members : R → Trees} (first : V → X) (rest : V → R) (whole : (x : X) (r : R) → (v : V) × (first v ≡ x) × (rest v ≡ r)) (a : IsExactMember m prepend) (b : AreExact ms members) where
+  led_sound : (v : V) → AreReadable (prepend (first v) (members (rest v))) → DenoteMembers (Members.member m ms) (prepend (first v) (members (rest v)))
   led_sound v r = a.sound (DenoteMembers ms) (first v) (members (rest v)) (b.sound (rest v)) r
 
-  led_complete : (ts : Trees) → DenoteMembers (Members.member m ms) ts → AreReadable ts → AreShort ts → (v : V) × (in_front (first v) (members (rest v)) ≡ ts)
+  led_complete : (ts : Trees) → DenoteMembers (Members.member m ms) ts → AreReadable ts → AreShort ts → (v : V) × (prepend (first v) (members (rest v)) ≡ ts)
   led_complete ts d r s =
       let x = a.complete (DenoteMembers ms) ts d r s in
       let y = b.complete x.1 x.2 x.3 x.4 in
       let v = whole x.0 y.0 in
-      (v.0, ap (λ z. in_front z (members (rest v.0))) v.1 ∙ (ap (in_front x.0) (ap members v.2 ∙ y.1) ∙ x.5))
+      (v.0, ap (λ z. prepend z (members (rest v.0))) v.1 ∙ (ap (prepend x.0) (ap members v.2 ∙ y.1) ∙ x.5))
 
-  pub led_exact : AreExact (Members.member m ms) (λ v. in_front (first v) (members (rest v)))
+  pub led_exact : AreExact (Members.member m ms) (λ v. prepend (first v) (members (rest v)))
   led_exact = record { sound = led_sound; complete = led_complete }
 
-abbrev pub row_values : {V X R : Type 0} (a : MemberValues X) (m : Member) (in_front : X → Trees → Trees) (b : RowValues R) (ms : Members) (members : R → Trees) (first : V → X) (rest : V → R) → ((x : X) (r : R) → (v : V) × (first v ≡ x) × (rest v ≡ r)) → RowValues V
-row_values a m in_front b ms members first rest whole = record {
+abbrev pub members_values : {V X R : Type 0} (a : MemberValues X) (m : Member) (prepend : X → Trees → Trees) (b : MembersValues R) (ms : Members) (members : R → Trees) (first : V → X) (rest : V → R) → ((x : X) (r : R) → (v : V) × (first v ≡ x) × (rest v ≡ r)) → MembersValues V
+members_values a m prepend b ms members first rest whole = record {
   notation = Members.member m ms;
-  members = λ v. in_front (first v) (members (rest v));
-  Owed = TiedMember a m in_front × TiedRow b ms members;
-  holds = λ o. led_exact first rest whole (is_exact_member a o.0) (are_exact b o.1);
+  members = λ v. prepend (first v) (members (rest v));
+  Premise = ProvedMember a m prepend × ProvedMembers b ms members;
+  follows = λ o. led_exact first rest whole (is_exact_member a o.0) (are_exact b o.1);
 }
 
 -- a struct of them
-abbrev pub struct_values : {S R : Type 0} (b : RowValues R) (ms : Members) (members : R → Trees) (parts : S → R) → ((r : R) → (s : S) × (parts s ≡ r)) → Values S
+abbrev pub struct_values : {S R : Type 0} (b : MembersValues R) (ms : Members) (members : R → Trees) (parts : S → R) → ((r : R) → (s : S) × (parts s ≡ r)) → Values S
 struct_values b ms members parts whole = record {
   notation = Notation.sequence ms;
   meaning = λ s. Tree.list ListKind.sequence (members (parts s));
-  Owed = TiedRow b ms members;
-  holds = λ o.
+  Premise = ProvedMembers b ms members;
+  follows = λ o.
       let are = are_exact b o in
       made_exact (Tree.list ListKind.sequence) (DenoteMembers ms) (λ s. members (parts s)) (λ s r. are.sound (parts s) r.1) (λ ts d r short.
       let row = are.complete ts d r.1 short.1 in
@@ -151,7 +151,7 @@ module _ {A V : Type 0} (n : Notation) (means : A → Tree) (is : IsExact (Denot
   pub optional_exact : IsExactMember (Member.optional n) (λ v. maybe_more means (part v))
   optional_exact = record { sound = λ Q. maybe_sound (Denotes n) means part may_be Q; complete = λ Q. maybe_complete (Denotes n) means part may_be Q }
 
--- What is owed of a default: it is known by its tree, it means this one, and there is such a value.
+-- The premise of a default: it is known by its tree, it means this one, and there is such a value.
 pub record IsDefault {A : Type 0} (means : A → Tree) (left_out : A → Bool) (value : Tree) (one : A) : Type 0 where
   pub by_tree : IsByTree means left_out
   pub is_value : (it : A) → IsTrue (left_out it) → means it ≡ value
@@ -200,12 +200,12 @@ pub record Default (A : Type 0) : Type 0 where
   pub one : A
   pub is : IsDefault meaning left_out value one
 
-pub record TiedDefault {A : Type 0} (d : Default A) (meaning : A → Tree) (left_out : A → Bool) (value : Tree) : Type 0 where
+pub record ProvedDefault {A : Type 0} (d : Default A) (meaning : A → Tree) (left_out : A → Bool) (value : Tree) : Type 0 where
   pub means : d.meaning ≡ meaning
   pub leaves_out : d.left_out ≡ left_out
   pub is_value : d.value ≡ value
 
-pub default_of : {A : Type 0} (d : Default A) {meaning : A → Tree} {left_out : A → Bool} {value : Tree} → TiedDefault d meaning left_out value → IsDefault meaning left_out value d.one
+pub default_of : {A : Type 0} (d : Default A) {meaning : A → Tree} {left_out : A → Bool} {value : Tree} → ProvedDefault d meaning left_out value → IsDefault meaning left_out value d.one
 default_of {A} d {meaning} {left_out} t =
     let a : IsDefault meaning d.left_out d.value d.one = subst (λ (m : A → Tree). IsDefault m d.left_out d.value d.one) t.means d.is in
     let b : IsDefault meaning left_out d.value d.one = subst (λ (l : A → Bool). IsDefault meaning l d.value d.one) t.leaves_out a in
@@ -215,23 +215,23 @@ module _ {A : Type 0} (a : Values A) (n : Notation) (means : A → Tree) where
   abbrev pub required_values : MemberValues A
   required_values = record {
     member = Member.required n;
-    in_front = λ v. Trees.more (means v);
-    Owed = TiedValues a n means;
-    holds = λ o. required_exact n means (is_exact a o);
+    prepend = λ v. Trees.more (means v);
+    Premise = ProvedValues a n means;
+    follows = λ o. required_exact n means (is_exact a o);
   }
 
   abbrev pub optional_values : {V : Type 0} (part : V → Option A) → ((o : Option A) → (v : V) × (part v ≡ o)) → MemberValues V
   optional_values part whole = record {
     member = Member.optional n;
-    in_front = λ v. maybe_more means (part v);
-    Owed = TiedValues a n means;
-    holds = λ o. optional_exact n means (is_exact a o) part whole;
+    prepend = λ v. maybe_more means (part v);
+    Premise = ProvedValues a n means;
+    follows = λ o. optional_exact n means (is_exact a o) part whole;
   }
 
   abbrev pub defaulted_values : {V : Type 0} (d : Default A) (left_out : A → Bool) (value : Tree) (part : V → A) → ((x : A) → (v : V) × (part v ≡ x)) → MemberValues V
   defaulted_values d left_out value part whole = record {
     member = Member.defaulted value n;
-    in_front = λ v. maybe_more means (unless_default left_out (part v));
-    Owed = TiedValues a n means × TiedDefault d means left_out value;
-    holds = λ o. defaulted_exact n means (is_exact a o.0) left_out value d.one (default_of d o.1) part whole;
+    prepend = λ v. maybe_more means (unless_default left_out (part v));
+    Premise = ProvedValues a n means × ProvedDefault d means left_out value;
+    follows = λ o. defaulted_exact n means (is_exact a o.0) left_out value d.one (default_of d o.1) part whole;
   }

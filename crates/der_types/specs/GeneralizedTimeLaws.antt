@@ -12,7 +12,7 @@ use Rattle.der_types.specs.Calendar.{seconds_before}
 use Rattle.der_types.specs.CalendarLaws.{civil_of, time_of, less, greater, then_assoc, added, part_lt, cmp_parts, cmp_seconds}
 use Rattle.der_types.specs.DateTimes.{two_digits, seconds_of}
 use Rattle.der_types.specs.TimeContents.{is_digit, number_at, are_digits, seconds_at, year_at_first, are_whole_seconds, is_fraction, fraction_of, is_ended, is_generalized_time}
-use Rattle.der_types.specs.TimeValues.{month_to_second, behind_point, generalized_content, IsReadAt}
+use Rattle.der_types.specs.TimeValues.{month_to_second, after_point, generalized_content, IsReadAt}
 use Rattle.der_types.specs.TimeLaws.{digit_range, AreSeconds, seconds_in, stamp_of, fourteen_read, last_left, IsShort, short_of}
 use Rattle.der_types.specs.GeneralizedTimes.{time_key, scaled, ticks}
 
@@ -25,10 +25,10 @@ pub record IsGeneralized (bs : List ℕ) : Type 0 where
   pub long : 14 < length bs
   pub seconds : AreSeconds bs
   pub fraction : is_fraction (fraction_of bs) ≡ true
-  pub ends : drop 14 bs ≡ behind_point (fraction_of bs) ++ (0x5A ∷ [])
+  pub ends : drop 14 bs ≡ after_point (fraction_of bs) ++ (0x5A ∷ [])
 
 -- digits have a point before them
-pointed : (ds : List ℕ) → 0 < length ds → behind_point ds ≡ 0x2E ∷ ds
+pointed : (ds : List ℕ) → 0 < length ds → after_point ds ≡ 0x2E ∷ ds
 pointed [] h = absurd (omega (arith, h))
 pointed (d ∷ ds) h = refl
 
@@ -47,7 +47,7 @@ generalized_of bs e =
           long = long;
           seconds = w;
           fraction = ap is_fraction none;
-          ends = last_left bs 14 full (eqb-true (get_or bs 14 0) 0x5A e) ∙ ap (λ ds. behind_point ds ++ (0x5A ∷ [])) (sym none);
+          ends = last_left bs 14 full (eqb-true (get_or bs 14 0) 0x5A e) ∙ ap (λ ds. after_point ds ++ (0x5A ∷ [])) (sym none);
         }
     by_length false l long w e =
         let a = and_parts (nat_lt 16 (length bs) && (get_or bs 14 0 == 0x2E) && (get_or bs (length bs - 1) 0 == 0x5A)) (is_fraction (fraction_of bs)) e in
@@ -140,11 +140,11 @@ cmp_fractions (suc k) (d ∷ ds) (e ∷ es) p q h i =
     ap₂ ordering_then first (cmp_fractions k ds es a.1 b.1 (omega (arith, h)) (omega (arith, i)))
     ∙ sym (cmp_parts (10 ^ k) (d - 0x30) (e - 0x30) (scaled k ds) (scaled k es) (scaled_below k ds (all_digits ds a.1)) (scaled_below k es (all_digits es b.1)))
 
-cmp_behind_point : (ds es : List ℕ) → slice_cmp nat_cmp (behind_point ds) (behind_point es) ≡ slice_cmp nat_cmp ds es
-cmp_behind_point [] [] = refl
-cmp_behind_point [] (e ∷ es) = refl
-cmp_behind_point (d ∷ ds) [] = refl
-cmp_behind_point (d ∷ ds) (e ∷ es) = refl
+cmp_after_point : (ds es : List ℕ) → slice_cmp nat_cmp (after_point ds) (after_point es) ≡ slice_cmp nat_cmp ds es
+cmp_after_point [] [] = refl
+cmp_after_point [] (e ∷ es) = refl
+cmp_after_point (d ∷ ds) [] = refl
+cmp_after_point (d ∷ ds) (e ∷ es) = refl
 
 -- ---- digits in the order of numbers
 
@@ -159,7 +159,7 @@ cmp_pair a b xs ys h k =
 
 -- the content without the Z
 key : DateTime → List ℕ → List ℕ
-key t ds = two_digits (t.year / 100) ++ (two_digits (t.year % 100) ++ (two_digits t.month ++ (two_digits t.day ++ (two_digits t.hour ++ (two_digits t.minute ++ (two_digits t.second ++ behind_point ds))))))
+key t ds = two_digits (t.year / 100) ++ (two_digits (t.year % 100) ++ (two_digits t.month ++ (two_digits t.day ++ (two_digits t.hour ++ (two_digits t.minute ++ (two_digits t.second ++ after_point ds))))))
 
 key_whole : (t : DateTime) (ds : List ℕ) → generalized_content t ds ≡ key t ds ++ (0x5A ∷ [])
 unfolding generalized_content month_to_second key
@@ -185,8 +185,8 @@ cmp_keys t u ds es =
     let h = nat_cmp t.hour u.hour in
     let mi = nat_cmp t.minute u.minute in
     let s = nat_cmp t.second u.second in
-    let s1 = two_digits t.second ++ behind_point ds in
-    let s2 = two_digits u.second ++ behind_point es in
+    let s1 = two_digits t.second ++ after_point ds in
+    let s2 = two_digits u.second ++ after_point es in
     let i1 = two_digits t.minute ++ s1 in
     let i2 = two_digits u.minute ++ s2 in
     let h1 = two_digits t.hour ++ i1 in
@@ -203,8 +203,8 @@ cmp_keys t u ds es =
     ∙ ap (ordering_then mo) (cmp_pair t.day u.day h1 h2 a.day b.day
     ∙ ap (ordering_then d) (cmp_pair t.hour u.hour i1 i2 a.hour b.hour
     ∙ ap (ordering_then h) (cmp_pair t.minute u.minute s1 s2 a.minute b.minute
-    ∙ ap (ordering_then mi) (cmp_pair t.second u.second (behind_point ds) (behind_point es) a.second b.second
-    ∙ ap (ordering_then s) (cmp_behind_point ds es)))
+    ∙ ap (ordering_then mi) (cmp_pair t.second u.second (after_point ds) (after_point es) a.second b.second
+    ∙ ap (ordering_then s) (cmp_after_point ds es)))
     ∙ sym (then_assoc h (ordering_then mi s) f ∙ ap (ordering_then h) (then_assoc mi s f)))
     ∙ sym (then_assoc d (ordering_then h (ordering_then mi s)) f))
     ∙ sym (then_assoc mo (ordering_then d (ordering_then h (ordering_then mi s))) f))

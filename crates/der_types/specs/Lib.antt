@@ -12,6 +12,7 @@ pub mod Constraints
 pub mod ContentForms
 pub mod ContentTests
 pub mod ContentTypes
+pub mod ContentsFacts
 pub mod DateTimes
 pub mod Denotes
 pub mod Dotted
@@ -26,7 +27,6 @@ pub mod ExactMembers
 pub mod ExactTimes
 pub mod GeneralizedTimeLaws
 pub mod GeneralizedTimes
-pub mod KnownContents
 pub mod MadeValues
 pub mod Notation
 pub mod NotationForms

@@ -13,8 +13,8 @@ use Rattle.der_types.specs.Notation.{Notation, Member, Members, Alternatives, sh
 use Rattle.der_types.specs.TagOrder.{tag_place}
 
 -- the library has no type that has just the values of the text: this one is there instead
-abbrev pub instead : Notation → Notation
-instead t = t
+abbrev pub wider : Notation → Notation
+wider t = t
 
 -- no type of the library is this one: it has no values
 abbrev no_type : Notation
@@ -145,7 +145,7 @@ in_tag_order (Members.member m ms) = insert m (in_tag_order ms)
 -- 27, and X.690, 10.3: the members come in the order of their tags
 abbrev pub SET : Members → Notation
 SET Members.end = Notation.sized 0 0 (Notation.list-of ListKind.set Notation.NULL)
-SET ms = Notation.wrapped (wrapper.Retagged 0x31) (Notation.sequence (in_tag_order ms))
+SET ms = Notation.wrapped (wrapper.ImplicitList 0x31) (Notation.sequence (in_tag_order ms))
 
 abbrev pub SEQUENCE-OF : Notation → Notation
 SEQUENCE-OF = Notation.list-of ListKind.sequence
@@ -193,11 +193,11 @@ class_bits Private = 0xC0
 abbrev explicit : TagClass → ℕ → Notation → Notation
 explicit ContextSpecific n t = Notation.wrapped (wrapper.Explicit n) t
 explicit Application n t = Notation.wrapped (wrapper.Application n) t
-explicit class n t = Notation.wrapped (wrapper.Retagged (class_bits class + 0x20 + n)) (Notation.sequence (Member.required t ⨾ Members.end))
+explicit class n t = Notation.wrapped (wrapper.ImplicitList (class_bits class + 0x20 + n)) (Notation.sequence (Member.required t ⨾ Members.end))
 
 -- X.690, 8.14.3: the tag in place of that of a list, which is constructed, and of another type, which is primitive
 abbrev over_list : TagClass → ℕ → Notation → Notation
-over_list class n t = Notation.wrapped (wrapper.Retagged (class_bits class + 0x20 + n)) t
+over_list class n t = Notation.wrapped (wrapper.ImplicitList (class_bits class + 0x20 + n)) t
 
 abbrev over_primitive : TagClass → ℕ → Notation → Notation
 over_primitive ContextSpecific n t = Notation.wrapped (wrapper.Implicit n) t
@@ -231,7 +231,7 @@ implicit class n Notation.any-element = explicit class n Notation.any-element
 implicit class n (Notation.wrapped (wrapper.Explicit m) t) = explicit class n t
 implicit class n (Notation.wrapped (wrapper.Application m) t) = explicit class n t
 implicit class n (Notation.wrapped (wrapper.Implicit m) t) = over_primitive class n t
-implicit class n (Notation.wrapped (wrapper.Retagged tag) t) = over_list class n t
+implicit class n (Notation.wrapped (wrapper.ImplicitList tag) t) = over_list class n t
 implicit class n (Notation.wrapped wrapper.OctetContainer t) = over_container class n t
 implicit class n (Notation.wrapped wrapper.BitContainer t) = no_type
 implicit class n (Notation.content-under tag t) = over_primitive class n t

@@ -4,16 +4,16 @@ use Rattle.std.proofs.Common.{ap, ◌∙◌}
 use Rattle.picky_der_core.specs.Primitive.{Primitive}
 use Rattle.picky_der_core.specs.Tree.{Tree}
 use Rattle.picky_der_core.specs.Shape.{Shape, Shapes, Layout}
-use Rattle.picky_der_de.specs.Layouts.{Presence, component_then}
+use Rattle.picky_der_de.specs.Layouts.{Presence, layout_with}
 use Rattle.der_types.specs.Notation.{Member, member_then}
 
 -- one of this presence and shape is laid out as the member is, whatever comes after it
 pub record IsMember (p : Presence) (s : Shape) (m : Member) : Type 0 where
-  pub laid_out : (l : Layout) → component_then p s l ≡ member_then m l
+  pub denoted_layout : (l : Layout) → layout_with p s l ≡ member_then m l
 
 -- it holds before others that are laid out so
-pub in_front : {p : Presence} {s : Shape} {m : Member} → IsMember p s m → {k l : Layout} → k ≡ l → component_then p s k ≡ member_then m l
-in_front {p} {s} a {k} {l} e = ap (component_then p s) e ∙ a.laid_out l
+pub before_others : {p : Presence} {s : Shape} {m : Member} → IsMember p s m → {k l : Layout} → k ≡ l → layout_with p s k ≡ member_then m l
+before_others {p} {s} a {k} {l} e = ap (layout_with p s) e ∙ a.denoted_layout l
 
 -- two alternatives, or one and others
 pub one_or_other : {s t : Shape} → s ≡ t → {ss ts : Shapes} → ss ≡ ts → Shapes.more s ss ≡ Shapes.more t ts

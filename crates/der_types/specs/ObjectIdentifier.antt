@@ -3,7 +3,7 @@ use Rattle.std.specs.Prelude.{◌≡◌, ◌≢◌, ◌⊎◌, ℕ, ◌+◌, ◌
 use Rattle.der_types.specs.declared.oid_error.OidError.{OidError}
 use Rattle.der_types.specs.declared.oid_error.OidError.TheVariants.{TooFewArcs, FirstArc, SecondArc}
 use Rattle.der_types.specs.Dotted.{dotted, AreFitting, RefusesText}
-use Rattle.der_types.specs.Subidentifiers.{subidentifiers, is_subidentifiers, numbers_behind}
+use Rattle.der_types.specs.Subidentifiers.{subidentifiers, is_subidentifiers, numbers_after}
 
 -- one number at least
 abbrev pub is_object_identifier : List ℕ → Bool
@@ -26,7 +26,7 @@ arcs_of_numbers (n ∷ ns) = if nat_lt n 80 then (n / 40) ∷ (n % 40) ∷ ns el
 
 -- the arcs of a content
 abbrev pub arcs_of : List ℕ → List ℕ
-arcs_of bs = arcs_of_numbers (numbers_behind 0 bs)
+arcs_of bs = arcs_of_numbers (numbers_after 0 bs)
 
 -- why these are no arcs, if they aren't
 abbrev pub arcs_error : List ℕ → Option OidError

@@ -2,7 +2,7 @@
 use Rattle.picky_der_core.specs.Element.{AreBytes}
 use Rattle.std.proofs.Common.{◌≡◌, ℕ, ◌+◌, ◌-◌, ◌*◌, ◌/◌, ◌%◌, Bool, true, false, ◌&&◌, ◌||◌, List, [], ◌∷◌, ◌++◌, nat_lt, ◌==◌, refl, sym, ap, ◌∙◌, arith, inl, inr, lt-ltb, le-ltb, ltb-true, eqb-true}
 use Rattle.std.proofs.lemmas.Bool.{cases_lt}
-use Rattle.der_types.specs.Subidentifiers.{subidentifiers, numbers_behind}
+use Rattle.der_types.specs.Subidentifiers.{subidentifiers, numbers_after}
 use Rattle.der_types.specs.SubidentifierLaws.{marked-zero, content-numbers, numbers-content, valid_subidentifiers, subidentifier-some}
 use Rattle.der_types.specs.ObjectIdentifier.{is_object_identifier, object_identifier_content, are_arcs, arcs_of_numbers, arcs_of}
 
@@ -31,11 +31,11 @@ arcs-content (x ∷ y ∷ arcs) e = ap arcs_of_numbers (numbers-content ((40 * x
     first_two true false false f g h e = cc
     first_two false q true f g h e =
         let two : x ≡ 2 = eqb-true x 2 h in
-        let behind : 40 * x + y - 80 ≡ y = omega arith in
-        rw (le-ltb (40 * x + y) 80 (omega arith), behind, two) refl
+        let after : 40 * x + y - 80 ≡ y = omega arith in
+        rw (le-ltb (40 * x + y) 80 (omega arith), after, two) refl
     first_two false q false f g h e = cc
 
--- two rows of arcs with one content are one
+-- two lists of arcs with one content are one
 pub same_arcs : (a b : List ℕ) → are_arcs a ≡ true → are_arcs b ≡ true → object_identifier_content a ≡ object_identifier_content b → a ≡ b
 same_arcs a b p q e = sym (arcs-content a p) ∙ ap arcs_of e ∙ arcs-content b q
 
@@ -44,7 +44,7 @@ pub content-arcs : (bs : List ℕ) → AreBytes bs → is_object_identifier bs �
 content-arcs [] p e = cc
 content-arcs (b ∷ bs) p e =
     let all = content-numbers false 0 (b ∷ bs) refl p e ∙ ap (λ ds. ds ++ (b ∷ bs)) marked-zero in
-    by_numbers (numbers_behind 0 (b ∷ bs)) all
+    by_numbers (numbers_after 0 (b ∷ bs)) all
   where
     by_numbers : (ns : List ℕ) → subidentifiers ns ≡ b ∷ bs → (are_arcs (arcs_of_numbers ns) ≡ true) × (object_identifier_content (arcs_of_numbers ns) ≡ b ∷ bs)
     by_numbers [] e = cc

@@ -7,7 +7,7 @@ use Rattle.std.proofs.lemmas.Bool.Decides.{nat_tests}
 use Rattle.std.proofs.lemmas.Int.Digits.{digits_of_step, number_digits_of, all_below_base_digits_of, first_digits_of}
 use Rattle.std.proofs.lemmas.Nat.{div-mul-add, mod-mul-add}
 use Rattle.std.proofs.lemmas.List.{map-append}
-use Rattle.der_types.specs.Subidentifiers.{marked, subidentifier, subidentifiers, are_subidentifiers, is_subidentifiers, numbers_behind}
+use Rattle.der_types.specs.Subidentifiers.{marked, subidentifier, subidentifiers, are_subidentifiers, is_subidentifiers, numbers_after}
 
 -- ---- each content is one of numbers
 
@@ -41,7 +41,7 @@ parted : (p q : Bool) → (p && q) ≡ true → (p ≡ true) × (q ≡ true)
 parted true q e = (refl, e)
 parted false q e = cc
 
-pub content-numbers : (inside : Bool) (n : ℕ) (bs : List ℕ) → IsInside inside n → AreBytes bs → are_subidentifiers inside bs ≡ true → subidentifiers (numbers_behind n bs) ≡ marked n ++ bs
+pub content-numbers : (inside : Bool) (n : ℕ) (bs : List ℕ) → IsInside inside n → AreBytes bs → are_subidentifiers inside bs ≡ true → subidentifiers (numbers_after n bs) ≡ marked n ++ bs
 content-numbers true n [] h p e = cc
 content-numbers false n [] h p e = rw (h, marked-zero) refl
 content-numbers inside n (b ∷ bs) h p e =
@@ -61,22 +61,22 @@ content-numbers inside n (b ∷ bs) h p e =
 
 -- ---- numbers have a content
 
-read_digits : (n : ℕ) (ds : List ℕ) (d : ℕ) (bs : List ℕ) → AllBelowBase 128 ds → d < 128 → numbers_behind n (map (λ d. 0x80 + d) ds ++ (d ∷ bs)) ≡ (number_from_digits_after 128 n ds * 128 + d) ∷ numbers_behind 0 bs
+read_digits : (n : ℕ) (ds : List ℕ) (d : ℕ) (bs : List ℕ) → AllBelowBase 128 ds → d < 128 → numbers_after n (map (λ d. 0x80 + d) ds ++ (d ∷ bs)) ≡ (number_from_digits_after 128 n ds * 128 + d) ∷ numbers_after 0 bs
 read_digits n [] d bs p h = rw (lt-ltb d 0x80 h) refl
 read_digits n (c ∷ ds) d bs p h =
     let same : 0x80 + c - 0x80 ≡ c = omega arith in
     rw (le-ltb (0x80 + c) 0x80 (omega arith), same) (read_digits (n * 128 + c) ds d bs p.1 h)
 
 -- read from the first byte
-numbers-subidentifier : (n : ℕ) (bs : List ℕ) → numbers_behind 0 (subidentifier n ++ bs) ≡ n ∷ numbers_behind 0 bs
+numbers-subidentifier : (n : ℕ) (bs : List ℕ) → numbers_after 0 (subidentifier n ++ bs) ≡ n ∷ numbers_after 0 bs
 unfolding subidentifier marked
 numbers-subidentifier n bs =
     let low : n % 128 < 128 = omega arith in
     let read = read_digits 0 (digits_of 128 (n / 128)) (n % 128) bs (all_below_base_digits_of 128 (n / 128) (omega arith)) low in
     let whole : number_from_digits 128 (digits_of 128 (n / 128)) * 128 + n % 128 ≡ n = omega (arith, number_digits_of 128 (n / 128) (omega arith)) in
-    ap (numbers_behind 0) (append_assoc (map (λ d. 0x80 + d) (digits_of 128 (n / 128))) (n % 128 ∷ []) bs) ∙ read ∙ ap (λ m. m ∷ numbers_behind 0 bs) whole
+    ap (numbers_after 0) (append_assoc (map (λ d. 0x80 + d) (digits_of 128 (n / 128))) (n % 128 ∷ []) bs) ∙ read ∙ ap (λ m. m ∷ numbers_after 0 bs) whole
 
-pub numbers-content : (ns : List ℕ) → numbers_behind 0 (subidentifiers ns) ≡ ns
+pub numbers-content : (ns : List ℕ) → numbers_after 0 (subidentifiers ns) ≡ ns
 numbers-content [] = refl
 numbers-content (n ∷ ns) = numbers-subidentifier n (subidentifiers ns) ∙ ap (λ ms. n ∷ ms) (numbers-content ns)
 

@@ -31,6 +31,6 @@ is_subidentifiers (b ∷ bs) = are_subidentifiers false (b ∷ bs)
 -- ---- the numbers that bytes are
 
 -- the numbers of these bytes, if the digits before them are the digits of n
-abbrev pub numbers_behind : ℕ → List ℕ → List ℕ
-numbers_behind n [] = []
-numbers_behind n (b ∷ bs) = if nat_lt b 0x80 then (n * 128 + b) ∷ numbers_behind 0 bs else numbers_behind (n * 128 + (b - 0x80)) bs
+abbrev pub numbers_after : ℕ → List ℕ → List ℕ
+numbers_after n [] = []
+numbers_after n (b ∷ bs) = if nat_lt b 0x80 then (n * 128 + b) ∷ numbers_after 0 bs else numbers_after (n * 128 + (b - 0x80)) bs

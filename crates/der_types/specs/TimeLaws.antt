@@ -6,7 +6,7 @@ use Rattle.der_types.specs.Calendar.{is_date, is_time_of_day}
 use Rattle.der_types.specs.CalendarLaws.{civil_of, time_of}
 use Rattle.der_types.specs.DateTimes.{IsAt, two_digits}
 use Rattle.der_types.specs.TimeContents.{is_digit, are_digits_at, number_at, are_digits, are_ten_digits_at, is_date_time_at, full_year, is_utc_time, year_at_first, are_whole_seconds, is_fraction, fraction_of, is_ended, is_generalized_time, is_later_time}
-use Rattle.der_types.specs.TimeValues.{month_to_second, utc_content, behind_point, generalized_content, IsReadAt}
+use Rattle.der_types.specs.TimeValues.{month_to_second, utc_content, after_point, generalized_content, IsReadAt}
 
 both : {p q : Bool} → p ≡ true → q ≡ true → (p && q) ≡ true
 both h k = rw (h, k) refl
@@ -89,7 +89,7 @@ whole-valid : (t : DateTime) (ds : List ℕ) → are_whole_seconds (generalized_
 unfolding generalized_content
 whole-valid t ds =
     let s = short_of t in
-    both (both (pair (t.year / 100) s.century) (pair (t.year % 100) s.year)) (ap (λ y. is_date_time_at y (generalized_content t ds) 4) (year-first t ds) ∙ ten_valid t (behind_point ds ++ (0x5A ∷ [])))
+    both (both (pair (t.year / 100) s.century) (pair (t.year % 100) s.year)) (ap (λ y. is_date_time_at y (generalized_content t ds) 4) (year-first t ds) ∙ ten_valid t (after_point ds ++ (0x5A ∷ [])))
 
 later_length : (t : DateTime) → (length (generalized_content t []) == 15) ≡ true
 unfolding generalized_content month_to_second
@@ -302,7 +302,7 @@ utc-same t u a b c d e =
 
 generalized_ten : (t u : DateTime) (ds es : List ℕ) → generalized_content t ds ≡ generalized_content u es → ((t.month == u.month) && ((t.day == u.day) && ((t.hour == u.hour) && ((t.minute == u.minute) && (t.second == u.second))))) ≡ true
 unfolding generalized_content
-generalized_ten t u ds es e = same_ten t u (behind_point ds ++ (0x5A ∷ [])) (behind_point es ++ (0x5A ∷ [])) (ap (drop 4) e)
+generalized_ten t u ds es e = same_ten t u (after_point ds ++ (0x5A ∷ [])) (after_point es ++ (0x5A ∷ [])) (ap (drop 4) e)
 
 pub generalized-same : (t u : DateTime) (ds es : List ℕ) → generalized_content t ds ≡ generalized_content u es → same_fields t u ≡ true
 generalized-same t u ds es e = both (eq-eqb t.year u.year (sym (year-first t ds) ∙ ap year_at_first e ∙ year-first u es)) (generalized_ten t u ds es e)

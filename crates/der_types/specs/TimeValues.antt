@@ -13,13 +13,13 @@ unfoldable pub utc_content : DateTime → List ℕ
 utc_content t = two_digits (t.year % 100) ++ (month_to_second t ++ (0x5A ∷ []))
 
 -- a fraction of no digits has no point
-abbrev pub behind_point : List ℕ → List ℕ
-behind_point [] = []
-behind_point (d ∷ ds) = 0x2E ∷ d ∷ ds
+abbrev pub after_point : List ℕ → List ℕ
+after_point [] = []
+after_point (d ∷ ds) = 0x2E ∷ d ∷ ds
 
 -- the content of a GeneralizedTime, with the digits of its fraction: YYYYMMDDHHMMSS, the fraction, Z
 unfoldable pub generalized_content : DateTime → List ℕ → List ℕ
-generalized_content t ds = two_digits (t.year / 100) ++ (two_digits (t.year % 100) ++ (month_to_second t ++ (behind_point ds ++ (0x5A ∷ []))))
+generalized_content t ds = two_digits (t.year / 100) ++ (two_digits (t.year % 100) ++ (month_to_second t ++ (after_point ds ++ (0x5A ∷ []))))
 
 -- the date and time of this year, of which the bytes from here on are the ten other digits
 pub record IsReadAt (y : ℕ) (bs : List ℕ) (i : ℕ) (t : DateTime) : Type 0 where

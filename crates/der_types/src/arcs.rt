@@ -53,7 +53,7 @@ fn first_two(number: u128) -> (u64, u128)
 }
 
 impl<'a> Arcs<'a> {
-    ghost use Rattle.der_types.specs.Subidentifiers.{numbers_behind};
+    ghost use Rattle.der_types.specs.Subidentifiers.{numbers_after};
     ghost use Rattle.der_types.specs.ObjectIdentifier.{arcs_of};
     ghost use Rattle.der_types.specs.Arcs.{arcs_left};
 
@@ -67,9 +67,9 @@ impl<'a> Arcs<'a> {
         }
     }
 
-    // The arcs of the relative object identifier with this content.
-    pub(crate) fn of_relative_oid(content: &'a [u8]) -> Arcs<'a>
-        ensures { arcs_left result ≡ numbers_behind 0 content.now }
+    // The arcs that are the numbers of this content.
+    pub(crate) fn of_numbers(content: &'a [u8]) -> Arcs<'a>
+        ensures { arcs_left result ≡ numbers_after 0 content.now }
     {
         Arcs {
             next: Next::Another,

@@ -61,11 +61,11 @@ pub(crate) fn is_content<S: CharacterSet>(bytes: &[u8]) -> bool
 {
     let width = S::WIDTH;
     let mut rest = bytes;
-    while let Some((code, behind)) = split_character(width, rest) {
+    while let Some((code, after)) = split_character(width, rest) {
         if !S::is_character(code) {
             return false;
         }
-        rest = behind;
+        rest = after;
     }
     rest.is_empty()
 }

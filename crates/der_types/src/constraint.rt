@@ -26,7 +26,7 @@ pub trait Constrained: Sized {
     ghost kept: { (it : Self) → allows (unconstrained it) ≡ true };
 
     // The encoding alone decides whether a value is allowed.
-    ghost told: { (x y : Self.Of) → Self.Of.meaning x ≡ Self.Of.meaning y → allows x ≡ allows y };
+    ghost determined: { (x y : Self.Of) → Self.Of.meaning x ≡ Self.Of.meaning y → allows x ≡ allows y };
 }
 
 /// Reads a value of the constrained type and checks the constraint. It is the whole body of `Deserialize::deserialize` for a type with a

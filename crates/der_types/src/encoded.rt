@@ -5,14 +5,14 @@ ghost use Rattle.std.specs.Cmp.Rules.{comparing};
 ghost use Rattle.std.specs.Ordering.{on};
 ghost use Rattle.picky_der_core.specs.Tree.{Tree};
 ghost use Rattle.picky_der_core.specs.Shape.{Shape};
-ghost use Rattle.picky_der_de.specs.Known.{known_raw};
-ghost use Rattle.picky_der_de.specs.Twins.{TellsNone};
+ghost use Rattle.picky_der_de.specs.Facts.{raw_facts};
+ghost use Rattle.picky_der_de.specs.Twins.{IsNoValue};
 ghost use Rattle.picky_der_de.specs.Whole.{IsEncodingOf};
 
 use picky_asn1_der::Asn1RawDer;
 use picky_der_core::misc::{ReadExt, WriteExt};
 use picky_der_core::{Asn1DerError, Result};
-use picky_der_de::{Deserialize, Deserializer, TryAlike, from_der, try_deserialize_as};
+use picky_der_de::{Deserialize, Deserializer, TryVia, from_der, try_deserialize_as};
 use picky_der_ser::{Serialize, Serializer};
 
 /// A value of the type `T` together with its encoding, for a member whose type another member decides (ANY DEFINED BY). Two of them are
@@ -30,8 +30,8 @@ impl<T: Deserialize> Encoded<T> {
     /// Returns the value whose encoding this is. `InvalidData` if it isn't the encoding of a `T`, and `OutOfMemory` if an allocation fails.
     pub fn from_encoding(encoding: Asn1RawDer) -> Result<Encoded<T>>
         ensures ok { IfOk result (λ it. it.encoding ≡ encoding) }
-        ensures err { IfErr result (TellsNone ⟦<Asn1RawDer as Serialize>⟧.meaning
-            ⟦<Encoded<T> as TryAlike>⟧.parts encoding) }
+        ensures err { IfErr result (IsNoValue ⟦<Asn1RawDer as Serialize>⟧.meaning
+            ⟦<Encoded<T> as TryVia>⟧.parts encoding) }
     {
         match from_der(*encoding.0.allocator(), &encoding.0) {
             Ok(value) => Ok(Encoded { encoding, value }),
@@ -75,7 +75,7 @@ impl<T: Deserialize> Serialize for Encoded<T> {
     }
 }
 
-impl<T: Deserialize> TryAlike for Encoded<T> {
+impl<T: Deserialize> TryVia for Encoded<T> {
     type As = Asn1RawDer;
 
     ghost parts = { λ it. it.encoding };
@@ -88,9 +88,9 @@ impl<T: Deserialize> TryAlike for Encoded<T> {
 impl<T: Deserialize> Deserialize for Encoded<T> {
     ghost shape = { Shape.raw };
 
-    ghost known = { known_raw (λ it. it.encoding.0.items) };
+    ghost facts = { raw_facts (λ it. it.encoding.0.items) };
 
-    ghost tied = { Prim.assumption };
+    ghost proved = { Prim.assumption };
 
     fn deserialize<R: ReadExt>(deserializer: &mut Deserializer<R>) -> Result<Encoded<T>> {
         try_deserialize_as(deserializer)

@@ -1,22 +1,21 @@
 //! Types whose values are exactly the values of their ASN.1 types.
-ghost use Rattle.std.specs.Prelude.{◌≡◌, refl, string_bytes};
+ghost use Rattle.std.specs.Prelude.{◌≡◌, refl};
 ghost use Rattle.picky_der_core.specs.declared.asn1.wrapper.Wrapper.TheVariants as wrapper;
-ghost use Rattle.picky_der_core.specs.Primitive.{Primitive};
 ghost use Rattle.picky_der_core.specs.Readable.{IsReadable};
 ghost use Rattle.picky_der_core.specs.Tree.{ListKind, Tree};
 ghost use Rattle.der_types.specs.Denotes.{Denotes, IsShort};
-ghost use Rattle.der_types.specs.Exact.{Values, TiedValues, plain_values, list_values, wrapped_values};
-ghost use Rattle.der_types.specs.ExactContents.{boolean_exact, null_exact, text_exact, raw_exact, any_content_exact};
-ghost use Rattle.der_types.specs.KnownContents.{contents_of};
-ghost use Rattle.der_types.specs.MadeValues.{vec_of, text_of};
+ghost use Rattle.der_types.specs.Exact.{Values, ProvedValues, plain_values, list_values, wrapped_values};
+ghost use Rattle.der_types.specs.ExactContents.{raw_exact, any_content_exact};
+ghost use Rattle.der_types.specs.ContentsFacts.{contents_of};
+ghost use Rattle.der_types.specs.MadeValues.{vec_of};
 ghost use Rattle.der_types.specs.Notation.{Notation};
 
-use crate::{Notated, RetaggedSet, TagOrdered};
+use crate::{ImplicitSet, Notated, TagOrdered};
 use picky_asn1_der::Asn1RawDer;
 use picky_asn1_der::application_tag::ApplicationTag;
 use picky_der_core::asn1::{
-    Asn1SequenceOf, Asn1SetOf, BitStringAsn1Container, ByteBuf, ExplicitContextTag,
-    ImplicitContextTag, OctetStringAsn1Container, Retagged, TaggedBytes,
+    Asn1SequenceOf, Asn1SetOf, BitStringAsn1Container, ExplicitContextTag, ImplicitContextTag,
+    ImplicitList, OctetStringAsn1Container, TaggedBytes,
 };
 use picky_der_ser::List;
 use std::fmt::Debug;
@@ -30,31 +29,7 @@ pub trait Exact: Notated {
     ghost values: { Values Self };
 
     // The proof, and that the statement is about the type's own notation and meaning.
-    ghost exact: { TiedValues values Self.notation Self.meaning };
-}
-
-impl Exact for bool {
-    ghost values = { plain_values Notation.BOOLEAN (λ it. Tree.primitive (Primitive.boolean it)) boolean_exact };
-
-    ghost exact = { Prim.assumption };
-}
-
-impl Exact for () {
-    ghost values = { plain_values Notation.NULL (λ _. Tree.primitive Primitive.null) (null_exact tt) };
-
-    ghost exact = { Prim.assumption };
-}
-
-impl Exact for String {
-    ghost values = { plain_values Notation.UTF8String (λ it. Tree.primitive (Primitive.text (string_bytes it))) (text_exact string_bytes (λ s u h. (text_of s u h, refl))) };
-
-    ghost exact = { Prim.assumption };
-}
-
-impl Exact for ByteBuf {
-    ghost values = { plain_values Notation.OCTET-STRING (contents_of 0x04 (λ it. it.0.items)) (any_content_exact 0x04 (λ it. it.0.items) (λ s h. (record { 0 = vec_of s h }, refl))) };
-
-    ghost exact = { Prim.assumption };
+    ghost exact: { ProvedValues values Self.notation Self.meaning };
 }
 
 impl<const TAG: u8> Exact for TaggedBytes<TAG> {
@@ -117,14 +92,14 @@ impl<V: Exact + Debug, const T: u8> Exact for ApplicationTag<V, T> {
     ghost exact = { Prim.assumption };
 }
 
-impl<T: Exact + List, const TAG: u8> Exact for Retagged<T, TAG> {
-    ghost values = { wrapped_values T.values T.notation T.meaning (wrapper.Retagged TAG) (λ it. it.0) (λ x. (record { 0 = x }, refl)) };
+impl<T: Exact + List, const TAG: u8> Exact for ImplicitList<T, TAG> {
+    ghost values = { wrapped_values T.values T.notation T.meaning (wrapper.ImplicitList TAG) (λ it. it.0) (λ x. (record { 0 = x }, refl)) };
 
     ghost exact = { Prim.assumption };
 }
 
-impl<T: Exact + TagOrdered, const TAG: u8> Exact for RetaggedSet<T, TAG> {
-    ghost values = { wrapped_values T.values T.notation T.meaning (wrapper.Retagged TAG) (λ it. it.0) (λ x. (record { 0 = x }, refl)) };
+impl<T: Exact + TagOrdered, const TAG: u8> Exact for ImplicitSet<T, TAG> {
+    ghost values = { wrapped_values T.values T.notation T.meaning (wrapper.ImplicitList TAG) (λ it. it.0) (λ x. (record { 0 = x }, refl)) };
 
     ghost exact = { Prim.assumption };
 }

@@ -1,10 +1,10 @@
 //! Choices whose values are exactly the values of their CHOICEs.
 ghost use Rattle.picky_der_de.specs.FourChoices.{one_by_one};
-ghost use Rattle.der_types.specs.ExactChoices.{ChoiceValues, TiedChoice, no_choice_values, this_or_other_values, choice_as};
+ghost use Rattle.der_types.specs.ExactChoices.{ChoiceValues, ProvedChoice, no_choice_values, this_or_other_values, choice_as};
 ghost use Rattle.der_types.specs.ExactFourChoices.{one_of_four};
 
 use crate::{Exact, NotatedAlternatives};
-use picky_der_de::{Begins, NoneOf, OneOf, OneOf4};
+use picky_der_de::{Begins, Choice4, NoneOf, OneOf};
 
 /// Alternatives whose values are exactly the values of the alternatives of a CHOICE.
 pub trait ExactAlternatives: NotatedAlternatives {
@@ -12,7 +12,7 @@ pub trait ExactAlternatives: NotatedAlternatives {
     ghost chosen_values: { ChoiceValues Self };
 
     // The proof, and that the statement is about these alternatives.
-    ghost exact_alternatives: { TiedChoice chosen_values Self.alternatives_notation Self.chosen };
+    ghost exact_alternatives: { ProvedChoice chosen_values Self.alternatives_notation Self.chosen };
 }
 
 impl ExactAlternatives for NoneOf {
@@ -33,7 +33,7 @@ impl<
     C: Exact + Begins,
     D: Exact + Begins,
     E: ExactAlternatives,
-> ExactAlternatives for OneOf4<A, B, C, D, E> {
+> ExactAlternatives for Choice4<A, B, C, D, E> {
     ghost chosen_values = { choice_as ⟦<OneOf<A, OneOf<B, OneOf<C, OneOf<D, E>>>> as ExactAlternatives>⟧.chosen_values one_by_one one_of_four };
 
     ghost exact_alternatives = { Prim.assumption };

@@ -7,10 +7,10 @@ ghost use Rattle.picky_der_core.specs.Tree.{ListKind, Tree};
 ghost use Rattle.picky_der_ser.specs.Meaning.{list_meaning};
 ghost use Rattle.der_types.specs.BitString.{bits_of};
 ghost use Rattle.der_types.specs.CharacterStrings.{characters};
-ghost use Rattle.der_types.specs.ExactConstraints.{Numbered, TiedNumber, Sized, TiedSize, sized_plainly, counted};
+ghost use Rattle.der_types.specs.ExactConstraints.{Numbered, ProvedNumber, Sized, ProvedSize, sized_plainly, counted};
 ghost use Rattle.der_types.specs.ExactContents.{IsStandard};
 ghost use Rattle.der_types.specs.ContentForms as form;
-ghost use Rattle.der_types.specs.KnownContents.{contents_of};
+ghost use Rattle.der_types.specs.ContentsFacts.{contents_of};
 ghost use Rattle.der_types.specs.Notation.{Notation};
 
 use crate::{
@@ -24,7 +24,7 @@ pub trait ExactNumber: Exact + WholeNumber {
     ghost numbered: { Numbered Self };
 
     // The statement is about the type's own numbers.
-    ghost exact_number: { TiedNumber numbered Self.number Self.meaning };
+    ghost exact_number: { ProvedNumber numbered Self.number Self.meaning };
 }
 
 /// A type in which the size of a value is the size that its encoding has.
@@ -33,7 +33,7 @@ pub trait ExactSize: Exact + Size {
     ghost sized: { Sized Self };
 
     // The statement is about the type's own sizes.
-    ghost exact_size: { TiedSize sized Self.size Self.notation Self.meaning };
+    ghost exact_size: { ProvedSize sized Self.size Self.notation Self.meaning };
 }
 
 impl ExactNumber for Integer {
@@ -89,7 +89,7 @@ impl<S: StandardSet> ExactSize for RestrictedString<S> {
       size = λ it. length (characters S.WIDTH it.content.items);
       notation = Notation.restricted-string S.TAG;
       meaning = contents_of S.TAG (λ it. it.content.items);
-      Owed = IsStandard S.TAG S.WIDTH S.is_character;
+      Premise = IsStandard S.TAG S.WIDTH S.is_character;
       same = λ standard it. ap (λ width. length (characters width it.content.items)) standard.same_width;
     } };
 

@@ -1,9 +1,9 @@
 //! Exact types for contents under other tags, and for the string types of ASN.1.
 ghost use Rattle.std.specs.Prelude.{refl};
-ghost use Rattle.der_types.specs.ExactContents.{OwnContents, TiedContents, content_under_values, IsStandard, string_values};
+ghost use Rattle.der_types.specs.ExactContents.{OwnContents, ProvedContents, content_under_values, IsStandard, string_values};
 ghost use Rattle.der_types.specs.MadeValues.{vec_of};
 
-use crate::{CharacterSet, Contents, Exact, RestrictedString, RetaggedPrimitive};
+use crate::{CharacterSet, Contents, Exact, ImplicitPrimitive, RestrictedString};
 
 /// A type whose values mean their contents under the type's own tag.
 pub trait ExactContents: Exact + Contents {
@@ -11,7 +11,7 @@ pub trait ExactContents: Exact + Contents {
     ghost own_contents: { OwnContents Self };
 
     // The statement is about the type's own contents.
-    ghost exact_contents: { TiedContents own_contents Self.meaning Self.content };
+    ghost exact_contents: { ProvedContents own_contents Self.meaning Self.content };
 }
 
 /// A character set of X.680, 41, with the tag, the width and the characters that it has there.
@@ -26,7 +26,7 @@ impl<S: StandardSet> Exact for RestrictedString<S> {
     ghost exact = { Prim.assumption };
 }
 
-impl<T: ExactContents, const TAG: u8> Exact for RetaggedPrimitive<T, TAG> {
+impl<T: ExactContents, const TAG: u8> Exact for ImplicitPrimitive<T, TAG> {
     ghost values = { content_under_values T.values T.notation T.meaning TAG T.own_contents T.content (λ it. it.0) (λ x. (record { 0 = x }, refl)) };
 
     ghost exact = { Prim.assumption };

@@ -1,11 +1,11 @@
 //! Exact types for the defaults of members.
 ghost use Rattle.std.specs.Prelude.{◌≡◌, Bool, true, false, refl};
 ghost use Rattle.picky_der_core.specs.declared.asn1.wrapper.Wrapper.TheVariants as wrapper;
-ghost use Rattle.der_types.specs.ExactDefaults.{false_default, true_default, wrapped_default, wrapped_tied};
-ghost use Rattle.der_types.specs.ExactMembers.{Default, TiedDefault, defaulted_values};
+ghost use Rattle.der_types.specs.ExactDefaults.{false_default, true_default, wrapped_default, wrapped_proved};
+ghost use Rattle.der_types.specs.ExactMembers.{Default, ProvedDefault, defaulted_values};
 
 use crate::{Exact, ExactMember, NotatedDefault};
-use picky_der_core::asn1::{ExplicitContextTag, ImplicitContextTag, Retagged};
+use picky_der_core::asn1::{ExplicitContextTag, ImplicitContextTag, ImplicitList};
 use picky_der_de::Begins;
 use picky_der_ser::{Defaulted, False, List, Serialize, True};
 
@@ -15,7 +15,7 @@ pub trait ExactDefault<T: Serialize + PartialEq>: NotatedDefault<T> {
     ghost default: { Default T };
 
     // The statement is about the type's own default.
-    ghost exact_default: { TiedDefault default T.meaning Self.left_out Self.value };
+    ghost exact_default: { ProvedDefault default T.meaning Self.left_out Self.value };
 }
 
 impl<T: Exact + Begins, D: ExactDefault<T>> ExactMember for Defaulted<T, D> {
@@ -41,7 +41,7 @@ impl<T: Serialize + PartialEq, D: ExactDefault<T>, const N: u8> ExactDefault<
 > for D {
     ghost default = { wrapped_default (wrapper.Explicit N) (λ it. it.0) (λ x. (record { 0 = x }, refl)) D.default };
 
-    ghost exact_default = { wrapped_tied (wrapper.Explicit N) (λ it. it.0) (λ x. (record { 0 = x }, refl)) D.exact_default };
+    ghost exact_default = { wrapped_proved (wrapper.Explicit N) (λ it. it.0) (λ x. (record { 0 = x }, refl)) D.exact_default };
 }
 
 impl<T: Serialize + PartialEq, D: ExactDefault<T>, const N: u8> ExactDefault<
@@ -49,11 +49,12 @@ impl<T: Serialize + PartialEq, D: ExactDefault<T>, const N: u8> ExactDefault<
 > for D {
     ghost default = { wrapped_default (wrapper.Implicit N) (λ it. it.0) (λ x. (record { 0 = x }, refl)) D.default };
 
-    ghost exact_default = { wrapped_tied (wrapper.Implicit N) (λ it. it.0) (λ x. (record { 0 = x }, refl)) D.exact_default };
+    ghost exact_default = { wrapped_proved (wrapper.Implicit N) (λ it. it.0) (λ x. (record { 0 = x }, refl)) D.exact_default };
 }
 
-impl<T: List + PartialEq, D: ExactDefault<T>, const TAG: u8> ExactDefault<Retagged<T, TAG>> for D {
-    ghost default = { wrapped_default (wrapper.Retagged TAG) (λ it. it.0) (λ x. (record { 0 = x }, refl)) D.default };
+impl<T: List + PartialEq, D: ExactDefault<T>, const TAG: u8> ExactDefault<ImplicitList<T, TAG>>
+    for D {
+    ghost default = { wrapped_default (wrapper.ImplicitList TAG) (λ it. it.0) (λ x. (record { 0 = x }, refl)) D.default };
 
-    ghost exact_default = { wrapped_tied (wrapper.Retagged TAG) (λ it. it.0) (λ x. (record { 0 = x }, refl)) D.exact_default };
+    ghost exact_default = { wrapped_proved (wrapper.ImplicitList TAG) (λ it. it.0) (λ x. (record { 0 = x }, refl)) D.exact_default };
 }

@@ -1,6 +1,6 @@
 //! Structs whose values are exactly the values of their SEQUENCEs.
 ghost use Rattle.std.specs.Prelude.{refl};
-ghost use Rattle.der_types.specs.ExactMembers.{MemberValues, TiedMember, RowValues, TiedRow, required_values, optional_values, none_values};
+ghost use Rattle.der_types.specs.ExactMembers.{MemberValues, ProvedMember, MembersValues, ProvedMembers, required_values, optional_values, none_values};
 
 use crate::{Exact, NotatedMember, NotatedMembers};
 use picky_der_de::Begins;
@@ -12,16 +12,16 @@ pub trait ExactMember: NotatedMember {
     ghost member_values: { MemberValues Self };
 
     // The proof, and that the statement is about this member.
-    ghost exact_member: { TiedMember member_values Self.member Self.in_front };
+    ghost exact_member: { ProvedMember member_values Self.member Self.prepend };
 }
 
 /// Members whose values are exactly the values of the members of a SEQUENCE.
 pub trait ExactMembers: NotatedMembers {
     // What the members state about their values, and what they have to prove for that.
-    ghost all_values: { RowValues Self };
+    ghost all_values: { MembersValues Self };
 
     // The proof, and that the statement is about these members.
-    ghost exact_members: { TiedRow all_values Self.members_notation Self.members };
+    ghost exact_members: { ProvedMembers all_values Self.members_notation Self.members };
 }
 
 impl<T: Exact> ExactMember for T {

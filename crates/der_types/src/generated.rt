@@ -7,6 +7,7 @@ mod enumerated;
 mod generalized_time;
 pub mod in_range;
 mod integer;
+mod kinds;
 mod members;
 mod named_bits;
 mod numbers;

@@ -1,7 +1,7 @@
 //! Times of RFC 5280 from 2050 on.
 ghost use Rattle.std.proofs.Common.{lit≤};
 ghost use Rattle.std.specs.Prelude.{◌≡◌, ◌<◌, ◌≤◌, [], true, false, refl, IfSome, IfNone, IfOk, IfErr};
-ghost use Rattle.der_types.specs.KnownContents.{contents_of, contents_shape};
+ghost use Rattle.der_types.specs.ContentsFacts.{contents_of, contents_shape};
 ghost use Rattle.der_types.specs.ContentTests.{ReadsContent, RefusesContent};
 
 use crate::time_contents::{content_of, date_time_at, is_later_time, year_at_first};
@@ -114,13 +114,13 @@ impl Serialize for LaterTime {
 impl Deserialize for LaterTime {
     ghost use Rattle.der_types.specs.TimeContents.{is_later_time};
     ghost use Rattle.der_types.specs.TimeValues.{generalized_content};
-    ghost use Rattle.der_types.specs.KnownContents.{contents_of, contents_shape, known_contents};
+    ghost use Rattle.der_types.specs.ContentsFacts.{contents_of, contents_shape, contents_facts};
 
     ghost shape = { contents_shape 0x18 };
 
-    ghost known = { known_contents 0x18 (λ it. generalized_content it.at []) ⟦<Self as PartialEq>⟧.eq ⟦<Self as Contents>⟧.same };
+    ghost facts = { contents_facts 0x18 (λ it. generalized_content it.at []) ⟦<Self as PartialEq>⟧.eq ⟦<Self as Contents>⟧.same };
 
-    ghost tied = { Prim.assumption };
+    ghost proved = { Prim.assumption };
 
     fn deserialize<R: ReadExt>(deserializer: &mut Deserializer<R>) -> Result<LaterTime>
         ensures read { IfOk result (λ it. ReadsContent 0x18 is_later_time deserializer.old

@@ -13,7 +13,7 @@ ghost use Rattle.picky_der_core.specs.Tree.{Tree};
 ghost use Rattle.der_types.specs.Denotes.{Denotes, IsShort};
 ghost use Rattle.der_types.specs.declared.width.Width.{Width};
 ghost use Rattle.der_types.specs.RelativeOid.{are_relative_arcs, is_relative_oid, relative_oid_content};
-ghost use Rattle.der_types.specs.Subidentifiers.{numbers_behind};
+ghost use Rattle.der_types.specs.Subidentifiers.{numbers_after};
 ghost use Rattle.der_types.specs.TagOrder.{AreInTagOrder, member_encodings};
 ghost use Rattle.der_types.specs.DateTimes.{seconds_of};
 ghost use Rattle.der_types.specs.GeneralizedTimes.{ticks};
@@ -57,11 +57,12 @@ pub fn object_identifiers()
 
 /// Each list of at least one arc has a content as a RELATIVE-OID, each content encodes such a list, and different lists have different
 /// contents.
+#[tactic(auto, using(crate::specs::RelativeOidLaws::valid_relative, crate::specs::RelativeOidLaws::relative_arcs, crate::specs::RelativeOidLaws::same_relative))]
 pub fn relative_oids()
     ensures made { (arcs : List ℕ) → are_relative_arcs arcs ≡ true
         → is_relative_oid (relative_oid_content arcs) ≡ true }
     ensures all { (bs : List ℕ) → AreBytes bs → is_relative_oid bs ≡ true
-        → relative_oid_content (numbers_behind 0 bs) ≡ bs }
+        → relative_oid_content (numbers_after 0 bs) ≡ bs }
     ensures one { (a b : List ℕ) → relative_oid_content a ≡ relative_oid_content b → a ≡ b }
 {}
 

@@ -20,6 +20,7 @@ mod exact_defaults;
 mod exact_members;
 mod generalized_time;
 mod generated;
+mod implicit_primitive;
 mod integer;
 mod later_time;
 pub mod laws;
@@ -32,7 +33,6 @@ mod object_identifier;
 mod oid_error;
 mod relative_oid;
 mod restricted_string;
-mod retagged_primitive;
 mod set;
 mod size;
 mod subidentifiers;
@@ -61,6 +61,7 @@ pub use generated::character_sets;
 pub use generated::in_range::InRange;
 pub use generated::other_than::OtherThan;
 pub use generated::with_size::WithSize;
+pub use implicit_primitive::ImplicitPrimitive;
 pub use integer::Integer;
 pub use later_time::LaterTime;
 pub use named_bits::NamedBits;
@@ -75,8 +76,7 @@ pub use restricted_string::{
     BmpString, GeneralString, Ia5String, NumericString, PrintableString, RestrictedString,
     TeletexString, UniversalString, VisibleString,
 };
-pub use retagged_primitive::RetaggedPrimitive;
-pub use set::{Asn1Set, RetaggedSet, TagOrdered};
+pub use set::{Asn1Set, ImplicitSet, TagOrdered};
 pub use size::Size;
 pub use time::Time;
 pub use utc_time::UtcTime;

@@ -8,17 +8,18 @@ ghost use Rattle.der_types.specs.Notation.{Notation, Member, Members, Alternativ
 ghost use Rattle.der_types.specs.NotationLaws.{IsMember, one_or_other};
 
 use crate::{
-    CharacterSet, Contents, InRange, NotatedDefault, OtherThan, RestrictedString,
-    RetaggedPrimitive, RetaggedSet, Size, TagOrdered, WholeNumber, WithSize,
+    CharacterSet, Contents, ImplicitPrimitive, ImplicitSet, InRange, NotatedDefault, OtherThan,
+    RestrictedString, Size, TagOrdered, WholeNumber, WithSize,
 };
 use picky_asn1_der::application_tag::ApplicationTag;
 use picky_asn1_der::{Asn1RawDer, LaterMembers};
 use picky_der_core::asn1::{
-    Asn1SequenceOf, Asn1SetOf, BitStringAsn1Container, ByteBuf, ExplicitContextTag,
-    ImplicitContextTag, OctetStringAsn1Container, Retagged, TaggedBytes,
+    Asn1SequenceOf, Asn1SetOf, BitStringAsn1Container, ExplicitContextTag, ImplicitContextTag,
+    ImplicitList, OctetStringAsn1Container, TaggedBytes,
 };
 use picky_der_de::{
-    Alternatives, Begins, Deserialize, DeserializeMember, DeserializeMembers, NoneOf, OneOf, OneOf4,
+    Alternatives, Begins, Choice4, Deserialize, DeserializeMember, DeserializeMembers, NoneOf,
+    OneOf,
 };
 use picky_der_ser::{Defaulted, List, Optional};
 use std::fmt::Debug;
@@ -40,7 +41,7 @@ pub trait NotatedMember: DeserializeMember {
     ghost member: { Member };
 
     // It is optional, has a default or is required as that member is, and has its shape.
-    ghost stands: { IsMember Self.presence Self.shape member };
+    ghost denoted_member: { IsMember Self.presence Self.shape member };
 }
 
 /// The members of a struct, each a member of a SEQUENCE.
@@ -49,7 +50,7 @@ pub trait NotatedMembers: DeserializeMembers {
     ghost members_notation: { Members };
 
     // They have the layout of those members.
-    ghost laid_out: { Self.layout ≡ layout_of members_notation };
+    ghost denoted_layout: { Self.layout ≡ layout_of members_notation };
 }
 
 /// The alternatives of a choice, each an alternative of a CHOICE.
@@ -58,31 +59,7 @@ pub trait NotatedAlternatives: Alternatives {
     ghost alternatives_notation: { Alternatives };
 
     // They have the shapes of those alternatives.
-    ghost offered: { Self.shapes ≡ shapes_of alternatives_notation };
-}
-
-impl Notated for bool {
-    ghost notation = { Notation.BOOLEAN };
-
-    ghost denoted = { refl };
-}
-
-impl Notated for () {
-    ghost notation = { Notation.NULL };
-
-    ghost denoted = { refl };
-}
-
-impl Notated for String {
-    ghost notation = { Notation.UTF8String };
-
-    ghost denoted = { refl };
-}
-
-impl Notated for ByteBuf {
-    ghost notation = { Notation.OCTET-STRING };
-
-    ghost denoted = { refl };
+    ghost denoted_shapes: { Self.shapes ≡ shapes_of alternatives_notation };
 }
 
 impl<S: CharacterSet> Notated for RestrictedString<S> {
@@ -151,19 +128,19 @@ impl<V: Notated + Debug, const T: u8> Notated for ApplicationTag<V, T> {
     ghost denoted = { ap (Shape.wrapped (wrapper.Application T)) V.denoted };
 }
 
-impl<T: Notated + List, const TAG: u8> Notated for Retagged<T, TAG> {
-    ghost notation = { Notation.wrapped (wrapper.Retagged TAG) T.notation };
+impl<T: Notated + List, const TAG: u8> Notated for ImplicitList<T, TAG> {
+    ghost notation = { Notation.wrapped (wrapper.ImplicitList TAG) T.notation };
 
-    ghost denoted = { ap (Shape.wrapped (wrapper.Retagged TAG)) T.denoted };
+    ghost denoted = { ap (Shape.wrapped (wrapper.ImplicitList TAG)) T.denoted };
 }
 
-impl<T: Notated + TagOrdered, const TAG: u8> Notated for RetaggedSet<T, TAG> {
-    ghost notation = { Notation.wrapped (wrapper.Retagged TAG) T.notation };
+impl<T: Notated + TagOrdered, const TAG: u8> Notated for ImplicitSet<T, TAG> {
+    ghost notation = { Notation.wrapped (wrapper.ImplicitList TAG) T.notation };
 
-    ghost denoted = { ap (Shape.wrapped (wrapper.Retagged TAG)) T.denoted };
+    ghost denoted = { ap (Shape.wrapped (wrapper.ImplicitList TAG)) T.denoted };
 }
 
-impl<T: Notated + Contents, const TAG: u8> Notated for RetaggedPrimitive<T, TAG> {
+impl<T: Notated + Contents, const TAG: u8> Notated for ImplicitPrimitive<T, TAG> {
     ghost notation = { Notation.content-under TAG T.notation };
 
     ghost denoted = { refl };
@@ -172,43 +149,43 @@ impl<T: Notated + Contents, const TAG: u8> Notated for RetaggedPrimitive<T, TAG>
 impl<T: Notated> NotatedMember for T {
     ghost member = { Member.required T.notation };
 
-    ghost stands = { record { laid_out = λ l. ap (λ s. Layout.required s l) T.denoted } };
+    ghost denoted_member = { record { denoted_layout = λ l. ap (λ s. Layout.required s l) T.denoted } };
 }
 
 impl<T: Notated + Begins> NotatedMember for Optional<T> {
     ghost member = { Member.optional T.notation };
 
-    ghost stands = { record { laid_out = λ l. ap (λ s. Layout.maybe s l) T.denoted } };
+    ghost denoted_member = { record { denoted_layout = λ l. ap (λ s. Layout.maybe s l) T.denoted } };
 }
 
 impl<T: Notated + Begins, D: NotatedDefault<T>> NotatedMember for Defaulted<T, D> {
     ghost member = { Member.defaulted D.value T.notation };
 
-    ghost stands = { record { laid_out = λ l. ap (λ s. Layout.maybe s l) T.denoted } };
+    ghost denoted_member = { record { denoted_layout = λ l. ap (λ s. Layout.maybe s l) T.denoted } };
 }
 
 impl NotatedMembers for () {
     ghost members_notation = { Members.end };
 
-    ghost laid_out = { refl };
+    ghost denoted_layout = { refl };
 }
 
 impl<A: Alternatives> NotatedMembers for LaterMembers<A> {
     ghost members_notation = { Members.others (firsts_of A.shapes) };
 
-    ghost laid_out = { refl };
+    ghost denoted_layout = { refl };
 }
 
 impl NotatedAlternatives for NoneOf {
     ghost alternatives_notation = { Alternatives.none };
 
-    ghost offered = { refl };
+    ghost denoted_shapes = { refl };
 }
 
 impl<A: Notated + Begins, B: NotatedAlternatives> NotatedAlternatives for OneOf<A, B> {
     ghost alternatives_notation = { Alternatives.alternative A.notation B.alternatives_notation };
 
-    ghost offered = { one_or_other A.denoted B.offered };
+    ghost denoted_shapes = { one_or_other A.denoted B.denoted_shapes };
 }
 
 impl<
@@ -217,10 +194,10 @@ impl<
     C: Notated + Begins,
     D: Notated + Begins,
     E: NotatedAlternatives,
-> NotatedAlternatives for OneOf4<A, B, C, D, E> {
+> NotatedAlternatives for Choice4<A, B, C, D, E> {
     ghost alternatives_notation = { Alternatives.alternative A.notation (Alternatives.alternative B.notation (Alternatives.alternative C.notation (Alternatives.alternative D.notation E.alternatives_notation))) };
 
-    ghost offered = { one_or_other A.denoted (one_or_other B.denoted (one_or_other C.denoted (one_or_other D.denoted E.offered))) };
+    ghost denoted_shapes = { one_or_other A.denoted (one_or_other B.denoted (one_or_other C.denoted (one_or_other D.denoted E.denoted_shapes))) };
 }
 
 impl<T: Notated> Notated for (T,) {

@@ -6,7 +6,7 @@ ghost use Rattle.picky_der_core.specs.Tree.{Tree};
 ghost use Rattle.picky_der_core.specs.declared.asn1.wrapper.Wrapper.TheVariants as wrapper;
 ghost use Rattle.der_types.specs.NotationLaws.{false_value, true_value};
 
-use picky_der_core::asn1::{ExplicitContextTag, ImplicitContextTag, Retagged};
+use picky_der_core::asn1::{ExplicitContextTag, ImplicitContextTag, ImplicitList};
 use picky_der_ser::{DefaultOf, False, List, Serialize, True};
 
 /// A default value that is given by its encoding.
@@ -46,9 +46,9 @@ impl<T: Serialize + PartialEq, D: NotatedDefault<T>, const N: u8> NotatedDefault
     ghost is_value = { λ tagged h. ap (Tree.wrapped (wrapper.Implicit N)) (D.is_value tagged.0 h) };
 }
 
-impl<T: List + PartialEq, D: NotatedDefault<T>, const TAG: u8> NotatedDefault<Retagged<T, TAG>>
+impl<T: List + PartialEq, D: NotatedDefault<T>, const TAG: u8> NotatedDefault<ImplicitList<T, TAG>>
     for D {
-    ghost value = { Tree.wrapped (wrapper.Retagged TAG) D.value };
+    ghost value = { Tree.wrapped (wrapper.ImplicitList TAG) D.value };
 
-    ghost is_value = { λ tagged h. ap (Tree.wrapped (wrapper.Retagged TAG)) (D.is_value tagged.0 h) };
+    ghost is_value = { λ tagged h. ap (Tree.wrapped (wrapper.ImplicitList TAG)) (D.is_value tagged.0 h) };
 }

@@ -78,7 +78,7 @@ impl ObjectIdentifier {
         ObjectIdentifier::from_arcs(alloc, &arcs)
     }
 
-    /// The bytes of its content (X.690, 8.19.2), as they are behind the tag and the length.
+    /// The bytes of its content (X.690, 8.19.2), as they are after the tag and the length.
     pub fn content(&self) -> &[u8]
         ensures { result.now ≡ ⟦<ObjectIdentifier as Contents>⟧.content self.now }
     {

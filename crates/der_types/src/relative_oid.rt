@@ -1,6 +1,6 @@
 //! Relative object identifiers.
 ghost use Rattle.std.specs.Prelude.{◌≡◌, ◌⊎◌, Some, true, false, map, OnOk, IfOk, IfErr};
-ghost use Rattle.der_types.specs.Subidentifiers.{numbers_behind};
+ghost use Rattle.der_types.specs.Subidentifiers.{numbers_after};
 ghost use Rattle.der_types.specs.Dotted.{dotted_or_marked, fitted, RefusesText};
 ghost use Rattle.der_types.specs.Arcs.{arcs_left};
 ghost use Rattle.der_types.specs.RelativeOid.{is_relative_oid, are_relative_arcs, relative_oid_content, IsRelativeText};
@@ -32,6 +32,7 @@ fn content_of(alloc: Global, arcs: &[u64]) -> std::result::Result<Vec<u8>, Alloc
 
 impl RelativeOid {
     /// Returns the relative object identifier with these arcs. `TooFewArcs` if there is no arc, and `OutOfMemory` if the allocation fails.
+    #[tactic(auto, using(crate::specs::RelativeOidLaws::valid_relative))]
     pub fn from_arcs(alloc: Global, arcs: &[u64]) -> std::result::Result<RelativeOid, OidError>
         ensures arcs { OnOk result (are_relative_arcs arcs.now ≡ true) }
         ensures ok { IfOk result (λ it. it.content.items ≡ relative_oid_content arcs.now) }
@@ -66,14 +67,14 @@ impl RelativeOid {
 
     /// Returns its arcs, in order. An arc above `u64::MAX` is returned as the error `ArcTooLarge`.
     pub fn arcs(&self) -> Arcs<'_>
-        ensures { arcs_left result ≡ numbers_behind 0 self.now.content.items }
+        ensures { arcs_left result ≡ numbers_after 0 self.now.content.items }
     {
-        Arcs::of_relative_oid(&self.content)
+        Arcs::of_numbers(&self.content)
     }
 }
 
 impl fmt::Display for RelativeOid {
-    ghost output = { λ it. Some (dotted_or_marked (map fitted (numbers_behind 0 it.content.items))) };
+    ghost output = { λ it. Some (dotted_or_marked (map fitted (numbers_after 0 it.content.items))) };
 
     fn fmt<W: fmt::Write>(&self, f: &mut fmt::Formatter<W>) -> fmt::Result {
         self.arcs().fmt(f)

@@ -3,8 +3,8 @@ ghost use Rattle.std.specs.Prelude.{◌≡◌, ◌⊎◌, ◌==◌, true, false,
 ghost use Rattle.std.specs.Cmp.Lexicographic.{bytes_decides};
 ghost use Rattle.std.specs.List.{list_all};
 ghost use Rattle.std.specs.Str.{encode_utf8_all};
-ghost use Rattle.picky_der_de.specs.Known.{known_bytes};
-ghost use Rattle.der_types.specs.KnownContents.{contents_of, contents_shape};
+ghost use Rattle.picky_der_de.specs.Facts.{bytes_facts};
+ghost use Rattle.der_types.specs.ContentsFacts.{contents_of, contents_shape};
 ghost use Rattle.der_types.specs.ContentTests.{ReadsContent, RefusesContent};
 ghost use Rattle.der_types.specs.CharacterStrings.{string_content, characters, is_string_content};
 
@@ -142,9 +142,9 @@ impl<S: Unicode> fmt::Display for RestrictedString<S> {
     fn fmt<W: fmt::Write>(&self, f: &mut fmt::Formatter<W>) -> fmt::Result {
         let width = S::WIDTH;
         let mut rest = self.content.as_slice();
-        while let Some((code, behind)) = split_character(width, rest) {
+        while let Some((code, after)) = split_character(width, rest) {
             f.write_char(char_of(code))?;
-            rest = behind;
+            rest = after;
         }
         Ok(())
     }
@@ -204,9 +204,9 @@ impl<S: CharacterSet> Serialize for RestrictedString<S> {
 impl<S: CharacterSet> Deserialize for RestrictedString<S> {
     ghost shape = { contents_shape S.TAG };
 
-    ghost known = { known_bytes S.TAG (λ it. it.content.items) };
+    ghost facts = { bytes_facts S.TAG (λ it. it.content.items) };
 
-    ghost tied = { Prim.assumption };
+    ghost proved = { Prim.assumption };
 
     fn deserialize<R: ReadExt>(deserializer: &mut Deserializer<R>) -> Result<RestrictedString<S>>
         ensures read { IfOk result (λ it. ReadsContent S.TAG

@@ -22,7 +22,7 @@ pub trait Size: Serialize {
         ensures { result ≡ size self.now };
 
     // The encoding alone decides the size.
-    ghost told: { (x y : Self) → Self.meaning x ≡ Self.meaning y → size x ≡ size y };
+    ghost determined: { (x y : Self) → Self.meaning x ≡ Self.meaning y → size x ≡ size y };
 }
 
 // How many characters a text has.
@@ -39,7 +39,7 @@ impl Size for BitString {
         self.len()
     }
 
-    ghost told = { λ x y e. ap (λ t. length (bits_of (tree_bytes t))) e };
+    ghost determined = { λ x y e. ap (λ t. length (bits_of (tree_bytes t))) e };
 }
 
 impl Size for ByteBuf {
@@ -49,7 +49,7 @@ impl Size for ByteBuf {
         self.0.len() as u128
     }
 
-    ghost told = { λ x y e. ap (λ t. length (tree_bytes t)) e };
+    ghost determined = { λ x y e. ap (λ t. length (tree_bytes t)) e };
 }
 
 impl Size for String {
@@ -59,7 +59,7 @@ impl Size for String {
         char_count(self.as_str()) as u128
     }
 
-    ghost told = { λ x y e. ap (λ t. length (chars (tree_bytes t))) e };
+    ghost determined = { λ x y e. ap (λ t. length (chars (tree_bytes t))) e };
 }
 
 impl<S: CharacterSet> Size for RestrictedString<S> {
@@ -69,7 +69,7 @@ impl<S: CharacterSet> Size for RestrictedString<S> {
         self.len() as u128
     }
 
-    ghost told = { λ x y e. ap (λ t. length (characters S.WIDTH (tree_bytes t))) e };
+    ghost determined = { λ x y e. ap (λ t. length (characters S.WIDTH (tree_bytes t))) e };
 }
 
 // It is a string of characters of one byte each (X.680, 46.3).
@@ -80,7 +80,7 @@ impl Size for GeneralizedTime {
         self.content().len() as u128
     }
 
-    ghost told = { λ x y e. ap (λ t. length (tree_bytes t)) e };
+    ghost determined = { λ x y e. ap (λ t. length (tree_bytes t)) e };
 }
 
 impl<T: Serialize> Size for Vec<T> {
@@ -90,7 +90,7 @@ impl<T: Serialize> Size for Vec<T> {
         self.len() as u128
     }
 
-    ghost told = { λ x y e. same_length ListKind.sequence T.meaning x.items y.items e };
+    ghost determined = { λ x y e. same_length ListKind.sequence T.meaning x.items y.items e };
 }
 
 impl<T: Serialize> Size for Asn1SequenceOf<T> {
@@ -100,7 +100,7 @@ impl<T: Serialize> Size for Asn1SequenceOf<T> {
         self.0.len() as u128
     }
 
-    ghost told = { λ x y e. same_length ListKind.sequence T.meaning x.0.items y.0.items e };
+    ghost determined = { λ x y e. same_length ListKind.sequence T.meaning x.0.items y.0.items e };
 }
 
 impl<T: Serialize> Size for Asn1SetOf<T> {
@@ -110,5 +110,5 @@ impl<T: Serialize> Size for Asn1SetOf<T> {
         self.0.len() as u128
     }
 
-    ghost told = { λ x y e. same_length ListKind.set T.meaning x.0.items y.0.items e };
+    ghost determined = { λ x y e. same_length ListKind.set T.meaning x.0.items y.0.items e };
 }

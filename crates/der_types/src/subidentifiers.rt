@@ -1,6 +1,6 @@
 //! Numbers in base 128, which the contents of object identifiers consist of (X.690, 8.19.2).
 ghost use Rattle.std.specs.Prelude.{◌≡◌, ◌≤◌, ◌<◌, ◌+◌, ◌*◌, ◌^◌, ◌++◌, ◌∷◌, [], ℕ, min, OnOk, IfSome, IfNone};
-ghost use Rattle.der_types.specs.Subidentifiers.{marked, subidentifier, subidentifiers, is_subidentifiers, numbers_behind};
+ghost use Rattle.der_types.specs.Subidentifiers.{marked, subidentifier, subidentifiers, is_subidentifiers, numbers_after};
 
 use std::alloc::AllocError;
 
@@ -63,9 +63,9 @@ fn with_digit(number: u128, digit: u8) -> u128
 // Returns the first number, or the cap if that is less, and the bytes after it.
 pub(crate) fn split_number(bytes: &[u8]) -> Option<(u128, &[u8])>
     ensures some { IfSome result (λ pair. (n : ℕ)
-        × (numbers_behind 0 bytes.now ≡ n ∷ numbers_behind 0 pair.1.now)
+        × (numbers_after 0 bytes.now ≡ n ∷ numbers_after 0 pair.1.now)
         × (pair.0 ≡ min n (2 ^ 65))) }
-    ensures none { IfNone result (numbers_behind 0 bytes.now ≡ []) }
+    ensures none { IfNone result (numbers_after 0 bytes.now ≡ []) }
 {
     let mut number = 0;
     for (index, byte) in bytes.iter().enumerate() {

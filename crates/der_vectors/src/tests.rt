@@ -1,10 +1,7 @@
-// Compares what came with what was wanted. A third argument names the place in a table.
+// Compares what came with what was wanted.
 macro_rules! same {
     ($rt:expr; $came:expr, $wanted:expr) => {
         $crate::tests::checks::same(&$rt, stringify!($came), &$came, &$wanted)
-    };
-    ($rt:expr; $came:expr, $wanted:expr, $place:expr) => {
-        $crate::tests::checks::same_at(&$rt, stringify!($came), &$place, &$came, &$wanted)
     };
 }
 

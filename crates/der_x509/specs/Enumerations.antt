@@ -4,7 +4,7 @@ use Rattle.std.specs.Prelude.{ℕ, Bool, true, false, ◌==◌, nat_lt, List, []
 use Rattle.std.proofs.Common.{◌∙◌}
 use Rattle.std.proofs.lemmas.Bool.{eq-eqb}
 use Rattle.picky_der_ser.specs.Defaults.{IsByTree}
-use Rattle.der_types.specs.KnownContents.{contents_of}
+use Rattle.der_types.specs.ContentsFacts.{contents_of}
 use Rattle.der_x509.specs.declared.pkix1_explicit88.Version.{Version}
 use Rattle.der_x509.specs.declared.pkix1_explicit88.Version.TheVariants as version
 use Rattle.der_x509.specs.contracts.pkix1_explicit88.VersionPartialEq.TheImpl as version_compared

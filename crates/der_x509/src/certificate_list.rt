@@ -2,7 +2,7 @@
 //!
 //! Types of PKIX1Explicit88.
 ghost use Rattle.std.specs.Prelude.{refl};
-ghost use Rattle.picky_der_de.specs.KnownMembers.{known_struct, sequence_of, sequence_shape};
+ghost use Rattle.picky_der_de.specs.MembersFacts.{sequence_of, sequence_shape, struct_facts};
 ghost use Rattle.der_types.specs.Notation.{Notation};
 
 use crate::{AlgorithmIdentifier, CertificateSerialNumber, Extensions, Name, Time, Version};
@@ -62,13 +62,13 @@ impl Serialize for CertificateList {
 impl Deserialize for CertificateList {
     ghost shape = { sequence_shape ⟦<CertificateListParts as DeserializeMembers>⟧.layout };
 
-    ghost known = { known_struct ⟦<CertificateListParts as DeserializeMembers>⟧.known refl ⟦<Self as Struct>⟧.parts };
+    ghost facts = { struct_facts ⟦<CertificateListParts as DeserializeMembers>⟧.facts refl ⟦<Self as Struct>⟧.parts };
 
     fn deserialize<R: ReadExt>(deserializer: &mut Deserializer<R>) -> Result<CertificateList> {
         deserialize_struct_as(deserializer)
     }
 
-    ghost tied = { Prim.assumption };
+    ghost proved = { Prim.assumption };
 }
 
 impl Begins for CertificateList {
@@ -176,13 +176,13 @@ impl Serialize for TbsCertList {
 impl Deserialize for TbsCertList {
     ghost shape = { sequence_shape ⟦<TbsCertListParts as DeserializeMembers>⟧.layout };
 
-    ghost known = { known_struct ⟦<TbsCertListParts as DeserializeMembers>⟧.known refl ⟦<Self as Struct>⟧.parts };
+    ghost facts = { struct_facts ⟦<TbsCertListParts as DeserializeMembers>⟧.facts refl ⟦<Self as Struct>⟧.parts };
 
     fn deserialize<R: ReadExt>(deserializer: &mut Deserializer<R>) -> Result<TbsCertList> {
         deserialize_struct_as(deserializer)
     }
 
-    ghost tied = { Prim.assumption };
+    ghost proved = { Prim.assumption };
 }
 
 impl Begins for TbsCertList {
@@ -247,13 +247,13 @@ impl Serialize for RevokedCertificate {
 impl Deserialize for RevokedCertificate {
     ghost shape = { sequence_shape ⟦<RevokedCertificateParts as DeserializeMembers>⟧.layout };
 
-    ghost known = { known_struct ⟦<RevokedCertificateParts as DeserializeMembers>⟧.known refl ⟦<Self as Struct>⟧.parts };
+    ghost facts = { struct_facts ⟦<RevokedCertificateParts as DeserializeMembers>⟧.facts refl ⟦<Self as Struct>⟧.parts };
 
     fn deserialize<R: ReadExt>(deserializer: &mut Deserializer<R>) -> Result<RevokedCertificate> {
         deserialize_struct_as(deserializer)
     }
 
-    ghost tied = { Prim.assumption };
+    ghost proved = { Prim.assumption };
 }
 
 impl Begins for RevokedCertificate {

@@ -4,8 +4,8 @@
 ghost use Rattle.std.specs.Prelude.{refl};
 ghost use Rattle.picky_der_core.specs.Shape.{Shape};
 ghost use Rattle.picky_der_de.specs.declared.alternatives.OneOf.TheVariants.{This};
-ghost use Rattle.picky_der_de.specs.KnownChoices.{known_choice};
-ghost use Rattle.picky_der_de.specs.KnownMembers.{known_struct, sequence_of, sequence_shape};
+ghost use Rattle.picky_der_de.specs.ChoiceFacts.{choice_facts};
+ghost use Rattle.picky_der_de.specs.MembersFacts.{sequence_of, sequence_shape, struct_facts};
 ghost use Rattle.der_types.specs.Notation.{Notation};
 
 use der_types::{Notated, NotatedAlternatives, NotatedMembers, ObjectIdentifier, WithSize};
@@ -56,10 +56,10 @@ impl Deserialize for Name {
 
     ghost shape = { Shape.choice ⟦<NameParts as Alternatives>⟧.shapes };
 
-    ghost known = { known_choice ⟦<NameParts as Alternatives>⟧.known refl ⟦<Self as Choice>⟧.parts ⟦<Self as PartialEq>⟧.eq
+    ghost facts = { choice_facts ⟦<NameParts as Alternatives>⟧.facts refl ⟦<Self as Choice>⟧.parts ⟦<Self as PartialEq>⟧.eq
         (elim [ variants.RdnSequence _ ↦ elim [ variants.RdnSequence _ ↦ λ h. h ] ]) };
 
-    ghost tied = { Prim.assumption };
+    ghost proved = { Prim.assumption };
 
     fn deserialize<R: ReadExt>(deserializer: &mut Deserializer<R>) -> Result<Name> {
         deserialize_choice_as(deserializer)
@@ -119,7 +119,7 @@ impl Serialize for AttributeTypeAndValue {
 impl Deserialize for AttributeTypeAndValue {
     ghost shape = { sequence_shape ⟦<AttributeTypeAndValueParts as DeserializeMembers>⟧.layout };
 
-    ghost known = { known_struct ⟦<AttributeTypeAndValueParts as DeserializeMembers>⟧.known refl ⟦<Self as Struct>⟧.parts };
+    ghost facts = { struct_facts ⟦<AttributeTypeAndValueParts as DeserializeMembers>⟧.facts refl ⟦<Self as Struct>⟧.parts };
 
     fn deserialize<R: ReadExt>(
         deserializer: &mut Deserializer<R>,
@@ -127,7 +127,7 @@ impl Deserialize for AttributeTypeAndValue {
         deserialize_struct_as(deserializer)
     }
 
-    ghost tied = { Prim.assumption };
+    ghost proved = { Prim.assumption };
 }
 
 impl Begins for AttributeTypeAndValue {

@@ -5,9 +5,9 @@ ghost use Rattle.std.proofs.Common.{lit≤, sym};
 ghost use Rattle.std.specs.Prelude.{[], refl, ◌∷◌, ◌≡◌};
 ghost use Rattle.picky_der_core.specs.Shape.{Shape};
 ghost use Rattle.picky_der_de.specs.declared.alternatives.OneOf.TheVariants.{Other, This};
-ghost use Rattle.picky_der_de.specs.KnownChoices.{known_choice};
-ghost use Rattle.picky_der_de.specs.KnownMembers.{known_struct, sequence_of, sequence_shape};
-ghost use Rattle.der_types.specs.KnownContents.{contents_of, contents_shape, known_contents};
+ghost use Rattle.picky_der_de.specs.ChoiceFacts.{choice_facts};
+ghost use Rattle.picky_der_de.specs.MembersFacts.{sequence_of, sequence_shape, struct_facts};
+ghost use Rattle.der_types.specs.ContentsFacts.{contents_facts, contents_of, contents_shape};
 ghost use Rattle.der_types.specs.Notation.{Notation};
 ghost use Rattle.der_x509.specs.Enumerations.{is_default_version_v1, is_version, same_version, version_number, version_v1_by_tree};
 
@@ -74,13 +74,13 @@ impl Serialize for Certificate {
 impl Deserialize for Certificate {
     ghost shape = { sequence_shape ⟦<CertificateParts as DeserializeMembers>⟧.layout };
 
-    ghost known = { known_struct ⟦<CertificateParts as DeserializeMembers>⟧.known refl ⟦<Self as Struct>⟧.parts };
+    ghost facts = { struct_facts ⟦<CertificateParts as DeserializeMembers>⟧.facts refl ⟦<Self as Struct>⟧.parts };
 
     fn deserialize<R: ReadExt>(deserializer: &mut Deserializer<R>) -> Result<Certificate> {
         deserialize_struct_as(deserializer)
     }
 
-    ghost tied = { Prim.assumption };
+    ghost proved = { Prim.assumption };
 }
 
 impl Begins for Certificate {
@@ -213,13 +213,13 @@ impl Serialize for TbsCertificate {
 impl Deserialize for TbsCertificate {
     ghost shape = { sequence_shape ⟦<TbsCertificateParts as DeserializeMembers>⟧.layout };
 
-    ghost known = { known_struct ⟦<TbsCertificateParts as DeserializeMembers>⟧.known refl ⟦<Self as Struct>⟧.parts };
+    ghost facts = { struct_facts ⟦<TbsCertificateParts as DeserializeMembers>⟧.facts refl ⟦<Self as Struct>⟧.parts };
 
     fn deserialize<R: ReadExt>(deserializer: &mut Deserializer<R>) -> Result<TbsCertificate> {
         deserialize_struct_as(deserializer)
     }
 
-    ghost tied = { Prim.assumption };
+    ghost proved = { Prim.assumption };
 }
 
 impl Begins for TbsCertificate {
@@ -240,7 +240,7 @@ impl Notated for TbsCertificate {
 
 /// The version of a certificate (RFC 5280, 4.1.2.1). The RFC names these three and has no
 /// constraint. `Version` of PKIX1Explicit88, as an INTEGER with a name for each number. Every other
-/// content is rejected with `InvalidData`.
+/// content is refused with `InvalidData`.
 #[derive(Debug, Clone, Copy, PartialEq, Eq)]
 pub enum Version {
     /// Without extensions. `v1`, 0.
@@ -318,9 +318,9 @@ impl Serialize for Version {
 impl Deserialize for Version {
     ghost shape = { contents_shape 0x02 };
 
-    ghost known = { known_contents 0x02 (λ it. version_number it ∷ []) ⟦<Self as PartialEq>⟧.eq ⟦<Self as Contents>⟧.same };
+    ghost facts = { contents_facts 0x02 (λ it. version_number it ∷ []) ⟦<Self as PartialEq>⟧.eq ⟦<Self as Contents>⟧.same };
 
-    ghost tied = { Prim.assumption };
+    ghost proved = { Prim.assumption };
 
     fn deserialize<R: ReadExt>(deserializer: &mut Deserializer<R>) -> Result<Version> {
         deserialize_contents_as(deserializer)
@@ -423,13 +423,13 @@ impl Serialize for Validity {
 impl Deserialize for Validity {
     ghost shape = { sequence_shape ⟦<ValidityParts as DeserializeMembers>⟧.layout };
 
-    ghost known = { known_struct ⟦<ValidityParts as DeserializeMembers>⟧.known refl ⟦<Self as Struct>⟧.parts };
+    ghost facts = { struct_facts ⟦<ValidityParts as DeserializeMembers>⟧.facts refl ⟦<Self as Struct>⟧.parts };
 
     fn deserialize<R: ReadExt>(deserializer: &mut Deserializer<R>) -> Result<Validity> {
         deserialize_struct_as(deserializer)
     }
 
-    ghost tied = { Prim.assumption };
+    ghost proved = { Prim.assumption };
 }
 
 impl Begins for Validity {
@@ -491,10 +491,10 @@ impl Deserialize for Time {
 
     ghost shape = { Shape.choice ⟦<TimeParts as Alternatives>⟧.shapes };
 
-    ghost known = { known_choice ⟦<TimeParts as Alternatives>⟧.known refl ⟦<Self as Choice>⟧.parts ⟦<Self as PartialEq>⟧.eq
+    ghost facts = { choice_facts ⟦<TimeParts as Alternatives>⟧.facts refl ⟦<Self as Choice>⟧.parts ⟦<Self as PartialEq>⟧.eq
         (elim [ variants.UtcTime _ ↦ elim [ variants.UtcTime _ ↦ λ h. h | _ ↦ λ h. h ] | _ ↦ elim [ variants.UtcTime _ ↦ λ h. h | _ ↦ λ h. h ] ]) };
 
-    ghost tied = { Prim.assumption };
+    ghost proved = { Prim.assumption };
 
     fn deserialize<R: ReadExt>(deserializer: &mut Deserializer<R>) -> Result<Time> {
         deserialize_choice_as(deserializer)
@@ -554,13 +554,13 @@ impl Serialize for SubjectPublicKeyInfo {
 impl Deserialize for SubjectPublicKeyInfo {
     ghost shape = { sequence_shape ⟦<SubjectPublicKeyInfoParts as DeserializeMembers>⟧.layout };
 
-    ghost known = { known_struct ⟦<SubjectPublicKeyInfoParts as DeserializeMembers>⟧.known refl ⟦<Self as Struct>⟧.parts };
+    ghost facts = { struct_facts ⟦<SubjectPublicKeyInfoParts as DeserializeMembers>⟧.facts refl ⟦<Self as Struct>⟧.parts };
 
     fn deserialize<R: ReadExt>(deserializer: &mut Deserializer<R>) -> Result<SubjectPublicKeyInfo> {
         deserialize_struct_as(deserializer)
     }
 
-    ghost tied = { Prim.assumption };
+    ghost proved = { Prim.assumption };
 }
 
 impl Begins for SubjectPublicKeyInfo {
@@ -630,13 +630,13 @@ impl Serialize for Extension {
 impl Deserialize for Extension {
     ghost shape = { sequence_shape ⟦<ExtensionParts as DeserializeMembers>⟧.layout };
 
-    ghost known = { known_struct ⟦<ExtensionParts as DeserializeMembers>⟧.known refl ⟦<Self as Struct>⟧.parts };
+    ghost facts = { struct_facts ⟦<ExtensionParts as DeserializeMembers>⟧.facts refl ⟦<Self as Struct>⟧.parts };
 
     fn deserialize<R: ReadExt>(deserializer: &mut Deserializer<R>) -> Result<Extension> {
         deserialize_struct_as(deserializer)
     }
 
-    ghost tied = { Prim.assumption };
+    ghost proved = { Prim.assumption };
 }
 
 impl Begins for Extension {
@@ -692,13 +692,13 @@ impl Serialize for AlgorithmIdentifier {
 impl Deserialize for AlgorithmIdentifier {
     ghost shape = { sequence_shape ⟦<AlgorithmIdentifierParts as DeserializeMembers>⟧.layout };
 
-    ghost known = { known_struct ⟦<AlgorithmIdentifierParts as DeserializeMembers>⟧.known refl ⟦<Self as Struct>⟧.parts };
+    ghost facts = { struct_facts ⟦<AlgorithmIdentifierParts as DeserializeMembers>⟧.facts refl ⟦<Self as Struct>⟧.parts };
 
     fn deserialize<R: ReadExt>(deserializer: &mut Deserializer<R>) -> Result<AlgorithmIdentifier> {
         deserialize_struct_as(deserializer)
     }
 
-    ghost tied = { Prim.assumption };
+    ghost proved = { Prim.assumption };
 }
 
 impl Begins for AlgorithmIdentifier {

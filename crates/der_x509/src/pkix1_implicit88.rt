@@ -2,14 +2,14 @@
 //!
 //! Types of PKIX1Implicit88.
 ghost use Rattle.std.specs.Prelude.{refl};
-ghost use Rattle.picky_der_de.specs.Known.{known_as};
+ghost use Rattle.picky_der_de.specs.Facts.{facts_as};
 
 use der_types::{NamedBits, Notated};
 use picky_asn1_der::asn1::Tag;
 use picky_asn1_der::de::Begins;
 use picky_asn1_der::misc::{ReadExt, WriteExt};
 use picky_asn1_der::{
-    Alike, Deserialize, Deserializer, Result, Serialize, Serializer, deserialize_as,
+    Deserialize, Deserializer, Result, Serialize, Serializer, Via, deserialize_as,
 };
 
 /// What a key may be used for: the value of the extension `names::KEY_USAGE` (RFC 5280, 4.2.1.3).
@@ -28,7 +28,7 @@ impl Serialize for KeyUsage {
     }
 }
 
-impl Alike for KeyUsage {
+impl Via for KeyUsage {
     type As = NamedBits;
 
     ghost parts = { λ it. it.0 };
@@ -41,9 +41,9 @@ impl Alike for KeyUsage {
 impl Deserialize for KeyUsage {
     ghost shape = { ⟦<NamedBits as Deserialize>⟧.shape };
 
-    ghost known = { known_as ⟦<NamedBits as Deserialize>⟧.known (λ it. it.0) };
+    ghost facts = { facts_as ⟦<NamedBits as Deserialize>⟧.facts (λ it. it.0) };
 
-    ghost tied = { Prim.assumption };
+    ghost proved = { Prim.assumption };
 
     fn deserialize<R: ReadExt>(deserializer: &mut Deserializer<R>) -> Result<KeyUsage> {
         deserialize_as(deserializer)

@@ -2,3 +2,4 @@ mod LaterWrites
 pub mod RawTags
 mod ListContents
 mod RoundTrips
+mod SameEncodings

@@ -1,6 +1,6 @@
 -- The content of a list, under its own tag and under another.
 use Rattle.std.proofs.Common.{◌≡◌, ℕ, true, false, refl, ap, ◌∙◌}
-use Rattle.picky_der_core.specs.declared.asn1.wrapper.Wrapper.TheVariants.{Retagged}
+use Rattle.picky_der_core.specs.declared.asn1.wrapper.Wrapper.TheVariants.{ImplicitList}
 use Rattle.picky_der_core.specs.Element.{tlv}
 use Rattle.picky_der_core.specs.Tree.{Tree, is_plain, is_absent, IsListTree}
 use Rattle.picky_der_core.specs.Encoding.{der, content, plain_tag}
@@ -17,5 +17,5 @@ present_list _ h = absurd h
 pub der-list_tree : (t : Tree) → IsListTree t → der t ≡ tlv (plain_tag t) (content t)
 der-list_tree t h = der-plain t (plain_list t h)
 
-pub der-retagged_list : (tag : ℕ) (t : Tree) → IsListTree t → der (Tree.wrapped (Retagged tag) t) ≡ tlv tag (content t)
-der-retagged_list tag t h = der-wrapped_present (Retagged tag) t (present_list t h) ∙ ap (tlv tag) (implicit_content-plain t (plain_list t h))
+pub der-implicit_list : (tag : ℕ) (t : Tree) → IsListTree t → der (Tree.wrapped (ImplicitList tag) t) ≡ tlv tag (content t)
+der-implicit_list tag t h = der-wrapped_present (ImplicitList tag) t (present_list t h) ∙ ap (tlv tag) (implicit_content-plain t (plain_list t h))

@@ -9,13 +9,13 @@ use Rattle.picky_der_core.specs.ReadableLaws.{readable-writable}
 use Rattle.picky_der_core.specs.Shape.{Shape}
 use Rattle.picky_der_core.specs.Reading.{ReadsFrom}
 use Rattle.picky_der_ser.specs.Calls.{MemoryExcuse}
-use Rattle.picky_der_de.specs.Known.{Known, Tied, is_known}
+use Rattle.picky_der_de.specs.Facts.{Facts, Proved, is_lawful}
 
-pub reads_encoding : {V : Type 0} {meaning : V → Tree} {eq : V → V → Bool} {s : Shape} (known : Known V s) → Tied known meaning eq → (v : V) (bytes : List ℕ) → IsReadable (meaning v) → bytes ≡ der (meaning v) → ReadsFrom meaning s bytes (length bytes) v
-reads_encoding {meaning = meaning} known tied v bytes readable is = record {
-  of_shape = (is_known known tied).has_shape v readable;
+pub reads_encoding : {V : Type 0} {meaning : V → Tree} {eq : V → V → Bool} {s : Shape} (facts : Facts V s) → Proved facts meaning eq → (v : V) (bytes : List ℕ) → IsReadable (meaning v) → bytes ≡ der (meaning v) → ReadsFrom meaning s bytes (length bytes) v
+reads_encoding {meaning = meaning} facts proved v bytes readable is = record {
+  of_shape = (is_lawful facts proved).has_shape v readable;
   readable = readable;
-  may_stand = tt;
+  may_be_there = tt;
   within = omega (arith, ap length is);
   front = record { rest = []; is = is ∙ sym (append-nil (der (meaning v))) };
 }

@@ -5,7 +5,7 @@ ghost use Rattle.picky_der_core.specs.Equality.{IsThatOf, IsCopied};
 ghost use Rattle.picky_der_core.specs.Tree.{Tree};
 ghost use Rattle.picky_der_core.specs.Shape.{Shape};
 ghost use Rattle.picky_der_ser.specs.Calls.{WritesWhole};
-ghost use Rattle.picky_der_de.specs.KnownContainers.{known_wrapped};
+ghost use Rattle.picky_der_de.specs.ContainerFacts.{wrapped_facts};
 
 use crate::asn1::Tag;
 use crate::de::Begins;
@@ -61,9 +61,9 @@ impl<V: Serialize + Debug + PartialEq, const T: u8> Serialize for ApplicationTag
 impl<V: Deserialize + Debug, const T: u8> Deserialize for ApplicationTag<V, T> {
     ghost shape = { Shape.wrapped (Application T) V.shape };
 
-    ghost known = { known_wrapped V.known V.meaning V.eq (Application T) (λ it. it.0) };
+    ghost facts = { wrapped_facts V.facts V.meaning V.eq (Application T) (λ it. it.0) };
 
-    ghost tied = { Prim.assumption };
+    ghost proved = { Prim.assumption };
 
     fn deserialize<R: ReadExt>(de: &mut Deserializer<R>) -> Result<ApplicationTag<V, T>> {
         let value = de.deserialize_application(T)?;

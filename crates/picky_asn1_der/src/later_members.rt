@@ -1,7 +1,7 @@
 //! Members of later versions, after the members that a struct knows.
 ghost use Rattle.std.specs.Prelude.{◌≡◌, [], true, false, None, IfOk, IfErr, IfSome, IfNone, OnOk};
 ghost use Rattle.picky_der_core.specs.Shape.{Shape, Layout, firsts_of};
-ghost use Rattle.picky_der_de.specs.KnownMembers.{known_others};
+ghost use Rattle.picky_der_de.specs.MembersFacts.{others_facts};
 ghost use Rattle.picky_der_de.specs.Layouts.{Lacks, RefusesLayout};
 ghost use Rattle.picky_der_de.specs.OtherLaws.{are_outside, others_of};
 ghost use Rattle.picky_der_de.specs.SequenceState.{borrowed_by, outer_of, state_of};
@@ -113,7 +113,7 @@ fn refuse_excluded<A: Alternatives, R: ReadExt>(
 impl<A: Alternatives> DeserializeMembers for LaterMembers<A> {
     ghost layout = { Layout.others (firsts_of A.shapes) };
 
-    ghost known = { known_others (λ raw. raw.0.items) (firsts_of A.shapes) (λ it. it.elements.items) (λ it. it.outside) };
+    ghost facts = { others_facts (λ raw. raw.0.items) (firsts_of A.shapes) (λ it. it.elements.items) (λ it. it.outside) };
 
     fn deserialize_members<R: ReadExt>(
         sequence: &mut picky_der_de::Sequence<'_, R>,
@@ -127,5 +127,5 @@ impl<A: Alternatives> DeserializeMembers for LaterMembers<A> {
         }
     }
 
-    ghost tied = { Prim.assumption };
+    ghost proved = { Prim.assumption };
 }

@@ -6,9 +6,10 @@ pub mod application_tag;
 /// Reads values.
 pub mod de {
     pub use picky_der_de::{
-        Alike, Alternatives, Begins, Boolean, Choice, DEFAULT_MAX_LEN, DecodeError, Deserialize,
-        DeserializeMember, DeserializeMembers, Deserializer, Int, NoneOf, Null, OneOf, OneOf4,
-        Sequence, Struct, TryAlike, UInt, UnsignedInteger, Utf8String, deserialize_as,
+        Alternatives, Begins, Boolean, Choice, Choice4, DEFAULT_MAX_LEN, DecodeError, Deserialize,
+        DeserializeMember, DeserializeMembers, Deserializer, Faithful, FaithfulAlternatives,
+        FaithfulDefault, FaithfulMember, FaithfulMembers, Inhabited, Int, NoneOf, Null, OneOf,
+        Sequence, Struct, TryVia, UInt, UnsignedInteger, Utf8String, Via, deserialize_as,
         deserialize_choice_as, deserialize_struct_as, from_bytes, from_der, from_reader,
         from_reader_with_max_len, next_from_bytes, next_from_reader, try_deserialize_as,
     };
@@ -24,17 +25,19 @@ pub mod ser {
     };
 }
 
+mod faithful;
+pub mod implicit_list;
 pub mod later_members;
 pub mod raw_der;
-pub mod retagged;
 pub mod round_trip;
 
 pub use later_members::LaterMembers;
 pub use picky_der_core::misc::Length;
 pub use picky_der_core::{Asn1DerError, Result, asn1, laws, misc};
 pub use picky_der_de::{
-    Alike, Alternatives, Choice, DecodeError, Deserialize, DeserializeMembers, Deserializer,
-    NoneOf, OneOf, OneOf4, Struct, TryAlike, deserialize_as, deserialize_struct_as, from_bytes,
+    Alternatives, Choice, Choice4, DecodeError, Deserialize, DeserializeMembers, Deserializer,
+    Faithful, FaithfulAlternatives, FaithfulDefault, FaithfulMember, FaithfulMembers, Inhabited,
+    NoneOf, OneOf, Struct, TryVia, Via, deserialize_as, deserialize_struct_as, from_bytes,
     from_der, from_reader, from_reader_with_max_len, next_from_bytes, next_from_reader,
     try_deserialize_as,
 };

@@ -9,7 +9,7 @@ ghost use Rattle.picky_der_core.specs.Shape.{Shape};
 ghost use Rattle.picky_der_ser.specs.Calls.{WritesPlain};
 ghost use Rattle.picky_der_de.specs.Reading.{Reads, Refuses};
 ghost use Rattle.picky_der_de.specs.Elements.{RefusesRaw};
-ghost use Rattle.picky_der_de.specs.Known.{known_raw};
+ghost use Rattle.picky_der_de.specs.Facts.{raw_facts};
 
 use picky_der_core::asn1::Tag;
 use picky_der_core::misc::{ReadExt, WriteExt};
@@ -81,9 +81,9 @@ impl Serialize for Asn1RawDer {
 impl Deserialize for Asn1RawDer {
     ghost shape = { Shape.raw };
 
-    ghost known = { known_raw (λ it. it.0.items) };
+    ghost facts = { raw_facts (λ it. it.0.items) };
 
-    ghost tied = { Prim.assumption };
+    ghost proved = { Prim.assumption };
 
     fn deserialize<R: ReadExt>(de: &mut Deserializer<R>) -> Result<Asn1RawDer>
         ensures ok { IfOk result (λ value. Reads Shape.raw de.old de.new (Tree.raw value.0.items)) }

@@ -1,6 +1,6 @@
 //! Decoding the encoding of a readable value gives an equal value, and no other bytes decode to it. Here this is the contract
 //! of functions that only write and read.
-ghost use Rattle.std.specs.Prelude.{◌≡◌, ◌≢◌, length, true, IfOk, IfErr};
+ghost use Rattle.std.specs.Prelude.{◌≡◌, ◌≢◌, ◌↔◌, length, true, IsTrue, IfOk, IfErr};
 ghost use Rattle.picky_der_core.specs.Element.{IsPrefix};
 ghost use Rattle.picky_der_core.specs.Encoding.{der};
 ghost use Rattle.picky_der_core.specs.Shape.{IsOf};
@@ -8,13 +8,45 @@ ghost use Rattle.picky_der_core.specs.Readable.{IsReadable, IsWritable};
 ghost use Rattle.picky_der_core.specs.Reading.{ReadsFrom};
 ghost use Rattle.picky_der_ser.specs.Calls.{MemoryExcuse};
 
-use crate::{Asn1DerError, Deserialize, Result, from_bytes, to_vec};
+use crate::{Asn1DerError, Deserialize, Faithful, Result, from_bytes, from_der, to_vec};
 use std::alloc::Global;
 
 /// A readable value of a type is of its shape.
 pub fn readable_has_shape<T: Deserialize>()
     ensures { (value : T) → IsReadable (T.meaning value) → IsOf T.shape (T.meaning value) }
 {}
+
+/// Two values of a type with `Faithful` that are equal by `==` mean the same tree.
+pub fn equal_meanings<T: Faithful>()
+    ensures { (x y : T) → T.eq x y ≡ true → T.meaning x ≡ T.meaning y }
+{}
+
+/// Two readable values of a type with `Faithful` are equal by `==` exactly if their encodings are the same.
+pub fn equal_encodings<T: Faithful>()
+    ensures { (x y : T) → IsReadable (T.meaning x) → IsReadable (T.meaning y)
+        → (T.eq x y ≡ true) ↔ (der (T.meaning x) ≡ der (T.meaning y)) }
+{}
+
+/// Whether a value is readable: whether its encoding is read back as an equal value.
+///
+/// `OutOfMemory` if an allocation fails, and `UnsupportedValue` if the value can't be written.
+pub fn reads_back<T: Faithful>(alloc: Global, value: &T) -> Result<bool>
+    ensures ok { IfOk result (λ readable. IsTrue readable ↔ IsReadable (T.meaning value.now)) }
+    ensures err { IfErr result (MemoryExcuse (IsWritable (T.meaning value.now))) }
+{
+    readable_has_shape::<T>();
+    equal_meanings::<T>();
+    let bytes = to_vec(alloc, value)?;
+    match from_der::<T>(alloc, &bytes) {
+        Ok(back) => Ok(back == *value),
+        Err(refusal) => {
+            if refusal.error == Asn1DerError::OutOfMemory {
+                return Err(Asn1DerError::OutOfMemory);
+            }
+            Ok(false)
+        }
+    }
+}
 
 /// Writes a value and reads it back. The result is equal to the value, and means the same tree.
 ///

@@ -8,7 +8,7 @@ use Rattle.std.proofs.lemmas.Int.Digits.{number_push}
 use Rattle.std.proofs.lemmas.List.{map_more, length-map, drop-map}
 use Rattle.picky_der_core.specs.Element.{AreBytes}
 use Rattle.picky_der_core.specs.Primitive.{unsigned_content}
-use Rattle.picky_der_core.specs.Integer.{is_integer, is_negative, turned_byte, turned_if, behind_sign, integer_content, content_bits, integer_value}
+use Rattle.picky_der_core.specs.Integer.{is_integer, is_negative, turned_byte, turned_if, after_sign, integer_content, content_bits, integer_value}
 use Rattle.picky_der_core.specs.IntegerLaws.{content-value, value-content}
 
 -- a list that holds a byte at each index
@@ -56,7 +56,7 @@ past_bits b bs some h =
     omega (arith, number_after-least (0 * 256 + b) bs)
 
 -- so are more than sixteen after the sign of a content
-pub long_bits : (bs : List ℕ) → AreBytes bs → is_integer bs ≡ true → 16 < length (behind_sign bs) → 2 ^ 128 ≤ content_bits bs
+pub long_bits : (bs : List ℕ) → AreBytes bs → is_integer bs ≡ true → 16 < length (after_sign bs) → 2 ^ 128 ≤ content_bits bs
 long_bits [] p e h = absurd (omega arith)
 long_bits (b ∷ []) p e h = by_sign (b == 0x00 || b == 0xFF) h
   where

@@ -1,6 +1,6 @@
 -- Worked examples of lengths and encodings: the definitions compute them.
 use Rattle.std.proofs.Common.{◌≡◌, true, List, ℕ, [], ◌∷◌, take, replicate, refl}
-use Rattle.picky_der_core.specs.declared.asn1.wrapper.Wrapper.TheVariants.{OctetContainer, BitContainer, Explicit, Implicit, Application, Retagged}
+use Rattle.picky_der_core.specs.declared.asn1.wrapper.Wrapper.TheVariants.{OctetContainer, BitContainer, Explicit, Implicit, Application, ImplicitList}
 use Rattle.picky_der_core.specs.Primitive.{Primitive}
 use Rattle.picky_der_core.specs.Element.{length_octets}
 use Rattle.picky_der_core.specs.Tree.{ListKind, Tree, trees}
@@ -143,17 +143,17 @@ implicit_sequence : der (Tree.wrapped (Implicit 1) (Tree.list ListKind.sequence 
 unfolding der_on_literals
 implicit_sequence = refl
 
-retagged_sequence : der (Tree.wrapped (Retagged 0xA1) (Tree.list ListKind.sequence (trees (Tree.primitive (Primitive.unsigned 7) ∷ [])))) ≡ 0xA1 ∷ 0x03 ∷ 0x02 ∷ 0x01 ∷ 0x07 ∷ []
+implicit_list_sequence : der (Tree.wrapped (ImplicitList 0xA1) (Tree.list ListKind.sequence (trees (Tree.primitive (Primitive.unsigned 7) ∷ [])))) ≡ 0xA1 ∷ 0x03 ∷ 0x02 ∷ 0x01 ∷ 0x07 ∷ []
 unfolding der_on_literals
-retagged_sequence = refl
+implicit_list_sequence = refl
 
-retagged_set : der (Tree.wrapped (Retagged 0xA0) (set_of (Tree.primitive (Primitive.unsigned 5) ∷ Tree.primitive (Primitive.unsigned 3) ∷ []))) ≡ 0xA0 ∷ 0x06 ∷ 0x02 ∷ 0x01 ∷ 0x03 ∷ 0x02 ∷ 0x01 ∷ 0x05 ∷ []
+implicit_list_set : der (Tree.wrapped (ImplicitList 0xA0) (set_of (Tree.primitive (Primitive.unsigned 5) ∷ Tree.primitive (Primitive.unsigned 3) ∷ []))) ≡ 0xA0 ∷ 0x06 ∷ 0x02 ∷ 0x01 ∷ 0x03 ∷ 0x02 ∷ 0x01 ∷ 0x05 ∷ []
 unfolding der_on_literals
-retagged_set = refl
+implicit_list_set = refl
 
-retagged_as_application : der (Tree.wrapped (Retagged 0x60) (Tree.list ListKind.sequence (trees []))) ≡ 0x60 ∷ 0x00 ∷ []
+implicit_list_as_application : der (Tree.wrapped (ImplicitList 0x60) (Tree.list ListKind.sequence (trees []))) ≡ 0x60 ∷ 0x00 ∷ []
 unfolding der_on_literals
-retagged_as_application = refl
+implicit_list_as_application = refl
 
 implicit_octet_container : der (Tree.wrapped (Implicit 1) (Tree.wrapped OctetContainer (Tree.primitive (Primitive.unsigned 7)))) ≡ 0x81 ∷ 0x05 ∷ 0x04 ∷ 0x03 ∷ 0x02 ∷ 0x01 ∷ 0x07 ∷ []
 unfolding der_on_literals

@@ -17,7 +17,7 @@ use Rattle.std.proofs.lemmas.List.Sorted.{IsPermutation-map}
 use Rattle.picky_der_core.specs.Element.{tlv}
 use Rattle.picky_der_core.specs.OrderLaws.{in_ascending_order-permuted}
 use Rattle.std.specs.List.Sorted.{IsPermutation}
-use Rattle.picky_der_core.specs.declared.asn1.wrapper.Wrapper.TheVariants.{Retagged}
+use Rattle.picky_der_core.specs.declared.asn1.wrapper.Wrapper.TheVariants.{ImplicitList}
 
 pub length_both_ways : LengthBothWays
 length_both_ways n k rest b = sym (length_octets_prefix k n rest b.rest b.is).0
@@ -38,7 +38,7 @@ one_value s sound input limit t u r v =
 
 pub round_trip : RoundTrip
 round_trip s sound t rest limit p r small = (
-  record { of_shape = p; readable = r; may_stand = tt; within = small; front = record { rest = rest; is = refl } },
+  record { of_shape = p; readable = r; may_be_there = tt; within = small; front = record { rest = rest; is = refl } },
   λ u v. same_tree s sound u t v.of_shape p v.readable r v.front.rest rest (sym v.front.is),
 )
 
@@ -57,7 +57,7 @@ same_bytes s sound ts us p q = (same_lists s sound ts us p q, λ e. ap (λ l. co
 
 pub one_inside : OneInside
 one_inside s sound rest ahead t u r v =
-    same_tree_at (Place.under_implicit ahead) s sound t u r.of_shape v.of_shape r.readable v.readable r.may_stand v.may_stand r.front.rest v.front.rest (sym r.front.is ∙ v.front.is)
+    same_tree_at (Place.under_implicit ahead) s sound t u r.of_shape v.of_shape r.readable v.readable r.may_be_there v.may_be_there r.front.rest v.front.rest (sym r.front.is ∙ v.front.is)
 
 pub set_order : SetOrder
 set_order ts us moved =
@@ -66,13 +66,13 @@ set_order ts us moved =
 
 -- ---- a list under another tag: its encoding, with that tag in place of its own
 
-pub retagged_list : (tag : ℕ) (kind : ListKind) (ts : List Tree) → der (Tree.wrapped (Retagged tag) (Tree.list kind (trees ts))) ≡ tlv tag (list_content kind (map der ts))
-retagged_list tag kind ts =
-    der-wrapped_present (Retagged tag) (Tree.list kind (trees ts)) refl
+pub implicit_list : (tag : ℕ) (kind : ListKind) (ts : List Tree) → der (Tree.wrapped (ImplicitList tag) (Tree.list kind (trees ts))) ≡ tlv tag (list_content kind (map der ts))
+implicit_list tag kind ts =
+    der-wrapped_present (ImplicitList tag) (Tree.list kind (trees ts)) refl
     ∙ ap (tlv tag) (implicit_content-plain (Tree.list kind (trees ts)) refl ∙ ap (list_content kind) (encodings-trees ts))
 
 -- sets of the same members, each as often, in any order, have one encoding under the tag, too
-pub retagged_set_order : (tag : ℕ) (ts us : List Tree) → IsPermutation ts us → der (Tree.wrapped (Retagged tag) (Tree.list ListKind.set (trees ts))) ≡ der (Tree.wrapped (Retagged tag) (Tree.list ListKind.set (trees us)))
-retagged_set_order tag ts us moved =
+pub implicit_list_set_order : (tag : ℕ) (ts us : List Tree) → IsPermutation ts us → der (Tree.wrapped (ImplicitList tag) (Tree.list ListKind.set (trees ts))) ≡ der (Tree.wrapped (ImplicitList tag) (Tree.list ListKind.set (trees us)))
+implicit_list_set_order tag ts us moved =
     let same = in_ascending_order-permuted (map der ts) (map der us) (IsPermutation-map der ts us moved) in
-    retagged_list tag ListKind.set ts ∙ ap (λ l. tlv tag (concat l)) same ∙ sym (retagged_list tag ListKind.set us)
+    implicit_list tag ListKind.set ts ∙ ap (λ l. tlv tag (concat l)) same ∙ sym (implicit_list tag ListKind.set us)

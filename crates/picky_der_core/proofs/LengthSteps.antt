@@ -78,17 +78,17 @@ refused_count a b {first} {e} h (IsNoLongCount.too_many more error) =
     refused_after a b (first ∷ []) e h (λ rest. length_of-too_many TruncatedData first rest more ∙ ap (λ x. Err (x, rest)) (sym error))
 
 -- a first byte and so many length bytes were consumed, of this number
-pub record TakesLength (old new : Option (List ℕ)) (first count number : ℕ) : Type 0 where
+pub record ConsumesLength (old new : Option (List ℕ)) (first count number : ℕ) : Type 0 where
   pub digits : List ℕ
   pub consumed : Consumes old new (first ∷ digits)
   pub size : length digits ≡ count
   pub bytes : AreBytes digits
   pub is : number ≡ number_from_digits 256 digits
 
-pub length_first : {a b : Option (List ℕ)} {first : ℕ} → Consumes a b (first ∷ []) → TakesLength a b first 0 0
+pub length_first : {a b : Option (List ℕ)} {first : ℕ} → Consumes a b (first ∷ []) → ConsumesLength a b first 0 0
 length_first h = record { digits = []; consumed = h; size = refl; bytes = tt; is = refl }
 
-pub length_more : {a b c : Option (List ℕ)} {first count number d : ℕ} → TakesLength a b first count number → Consumes b c (d ∷ []) → d < 256 → TakesLength a c first (count + 1) (number * 256 + d)
+pub length_more : {a b c : Option (List ℕ)} {first count number d : ℕ} → ConsumesLength a b first count number → Consumes b c (d ∷ []) → d < 256 → ConsumesLength a c first (count + 1) (number * 256 + d)
 length_more {a} {b} {c} {first} {count} {number} {d} t h below = record {
   digits = t.digits ++ (d ∷ []);
   consumed = Consumes-trans a b c (first ∷ t.digits) (d ∷ []) t.consumed h;
@@ -97,7 +97,7 @@ length_more {a} {b} {c} {first} {count} {number} {d} t h below = record {
   is = ap (λ n. n * 256 + d) t.is ∙ sym (number_push 256 t.digits d);
 }
 
-module _ {a b : Option (List ℕ)} {first k count number : ℕ} (t : TakesLength a b first k number) (long : IsLongCount first count) where
+module _ {a b : Option (List ℕ)} {first k count number : ℕ} (t : ConsumesLength a b first k number) (long : IsLongCount first count) where
   -- where a byte more is to come, the number has seven bytes at most
   pub length_below : k < count → number < 2 ^ 56
   length_below fewer =

@@ -7,3 +7,4 @@ pub mod ShapeExamples
 pub mod LengthSteps
 pub mod DigitLaws
 pub mod LawProofs
+pub mod HeldLaws

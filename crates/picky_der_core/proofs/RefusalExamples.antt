@@ -25,8 +25,8 @@ reserved = refl
 cut_length : length_of TruncatedData (0x82 ∷ 0x01 ∷ []) ≡ Err (TruncatedData, [])
 cut_length = refl
 
-cut_behind_zero : length_of TruncatedData (0x82 ∷ 0x00 ∷ []) ≡ Err (TruncatedData, [])
-cut_behind_zero = refl
+cut_after_zero : length_of TruncatedData (0x82 ∷ 0x00 ∷ []) ≡ Err (TruncatedData, [])
+cut_after_zero = refl
 
 no_length : length_of TruncatedData [] ≡ Err (TruncatedData, [])
 no_length = refl
@@ -102,17 +102,17 @@ cut_content = refl
 
 -- ---- what is left after the consumed bytes
 
-behind_foreign_tag : plain_refusal 0x02 (unsigned_error 255) false 5 (0x01 ∷ 0x01 ∷ 0xFF ∷ 0x05 ∷ 0x00 ∷ []) ≡ Some (InvalidData, 0x01 ∷ 0xFF ∷ 0x05 ∷ 0x00 ∷ [])
-behind_foreign_tag = refl
+after_foreign_tag : plain_refusal 0x02 (unsigned_error 255) false 5 (0x01 ∷ 0x01 ∷ 0xFF ∷ 0x05 ∷ 0x00 ∷ []) ≡ Some (InvalidData, 0x01 ∷ 0xFF ∷ 0x05 ∷ 0x00 ∷ [])
+after_foreign_tag = refl
 
-behind_long_length : plain_refusal 0x02 (unsigned_error 255) false 4 (0x02 ∷ 0x81 ∷ 0x01 ∷ 0x07 ∷ []) ≡ Some (InvalidData, 0x07 ∷ [])
-behind_long_length = refl
+after_long_length : plain_refusal 0x02 (unsigned_error 255) false 4 (0x02 ∷ 0x81 ∷ 0x01 ∷ 0x07 ∷ []) ≡ Some (InvalidData, 0x07 ∷ [])
+after_long_length = refl
 
-behind_content : plain_refusal 0x02 (unsigned_error 255) false 5 (0x02 ∷ 0x01 ∷ 0x80 ∷ 0x05 ∷ 0x00 ∷ []) ≡ Some (UnsupportedValue, 0x05 ∷ 0x00 ∷ [])
-behind_content = refl
+after_content : plain_refusal 0x02 (unsigned_error 255) false 5 (0x02 ∷ 0x01 ∷ 0x80 ∷ 0x05 ∷ 0x00 ∷ []) ≡ Some (UnsupportedValue, 0x05 ∷ 0x00 ∷ [])
+after_content = refl
 
-behind_length_past_end : plain_refusal 0x04 bytes_error true 4 (0x04 ∷ 0x03 ∷ 0xAA ∷ 0xBB ∷ []) ≡ Some (InvalidData, 0xAA ∷ 0xBB ∷ [])
-behind_length_past_end = refl
+after_length_past_end : plain_refusal 0x04 bytes_error true 4 (0x04 ∷ 0x03 ∷ 0xAA ∷ 0xBB ∷ []) ≡ Some (InvalidData, 0xAA ∷ 0xBB ∷ [])
+after_length_past_end = refl
 
 -- ---- directly under an implicit tag, headers and whole elements
 

@@ -20,7 +20,7 @@ unfolding tags_below
 raw_or_long_tag = ((tt, (tt, tt)), (refl, (refl, tt)))
 
 two_numbers : IsSound (Shape.choice (shapes (Shape.primitive (PrimitiveShape.unsigned 255) ∷ Shape.primitive (PrimitiveShape.unsigned 65535) ∷ []))) → ⊥
-two_numbers sound = let untold = sound.1.0 in cc
+two_numbers sound = let indistinct = sound.1.0 in cc
 
 -- ---- a struct of a number, bytes, and a pair
 
@@ -55,15 +55,15 @@ unflagged_is_of = (refl, ((refl, tt), inr ((refl, tt), tt)))
 
 -- ---- members that may be missing and aren't distinguished: from the next one, and from the one after another that may be missing
 
-untold_member : IsSound (Shape.fields ListKind.sequence (Layout.maybe (Shape.primitive (PrimitiveShape.unsigned 255)) (Layout.required (Shape.primitive (PrimitiveShape.unsigned 65535)) Layout.empty))) → ⊥
-untold_member sound = let untold = sound.1.0 in cc
+indistinct_member : IsSound (Shape.fields ListKind.sequence (Layout.maybe (Shape.primitive (PrimitiveShape.unsigned 255)) (Layout.required (Shape.primitive (PrimitiveShape.unsigned 65535)) Layout.empty))) → ⊥
+indistinct_member sound = let indistinct = sound.1.0 in cc
 
-untold_behind : IsSound (Shape.fields ListKind.sequence (Layout.maybe (Shape.primitive PrimitiveShape.null) (Layout.maybe (Shape.primitive PrimitiveShape.boolean) (Layout.required (Shape.primitive PrimitiveShape.null) Layout.empty)))) → ⊥
-untold_behind sound = let untold = sound.1.0 in cc
+indistinct_after : IsSound (Shape.fields ListKind.sequence (Layout.maybe (Shape.primitive PrimitiveShape.null) (Layout.maybe (Shape.primitive PrimitiveShape.boolean) (Layout.required (Shape.primitive PrimitiveShape.null) Layout.empty)))) → ⊥
+indistinct_after sound = let indistinct = sound.1.0 in cc
 
 -- after a member that is always there it may come again
-told_behind_required : IsSound (Shape.fields ListKind.sequence (Layout.maybe (Shape.primitive PrimitiveShape.null) (Layout.required (Shape.primitive PrimitiveShape.boolean) (Layout.maybe (Shape.primitive PrimitiveShape.null) Layout.empty))))
-told_behind_required = ((tt, (tt, (tt, tt))), (refl, (refl, tt)))
+distinct_after_required : IsSound (Shape.fields ListKind.sequence (Layout.maybe (Shape.primitive PrimitiveShape.null) (Layout.required (Shape.primitive PrimitiveShape.boolean) (Layout.maybe (Shape.primitive PrimitiveShape.null) Layout.empty))))
+distinct_after_required = ((tt, (tt, (tt, tt))), (refl, (refl, tt)))
 
 -- ---- further elements, of which the first isn't a null: so a null that may be missing before them is distinguished
 
@@ -83,9 +83,9 @@ twice_is_not (e, inl p) = let excluded = p.1.0.1 in cc
 twice_is_not (e, inr p) = absurd p.0
 
 -- without that it isn't distinguished
-untold_others : IsSound (Shape.fields ListKind.sequence (Layout.maybe (Shape.primitive PrimitiveShape.null) (Layout.others []))) → ⊥
+indistinct_others : IsSound (Shape.fields ListKind.sequence (Layout.maybe (Shape.primitive PrimitiveShape.null) (Layout.others []))) → ⊥
 unfolding tags_below
-untold_others sound = let untold = sound.1.0 in cc
+indistinct_others sound = let indistinct = sound.1.0 in cc
 
 -- ---- alternatives that aren't distinguished: null, and an element
 

@@ -9,10 +9,10 @@ use Rattle.picky_der_core.specs.WrapperLaws.{after_front}
 use Rattle.picky_der_core.specs.Tree.{ListKind, Tree, Trees, is_absent}
 use Rattle.picky_der_core.specs.Encoding.{plain_encoding, wrapper_encoding, tree_bytes, encodings, der, list_content}
 use Rattle.picky_der_core.specs.Readable.{IsReadable, AreReadable, IsHeadedIfChoice}
-use Rattle.picky_der_core.specs.Shape.{Shape, Shapes, Layout, IsOf, IsOneOf, AreMembersOf, firsts, firsts_of, next_firsts, are_apart, IsPrimitiveTree, IsRaw, IsList, IsWrapped, IsOptional, IsChoice, EachIs, FirstAndRest, FirstOrNone, IsEmpty, AreOthers, IsSound, AreSound, AreTold, AreMembersSound, AreMembersTold}
+use Rattle.picky_der_core.specs.Shape.{Shape, Shapes, Layout, IsOf, IsOneOf, AreMembersOf, firsts, firsts_of, next_firsts, are_disjoint, IsPrimitiveTree, IsRaw, IsList, IsWrapped, IsOptional, IsChoice, EachIs, FirstAndRest, FirstOrNone, IsEmpty, AreOthers, IsSound, AreSound, AreDistinct, AreMembersSound, AreMembersDistinct}
 use Rattle.picky_der_core.specs.ElementLaws.{tlv-same}
 use Rattle.picky_der_core.specs.EncodingLaws.{is_absent-readable, list_content-in_order, never_absent, same_encoding, length-der}
-use Rattle.picky_der_core.specs.FirstLaws.{begins_in, begins_in_one, begins_next, apart_differ, is_of-optional, others_each}
+use Rattle.picky_der_core.specs.FirstLaws.{begins_in, begins_in_one, begins_next, disjoint_differ, is_of-optional, others_each}
 
 -- a readable tree with P is known by what is written of it
 abbrev pub IsKnown : Bool → (Tree → Type 0) → Type 0
@@ -136,30 +136,30 @@ first_and_rest_known P Q known others _ _ p q r s e = absurd p
 
 -- ---- alternatives
 
-one_known : (s : Shape) (ss : Shapes) → are_apart (firsts s) (firsts_of ss) ≡ true → IsKnown true (IsOf s) → IsKnown true (IsOneOf ss) → IsKnown true (λ t. IsOf s t ⊎ IsOneOf ss t)
+one_known : (s : Shape) (ss : Shapes) → are_disjoint (firsts s) (firsts_of ss) ≡ true → IsKnown true (IsOf s) → IsKnown true (IsOneOf ss) → IsKnown true (λ t. IsOf s t ⊎ IsOneOf ss t)
 unfolding der
 one_known s ss a known others t u (inl p) (inl q) r v m n e = known t u p q r v tt tt e
 one_known s ss a known others t u (inr p) (inr q) r v m n e = others t u p q r v tt tt e
-one_known s ss a known others t u (inl p) (inr q) r v m n e = absurd (apart_differ (firsts s) (firsts_of ss) t u a (begins_in s t p r) (begins_in_one ss u q v) e)
-one_known s ss a known others t u (inr p) (inl q) r v m n e = absurd (apart_differ (firsts s) (firsts_of ss) u t a (begins_in s u q v) (begins_in_one ss t p r) (sym e))
+one_known s ss a known others t u (inl p) (inr q) r v m n e = absurd (disjoint_differ (firsts s) (firsts_of ss) t u a (begins_in s t p r) (begins_in_one ss u q v) e)
+one_known s ss a known others t u (inr p) (inl q) r v m n e = absurd (disjoint_differ (firsts s) (firsts_of ss) u t a (begins_in s u q v) (begins_in_one ss t p r) (sym e))
 
 -- ---- members that may be missing
 
 -- a member, and what comes instead if it is missing, aren't written alike
-absent_told : (s : Shape) (l : Layout) → are_apart (firsts s) (next_firsts l) ≡ true → (ts us : Trees) → FirstAndRest (IsOf s) (AreMembersOf l) ts → AreMembersOf l us → AreReadable ts → AreReadable us
+absent_distinct : (s : Shape) (l : Layout) → are_disjoint (firsts s) (next_firsts l) ≡ true → (ts us : Trees) → FirstAndRest (IsOf s) (AreMembersOf l) ts → AreMembersOf l us → AreReadable ts → AreReadable us
     → concat (encodings ts) ≡ concat (encodings us) → ⊥
 unfolding tree_bytes der
-absent_told s l apart (Trees.more t ts) Trees.none p q r v e = not_empty t (concat (encodings ts)) r.0 e
-absent_told s l apart (Trees.more t ts) (Trees.more u us) p q r v e =
+absent_distinct s l disjoint (Trees.more t ts) Trees.none p q r v e = not_empty t (concat (encodings ts)) r.0 e
+absent_distinct s l disjoint (Trees.more t ts) (Trees.more u us) p q r v e =
     let same = (same_encoding t u (concat (encodings ts)) (concat (encodings us)) r.0 v.0 e).0 in
-    apart_differ (firsts s) (next_firsts l) t u apart (begins_in s t p.0 r.0) (begins_next l u us q v.0) same
-absent_told s l apart Trees.none _ p q r v e = absurd p
+    disjoint_differ (firsts s) (next_firsts l) t u disjoint (begins_in s t p.0 r.0) (begins_next l u us q v.0) same
+absent_distinct s l disjoint Trees.none _ p q r v e = absurd p
 
-first_or_none_known : (s : Shape) (l : Layout) → are_apart (firsts s) (next_firsts l) ≡ true → IsKnown true (IsOf s) → AreKnown (AreMembersOf l) → AreKnown (FirstOrNone (IsOf s) (AreMembersOf l))
-first_or_none_known s l apart known others ts us (inl p) (inl q) r v e = first_and_rest_known (IsOf s) (AreMembersOf l) known others ts us p q r v e
-first_or_none_known s l apart known others ts us (inr p) (inr q) r v e = others ts us p q r v e
-first_or_none_known s l apart known others ts us (inl p) (inr q) r v e = absurd (absent_told s l apart ts us p q r v e)
-first_or_none_known s l apart known others ts us (inr p) (inl q) r v e = absurd (absent_told s l apart us ts q p v r (sym e))
+first_or_none_known : (s : Shape) (l : Layout) → are_disjoint (firsts s) (next_firsts l) ≡ true → IsKnown true (IsOf s) → AreKnown (AreMembersOf l) → AreKnown (FirstOrNone (IsOf s) (AreMembersOf l))
+first_or_none_known s l disjoint known others ts us (inl p) (inl q) r v e = first_and_rest_known (IsOf s) (AreMembersOf l) known others ts us p q r v e
+first_or_none_known s l disjoint known others ts us (inr p) (inr q) r v e = others ts us p q r v e
+first_or_none_known s l disjoint known others ts us (inl p) (inr q) r v e = absurd (absent_distinct s l disjoint ts us p q r v e)
+first_or_none_known s l disjoint known others ts us (inr p) (inl q) r v e = absurd (absent_distinct s l disjoint us ts q p v r (sym e))
 
 mutual
   pub known : (s : Shape) → IsSound s → (header : Bool) → IsKnown header (IsOf s)
@@ -171,15 +171,15 @@ mutual
   known Shape.raw = λ sound header. raw_known header
   known (Shape.choice ss) = λ sound header. choice_known _ (alternatives_known ss sound.0 sound.1) header
 
-  members_known : (l : Layout) → AreMembersSound l → AreMembersTold l → AreKnown (AreMembersOf l)
-  members_known Layout.empty = λ sound apart. empty_known
-  members_known (Layout.required s l) = λ sound apart. first_and_rest_known _ _ (known s sound.0 true) (members_known l sound.1 apart)
-  members_known (Layout.maybe s l) = λ sound apart. first_or_none_known s l apart.0 (known s sound.0 true) (members_known l sound.1 apart.1)
-  members_known (Layout.others excluded) = λ sound apart. others_known excluded
+  members_known : (l : Layout) → AreMembersSound l → AreMembersDistinct l → AreKnown (AreMembersOf l)
+  members_known Layout.empty = λ sound disjoint. empty_known
+  members_known (Layout.required s l) = λ sound disjoint. first_and_rest_known _ _ (known s sound.0 true) (members_known l sound.1 disjoint)
+  members_known (Layout.maybe s l) = λ sound disjoint. first_or_none_known s l disjoint.0 (known s sound.0 true) (members_known l sound.1 disjoint.1)
+  members_known (Layout.others excluded) = λ sound disjoint. others_known excluded
 
-  alternatives_known : (ss : Shapes) → AreSound ss → AreTold ss → IsKnown true (IsOneOf ss)
-  alternatives_known Shapes.none = λ sound apart t u p. absurd p
-  alternatives_known (Shapes.more s ss) = λ sound apart. one_known s ss apart.0 (known s sound.0 true) (alternatives_known ss sound.1 apart.1)
+  alternatives_known : (ss : Shapes) → AreSound ss → AreDistinct ss → IsKnown true (IsOneOf ss)
+  alternatives_known Shapes.none = λ sound disjoint t u p. absurd p
+  alternatives_known (Shapes.more s ss) = λ sound disjoint. one_known s ss disjoint.0 (known s sound.0 true) (alternatives_known ss sound.1 disjoint.1)
 
 -- two trees at the front of one list are the same tree, and leave the same rest
 pub same_tree : (s : Shape) → IsSound s → (t u : Tree) → IsOf s t → IsOf s u → IsReadable t → IsReadable u → (a b : List ℕ) → der t ++ a ≡ der u ++ b → (t ≡ u) × (a ≡ b)

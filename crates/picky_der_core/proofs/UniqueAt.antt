@@ -4,7 +4,7 @@ use Rattle.picky_der_core.specs.Tree.{Tree, is_plain}
 use Rattle.picky_der_core.specs.Encoding.{der, implicit_content}
 use Rattle.picky_der_core.specs.Readable.{IsReadable}
 use Rattle.picky_der_core.specs.Shape.{Shape, IsOf, IsSound}
-use Rattle.picky_der_core.specs.Reading.{Place, written_at, FillsTag, MayStand}
+use Rattle.picky_der_core.specs.Reading.{Place, written_at, FillsTag, MayBeAt}
 use Rattle.picky_der_core.specs.ElementLaws.{same_front}
 use Rattle.picky_der_core.specs.EncodingLaws.{same_encoding, implicit_content-other}
 use Rattle.picky_der_core.specs.ShapeLaws.{is_plain_shape, plain_by_shape}
@@ -21,7 +21,7 @@ same_implicit_content false ahead t u a b p q r v f g e =
     h ∙ (same_encoding t u a b r v l).0 ∙ sym k
 
 pub same_tree_at : (place : Place) (s : Shape) → IsSound s → (t u : Tree) → IsOf s t → IsOf s u → IsReadable t → IsReadable u
-    → MayStand place t → MayStand place u → (a b : List ℕ) → written_at place t ++ a ≡ written_at place u ++ b → t ≡ u
+    → MayBeAt place t → MayBeAt place u → (a b : List ℕ) → written_at place t ++ a ≡ written_at place u ++ b → t ≡ u
 unfolding implicit_content
 same_tree_at Place.whole s sound t u p q r v f g a b e = (same_tree s sound t u p q r v a b e).0
 same_tree_at (Place.under_implicit ahead) s sound t u p q r v f g a b e =

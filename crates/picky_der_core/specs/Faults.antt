@@ -29,8 +29,8 @@ abbrev pub count_of : {T : Type 0} → Faults T → ℕ
 count_of faults = length (faults_in faults)
 
 -- the bytes of a reader, as far as they are known, at each of its I/O errors
-abbrev pub faults_told : {T : Type 0} → (T → Option (List ℕ)) → List (FaultOf T) → List Fault
-faults_told bytes faults = map (λ f. record { kind = f.kind; left = bytes f.device }) faults
+abbrev pub faults_reported : {T : Type 0} → (T → Option (List ℕ)) → List (FaultOf T) → List Fault
+faults_reported bytes faults = map (λ f. record { kind = f.kind; left = bytes f.device }) faults
 
 -- ---- what contracts see of a watched reader or writer
 

@@ -12,7 +12,7 @@ use Rattle.picky_der_core.specs.WrapperLaws.{wrapper_number-small}
 use Rattle.picky_der_core.specs.Tree.{ListKind, Tree, Trees}
 use Rattle.picky_der_core.specs.Encoding.{plain_encoding, tree_bytes, der, list_tag}
 use Rattle.picky_der_core.specs.Readable.{IsReadable}
-use Rattle.picky_der_core.specs.Shape.{Shape, Shapes, Layout, IsOf, IsOneOf, AreMembersOf, FirstOrNone, EachIs, firsts, firsts_of, next_firsts, contains, are_apart, tags_below, tag_with_number, IsPrimitiveTree, IsRaw, begins_outside, IsRawOutside, AreOthers, IsList, IsOptional, IsWrapped, IsChoice}
+use Rattle.picky_der_core.specs.Shape.{Shape, Shapes, Layout, IsOf, IsOneOf, AreMembersOf, FirstOrNone, EachIs, firsts, firsts_of, next_firsts, contains, are_disjoint, tags_below, tag_with_number, IsPrimitiveTree, IsRaw, begins_outside, IsRawOutside, AreOthers, IsList, IsOptional, IsWrapped, IsChoice}
 use Rattle.picky_der_core.specs.EncodingLaws.{is_absent-readable, der-wrapped_present}
 
 -- its encoding begins with one of these bytes
@@ -71,17 +71,17 @@ not_both : (b : Bool) → not b ≡ true → b ≡ true → ⊥
 not_both true h k = cc
 not_both false h k = cc
 
--- no byte is in both of two lists that are apart
-pub apart_contains : (x : ℕ) (xs ys : List ℕ) → are_apart xs ys ≡ true → contains xs x ≡ true → contains ys x ≡ true → ⊥
-apart_contains x [] ys a h k = cc
-apart_contains x (y ∷ xs) ys a h k =
-    let parts = and_parts (not (contains ys y)) (are_apart xs ys) a in
-    by_first (x == y) refl h (λ later. apart_contains x xs ys parts.1 later k)
+-- no byte is in both of two disjoint lists
+pub disjoint_contains : (x : ℕ) (xs ys : List ℕ) → are_disjoint xs ys ≡ true → contains xs x ≡ true → contains ys x ≡ true → ⊥
+disjoint_contains x [] ys a h k = cc
+disjoint_contains x (y ∷ xs) ys a h k =
+    let parts = and_parts (not (contains ys y)) (are_disjoint xs ys) a in
+    by_first (x == y) refl h (λ later. disjoint_contains x xs ys parts.1 later k)
   where
     by_first : (b : Bool) → (x == y) ≡ b → (b || contains xs x) ≡ true → (contains xs x ≡ true → ⊥) → ⊥
     by_first true e h next =
         let same : x ≡ y = eqb-true x y e in
-        let fresh = and_parts (not (contains ys y)) (are_apart xs ys) a in
+        let fresh = and_parts (not (contains ys y)) (are_disjoint xs ys) a in
         not_both (contains ys y) fresh.0 (subst (λ z. contains ys z ≡ true) same k)
     by_first false e h next = next h
 
@@ -102,12 +102,12 @@ contains-tags_below x (suc n) l h = by_last (x == n) refl (λ k. contains-tags_b
         let less : x < n = omega (arith, false-eqb x n (sym e)) in
         contains-append_right x (tag_with_number (number_of n) n) (tags_below n) (next less)
 
--- trees that begin with bytes of two lists apart aren't written alike
-pub apart_differ : (fs gs : List ℕ) (t u : Tree) → are_apart fs gs ≡ true → BeginsIn fs t → BeginsIn gs u → der t ≡ der u → ⊥
-apart_differ fs gs t u a b c e =
+-- trees that begin with bytes of two disjoint lists aren't written alike
+pub disjoint_differ : (fs gs : List ℕ) (t u : Tree) → are_disjoint fs gs ≡ true → BeginsIn fs t → BeginsIn gs u → der t ≡ der u → ⊥
+disjoint_differ fs gs t u a b c e =
     let same : b.first ∷ b.others ≡ c.first ∷ c.others = sym b.is ∙ e ∙ c.is in
     let first : b.first ≡ c.first = cc in
-    apart_contains c.first fs gs a (subst (λ x. contains fs x ≡ true) first b.listed) c.listed
+    disjoint_contains c.first fs gs a (subst (λ x. contains fs x ≡ true) first b.listed) c.listed
 
 -- ---- each kind of shape
 

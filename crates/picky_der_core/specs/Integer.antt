@@ -40,9 +40,9 @@ abbrev pub content_bits : List ℕ → ℕ
 content_bits bs = number_from_digits 256 (turned_if (is_negative bs) bs)
 
 -- its bytes without one in front that is only the sign
-abbrev pub behind_sign : List ℕ → List ℕ
-behind_sign [] = []
-behind_sign (b ∷ bs) = if b == 0x00 || b == 0xFF then bs else b ∷ bs
+abbrev pub after_sign : List ℕ → List ℕ
+after_sign [] = []
+after_sign (b ∷ bs) = if b == 0x00 || b == 0xFF then bs else b ∷ bs
 
 -- the number of a content
 abbrev pub integer_value : List ℕ → ℤ

@@ -31,9 +31,9 @@ AreBytes-turned (b ∷ bs) = (omega arith, AreBytes-turned bs)
 -- ---- contents of numbers that aren't negative
 
 -- a byte from 80 on has a 00 in front
-positive_behind : (c : ℕ) (bs : List ℕ) → 0x80 ≤ c → AreBytes (c ∷ bs) → unsigned_content (number_from_digits 256 (0 ∷ c ∷ bs)) ≡ 0 ∷ c ∷ bs
+positive_after : (c : ℕ) (bs : List ℕ) → 0x80 ≤ c → AreBytes (c ∷ bs) → unsigned_content (number_from_digits 256 (0 ∷ c ∷ bs)) ≡ 0 ∷ c ∷ bs
 unfolding unsigned_content
-positive_behind c bs high p = ap as_positive (big_endian-number c bs (omega arith) p) ∙ rw (le-ltb c 0x80 high) refl
+positive_after c bs high p = ap as_positive (big_endian-number c bs (omega arith) p) ∙ rw (le-ltb c 0x80 high) refl
 
 positive_alone : (b : ℕ) (bs : List ℕ) → 0 < b → b < 0x80 → AreBytes (b ∷ bs) → unsigned_content (number_from_digits 256 (b ∷ bs)) ≡ b ∷ bs
 unfolding unsigned_content
@@ -47,7 +47,7 @@ positive_content : (b : ℕ) (bs : List ℕ) → b < 0x80 → AreBytes (b ∷ bs
 positive_content zero [] low p e = content_zero
 positive_content zero (c ∷ bs) low p e = elim (cases_lt c 0x80) [
   | inl small ↦ let q : true ≡ false = sym e ∙ rw (lt-ltb c 0x80 small) refl in cc
-  | inr high ↦ positive_behind c bs high p.1
+  | inr high ↦ positive_after c bs high p.1
 ]
 positive_content (suc b) bs low p e = positive_alone (suc b) bs (omega arith) low p
 

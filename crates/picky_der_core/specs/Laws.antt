@@ -1,5 +1,5 @@
 -- The laws of canonical DER, each over the definitions alone.
-use Rattle.std.specs.Prelude.{◌≡◌, ℕ, ◌&&◌, ◌≤◌, ◌↔◌, List, ◌∷◌, ◌++◌, length, map, IsFalse}
+use Rattle.std.specs.Prelude.{◌≡◌, ℕ, ◌+◌, ◌*◌, ◌&&◌, ◌≤◌, ◌↔◌, List, ◌∷◌, ◌++◌, length, map, IsFalse}
 use Rattle.std.specs.List.{AllByRecursion, concat}
 use Rattle.std.specs.List.Sorted.{IsPermutation}
 use Rattle.picky_der_core.specs.OpenWrappers.{wrapped_content}
@@ -8,14 +8,15 @@ use Rattle.picky_der_core.specs.Tag.{number_of, IsTagNumber}
 use Rattle.picky_der_core.specs.Element.{length_octets, tlv, IsPrefix}
 use Rattle.picky_der_core.specs.Tree.{ListKind, Tree, trees, is_absent}
 use Rattle.picky_der_core.specs.Encoding.{der}
+use Rattle.picky_der_core.specs.Held.{held}
 use Rattle.picky_der_core.specs.Readable.{IsReadable}
 use Rattle.picky_der_core.specs.Shape.{Shape, IsOf, IsSound, IsFirst}
 use Rattle.picky_der_core.specs.Wrapper.{wrapper_tag, can_vanish, HasTagNumber}
-use Rattle.picky_der_core.specs.Reading.{Place, StandsAt}
+use Rattle.picky_der_core.specs.Reading.{Place, IsAtFront}
 
 -- a readable tree of the shape is at the front of the input, within the limit
-abbrev pub Stands : Shape → List ℕ → ℕ → Tree → Type 0
-Stands s input limit t = StandsAt Place.whole s input limit t
+abbrev pub IsFirstOf : Shape → List ℕ → ℕ → Tree → Type 0
+IsFirstOf s input limit t = IsAtFront Place.whole s input limit t
 
 -- a length that begins another, followed by any bytes, is that length
 abbrev pub LengthBothWays : Type 0
@@ -39,14 +40,14 @@ UniqueReadability =
 -- one tree alone is at the front of an input
 abbrev pub OneValue : Type 0
 OneValue =
-    (s : Shape) → IsSound s → (input : List ℕ) (limit : ℕ) (t u : Tree) → Stands s input limit t → Stands s input limit u → (t ≡ u) × (der t ≡ der u)
+    (s : Shape) → IsSound s → (input : List ℕ) (limit : ℕ) (t u : Tree) → IsFirstOf s input limit t → IsFirstOf s input limit u → (t ≡ u) × (der t ≡ der u)
 
 -- an encoding is read back as its tree alone, and what follows it is left
 abbrev pub RoundTrip : Type 0
 RoundTrip =
     (s : Shape) → IsSound s → (t : Tree) (rest : List ℕ) (limit : ℕ) → IsOf s t → IsReadable t → length (der t) ≤ limit
-    → Stands s (der t ++ rest) limit t
-    × ((u : Tree) → (stands : Stands s (der t ++ rest) limit u) → (u ≡ t) × (stands.front.rest ≡ rest))
+    → IsFirstOf s (der t ++ rest) limit t
+    × ((u : Tree) → (at_front : IsFirstOf s (der t ++ rest) limit u) → (u ≡ t) × (at_front.front.rest ≡ rest))
 
 -- lists of readable trees are equal exactly if their encodings, one after another, are
 abbrev pub SameBytes : Type 0
@@ -59,8 +60,12 @@ SameBytes =
 abbrev pub OneInside : Type 0
 OneInside =
     (s : Shape) → IsSound s → (rest : List ℕ) (ahead : ℕ) (t u : Tree)
-    → StandsAt (Place.under_implicit ahead) s rest ahead t → StandsAt (Place.under_implicit ahead) s rest ahead u → t ≡ u
+    → IsAtFront (Place.under_implicit ahead) s rest ahead t → IsAtFront (Place.under_implicit ahead) s rest ahead u → t ≡ u
 
 -- sets of the same members, each as often, in any order, have one encoding
 abbrev pub SetOrder : Type 0
 SetOrder = (ts us : List Tree) → IsPermutation ts us → der (Tree.list ListKind.set (trees ts)) ≡ der (Tree.list ListKind.set (trees us))
+
+-- a readable tree holds less than twice its encoding
+abbrev pub NoAmplification : Type 0
+NoAmplification = (t : Tree) → IsReadable t → held t + 1 ≤ 2 * length (der t)

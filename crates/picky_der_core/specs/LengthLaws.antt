@@ -47,8 +47,8 @@ length_of-counted lacking first k bs count =
     let long : nat_lt first 0x80 ≡ false = le-ltb first 0x80 (omega arith) in
     let some : (first == 0x80) ≡ false = ne_eqb first 0x80 (λ e. omega arith) in
     let few : nat_lt 0x88 first ≡ false = le-ltb 0x88 first (omega arith) in
-    let taken : first - 0x80 ≡ k = omega arith in
-    rw (long, some, few, taken) refl
+    let consumed : first - 0x80 ≡ k = omega arith in
+    rw (long, some, few, consumed) refl
 
 -- fewer are there
 pub length_of-cut : (lacking : Asn1DerError) (first k : ℕ) (bs : List ℕ) → IsLongCount first k → length bs < k → length_of lacking (first ∷ bs) ≡ Err (lacking, [])
@@ -119,11 +119,11 @@ length_of-length_octets lacking n rest h = elim (cases_lt n 0x80) [
 ]
 
 -- a front of bytes is bytes
-taken_bytes : (k : ℕ) (bs : List ℕ) → AreBytes bs → AreBytes (take k bs)
-taken_bytes zero [] h = tt
-taken_bytes (suc k) [] h = tt
-taken_bytes zero (b ∷ bs) h = tt
-taken_bytes (suc k) (b ∷ bs) h = (h.0, taken_bytes k bs h.1)
+consumed_bytes : (k : ℕ) (bs : List ℕ) → AreBytes bs → AreBytes (take k bs)
+consumed_bytes zero [] h = tt
+consumed_bytes (suc k) [] h = tt
+consumed_bytes zero (b ∷ bs) h = tt
+consumed_bytes (suc k) (b ∷ bs) h = (h.0, consumed_bytes k bs h.1)
 
 -- if none is read, none is there
 pub no_length_begins : (lacking : Asn1DerError) (bs : List ℕ) (e : Refusal) → length_of lacking bs ≡ Err e → (n : ℕ) → n < 2 ^ 64 → IsPrefix (length_octets n) bs → ⊥

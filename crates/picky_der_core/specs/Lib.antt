@@ -24,6 +24,7 @@ pub mod OpenWrapperLaws
 pub mod FirstLaws
 pub mod ShapeLaws
 pub mod ReadableLaws
+pub mod Held
 pub mod Laws
 pub mod Faults
 pub mod Reader

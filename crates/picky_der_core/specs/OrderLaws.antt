@@ -85,9 +85,9 @@ neither_less a b h k = by_order (slice_cmp nat_cmp a b) refl
     by_order Greater e = absurd (true≢false (sym (ap is_lt (nat_list_cmp_total.antisymm b a ∙ ap ordering_reverse e)) ∙ k))
 
 -- nothing is less than no bytes
-pub ascending_behind_nothing : (ys : List (List ℕ)) → IsAscending ys → IsAscending ([] ∷ ys)
-ascending_behind_nothing [] up = IsSortedBy-one is_less []
-ascending_behind_nothing (b ∷ ys) up = IsSortedBy-cons is_less [] b ys (not_less_nothing b) up
+pub ascending_after_nothing : (ys : List (List ℕ)) → IsAscending ys → IsAscending ([] ∷ ys)
+ascending_after_nothing [] up = IsSortedBy-one is_less []
+ascending_after_nothing (b ∷ ys) up = IsSortedBy-cons is_less [] b ys (not_less_nothing b) up
   where
     not_less_nothing : (c : List ℕ) → is_less c [] ≡ false
     not_less_nothing [] = refl
@@ -156,10 +156,10 @@ in_order_with-permutation a (b ∷ ys) = by_test (is_less b a) (in_order_with-pe
     by_test false moved = IsPermutation-refl (a ∷ b ∷ ys)
 
 -- after b, which a isn't less than
-in_order_with-behind : (a b : List ℕ) (ys : List (List ℕ)) → is_less a b ≡ false → IsAscending (b ∷ ys) → IsAscending (in_order_with a ys)
+in_order_with-after : (a b : List ℕ) (ys : List (List ℕ)) → is_less a b ≡ false → IsAscending (b ∷ ys) → IsAscending (in_order_with a ys)
     → IsAscending (b ∷ in_order_with a ys)
-in_order_with-behind a b [] h up on = IsSortedBy-cons is_less b a [] h on
-in_order_with-behind a b (c ∷ ys) h up on = by_test (is_less c a) on
+in_order_with-after a b [] h up on = IsSortedBy-cons is_less b a [] h on
+in_order_with-after a b (c ∷ ys) h up on = by_test (is_less c a) on
   where
     by_test : (t : Bool) → IsAscending (cond t (c ∷ in_order_with a ys) (a ∷ c ∷ ys)) → IsAscending (b ∷ cond t (c ∷ in_order_with a ys) (a ∷ c ∷ ys))
     by_test true next = IsSortedBy-cons is_less b c (in_order_with a ys) (IsSortedBy-first is_less b c ys up) next
@@ -170,7 +170,7 @@ in_order_with-ascending a [] up = IsSortedBy-one is_less a
 in_order_with-ascending a (b ∷ ys) up = by_test (is_less b a) refl (in_order_with-ascending a ys (IsSortedBy-tail is_less b ys up))
   where
     by_test : (t : Bool) → is_less b a ≡ t → IsAscending (in_order_with a ys) → IsAscending (cond t (b ∷ in_order_with a ys) (a ∷ b ∷ ys))
-    by_test true e on = in_order_with-behind a b ys (less_one_way b a e) up on
+    by_test true e on = in_order_with-after a b ys (less_one_way b a e) up on
     by_test false e on = IsSortedBy-cons is_less a b ys e up
 
 pub in_ascending_order-permutation : (xs : List (List ℕ)) → IsPermutation xs (in_ascending_order xs)
@@ -226,18 +226,18 @@ in_order_with-nothing [] = refl
 in_order_with-nothing ([] ∷ xs) = refl
 in_order_with-nothing ((b ∷ a) ∷ xs) = refl
 
-in_order_with-behind_empty : (b : ℕ) (a : List ℕ) (xs ys : List (List ℕ))
+in_order_with-after_empty : (b : ℕ) (a : List ℕ) (xs ys : List (List ℕ))
     → in_order_with (b ∷ a) (empty_ones xs ++ ys) ≡ empty_ones xs ++ in_order_with (b ∷ a) ys
-in_order_with-behind_empty b a [] ys = refl
-in_order_with-behind_empty b a ([] ∷ xs) ys = ap (λ l. [] ∷ l) (in_order_with-behind_empty b a xs ys)
-in_order_with-behind_empty b a ((d ∷ c) ∷ xs) ys = in_order_with-behind_empty b a xs ys
+in_order_with-after_empty b a [] ys = refl
+in_order_with-after_empty b a ([] ∷ xs) ys = ap (λ l. [] ∷ l) (in_order_with-after_empty b a xs ys)
+in_order_with-after_empty b a ((d ∷ c) ∷ xs) ys = in_order_with-after_empty b a xs ys
 
 -- they come first
 empty_first : (xs : List (List ℕ)) → in_ascending_order xs ≡ empty_ones xs ++ in_ascending_order (without_empty xs)
 unfolding in_ascending_order
 empty_first [] = refl
 empty_first ([] ∷ xs) = in_order_with-nothing (in_ascending_order xs) ∙ ap (λ l. [] ∷ l) (empty_first xs)
-empty_first ((b ∷ a) ∷ xs) = ap (in_order_with (b ∷ a)) (empty_first xs) ∙ in_order_with-behind_empty b a xs (in_ascending_order (without_empty xs))
+empty_first ((b ∷ a) ∷ xs) = ap (in_order_with (b ∷ a)) (empty_first xs) ∙ in_order_with-after_empty b a xs (in_ascending_order (without_empty xs))
 
 concat-empty : (xs ys : List (List ℕ)) → concat (empty_ones xs ++ ys) ≡ concat ys
 concat-empty [] ys = refl

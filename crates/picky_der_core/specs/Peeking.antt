@@ -7,7 +7,7 @@ pub record PeekableState (R : Type 0) : Type 0 where
   -- the next byte, where it was looked at
   pub peeked : Option ℕ
   -- whether it was read from the reader; if not, the reader still shows it
-  pub drawn : Bool
+  pub fetched : Bool
   -- how many bytes were returned
   pub pos : ℕ
 
@@ -15,24 +15,24 @@ abbrev pub peeking_code : {R : Type 0} → Coded R → Coded (PeekableState R)
 peeking_code {R} reader =
     code_by (R × (Option ℕ × (Bool × ℕ)))
     (coded× reader (coded× (coded_option coded_ℕ) (coded× coded_bool coded_ℕ)))
-    (λ p. (p.reader, (p.peeked, (p.drawn, p.pos))))
-    (λ p. record { reader = p.0; peeked = p.1.0; drawn = p.1.1.0; pos = p.1.1.1 })
+    (λ p. (p.reader, (p.peeked, (p.fetched, p.pos))))
+    (λ p. record { reader = p.0; peeked = p.1.0; fetched = p.1.1.0; pos = p.1.1.1 })
     (λ _. refl)
 
 -- the bytes left, with this byte in front
-abbrev pub in_front : Option ℕ → Option (List ℕ) → Option (List ℕ)
-in_front None left = left
-in_front (Some b) None = None
-in_front (Some b) (Some bs) = Some (b ∷ bs)
+abbrev pub prepend : Option ℕ → Option (List ℕ) → Option (List ℕ)
+prepend None left = left
+prepend (Some b) None = None
+prepend (Some b) (Some bs) = Some (b ∷ bs)
 
 -- the peeked byte, where it was read from the reader
-abbrev pub drawn_byte : Bool → Option ℕ → Option ℕ
-drawn_byte true peeked = peeked
-drawn_byte false peeked = None
+abbrev pub fetched_byte : Bool → Option ℕ → Option ℕ
+fetched_byte true peeked = peeked
+fetched_byte false peeked = None
 
 -- the bytes that are still to be returned, if the inner reader's are known
 abbrev pub left_in : {R : Type 0} → (R → Option (List ℕ)) → PeekableState R → Option (List ℕ)
-left_in remaining p = in_front (drawn_byte p.drawn p.peeked) (remaining p.reader)
+left_in remaining p = prepend (fetched_byte p.fetched p.peeked) (remaining p.reader)
 
 -- how many bytes are shown: none while the peeked byte was read from the reader
 abbrev pub shown_by : Bool → ℕ → ℕ
@@ -59,6 +59,6 @@ count_of_any None = 0
 count_of_any (Some b) = 1
 
 -- the position after n bytes more; it stays at the greatest one
-abbrev pub position_behind : ℕ → ℕ → ℕ
-position_behind pos zero = pos
-position_behind pos (suc n) = min (pos + suc n) (2 ^ 64 - 1)
+abbrev pub position_after : ℕ → ℕ → ℕ
+position_after pos zero = pos
+position_after pos (suc n) = min (pos + suc n) (2 ^ 64 - 1)

@@ -19,9 +19,9 @@ GivesNext old new r =
     MatchResult r (λ next. MatchOption next (Keeps old new × IsAtEnd new) (λ b. Consumes old new (b ∷ []))) (λ _. Keeps old new)
 
 -- the first n bytes were consumed
-abbrev pub TakesFirst : Option (List ℕ) → Option (List ℕ) → ℕ → Type 0
-TakesFirst None new n = new ≡ None
-TakesFirst (Some bs) new n = (n ≤ length bs) × (new ≡ Some (drop n bs))
+abbrev pub ConsumesFirst : Option (List ℕ) → Option (List ℕ) → ℕ → Type 0
+ConsumesFirst None new n = new ≡ None
+ConsumesFirst (Some bs) new n = (n ≤ length bs) × (new ≡ Some (drop n bs))
 
 -- the last I/O error is new and has this error, and these bytes are left after it
 abbrev pub FailsOnce : List Fault → List Fault → Option (List ℕ) → Error → Type 0
@@ -36,6 +36,6 @@ abbrev pub CountsFault : Option (List ℕ) → Option (List ℕ) → List Fault 
 CountsFault before left old new r = MatchResult r (λ _. new ≡ old) (IsFaultOrEnd before left old new)
 
 -- the reader failed exactly once, the error is what that I/O error becomes, and nothing was consumed after it; or it didn't fail
-pub data TellsFault (old new : List Fault) (left : Option (List ℕ)) (e : Asn1DerError) : Type 0 where
-  fault : (kind : ErrorKind) → new ≡ record { kind = kind; left = left } ∷ old → e ≡ error_of_kind kind → TellsFault old new left e
-  no_fault : new ≡ old → TellsFault old new left e
+pub data ReportsFault (old new : List Fault) (left : Option (List ℕ)) (e : Asn1DerError) : Type 0 where
+  fault : (kind : ErrorKind) → new ≡ record { kind = kind; left = left } ∷ old → e ≡ error_of_kind kind → ReportsFault old new left e
+  no_fault : new ≡ old → ReportsFault old new left e

@@ -24,21 +24,21 @@ pub record FillsTag (ahead : ℕ) (t : Tree) : Type 0 where
   pub no_choice : IsNoChoice t
   pub filled : IsTrue (is_plain t) → length (implicit_content t) ≡ ahead
 
-abbrev pub MayStand : Place → Tree → Type 0
-MayStand Place.whole t = ⊤
-MayStand (Place.under_implicit ahead) t = FillsTag ahead t
+abbrev pub MayBeAt : Place → Tree → Type 0
+MayBeAt Place.whole t = ⊤
+MayBeAt (Place.under_implicit ahead) t = FillsTag ahead t
 
 -- a readable tree of the shape is at the front of these bytes, and has at most `limit` of them
-pub record StandsAt (place : Place) (s : Shape) (bs : List ℕ) (limit : ℕ) (t : Tree) : Type 0 where
+pub record IsAtFront (place : Place) (s : Shape) (bs : List ℕ) (limit : ℕ) (t : Tree) : Type 0 where
   pub of_shape : IsOf s t
   pub readable : IsReadable t
-  pub may_stand : MayStand place t
+  pub may_be_there : MayBeAt place t
   pub within : length (written_at place t) ≤ limit
   pub front : IsPrefix (written_at place t) bs
 
 -- a value v of a type, known by what it means, is read from the input within the limit
 abbrev pub ReadsFrom : {V : Type 0} → (V → Tree) → Shape → List ℕ → ℕ → V → Type 0
-ReadsFrom meaning s input limit v = StandsAt Place.whole s input limit (meaning v)
+ReadsFrom meaning s input limit v = IsAtFront Place.whole s input limit (meaning v)
 
 -- more bytes after b could make a value of the type of it: of some value, of at most `limit` bytes, b is the beginning, or
 -- it is the beginning of b
@@ -46,6 +46,6 @@ pub record IsMendable {V : Type 0} (meaning : V → Tree) (s : Shape) (place : P
   pub value : V
   pub of_shape : IsOf s (meaning value)
   pub readable : IsReadable (meaning value)
-  pub may_stand : MayStand place (meaning value)
+  pub may_be_there : MayBeAt place (meaning value)
   pub within : length (written_at place (meaning value)) ≤ limit
   pub agrees : IsPrefix (written_at place (meaning value)) b ⊎ IsPrefix b (written_at place (meaning value))

@@ -56,12 +56,12 @@ abbrev pub within_end : Bool → ℕ → List ℕ → ReadOutcome ℕ → ReadOu
 within_end hard ahead rest (Err e) = Err e
 within_end hard ahead rest (Ok (n, left)) = if nat_lt (ahead - (length rest - length left)) n then Err (error_past_end hard, left) else Ok (n, left)
 
-abbrev pub length_behind : Bool → ℕ → List ℕ → List ℕ → ReadOutcome ℕ
-length_behind hard ahead rest behind = within_end hard ahead rest (length_of (missing_byte hard ahead rest) behind)
+abbrev pub length_after : Bool → ℕ → List ℕ → List ℕ → ReadOutcome ℕ
+length_after hard ahead rest after = within_end hard ahead rest (length_of (missing_byte hard ahead rest) after)
 
 abbrev pub header_with : ℕ → Bool → ℕ → List ℕ → ReadOutcome ℕ
 header_with tag hard ahead [] = Err (missing_byte hard ahead [], [])
-header_with tag hard ahead (b ∷ bs) = if b == tag then length_behind hard ahead (b ∷ bs) bs else Err (InvalidData, bs)
+header_with tag hard ahead (b ∷ bs) = if b == tag then length_after hard ahead (b ∷ bs) bs else Err (InvalidData, bs)
 
 -- the header of an element with this tag: the length of the content, and the bytes from there on
 abbrev pub header : ℕ → Bool → ℕ → List ℕ → ReadOutcome ℕ
@@ -74,7 +74,7 @@ wrapper_header w hard ahead rest = if has_tag_number w then header_with (wrapper
 -- the header of any element
 abbrev pub any_header : Bool → ℕ → List ℕ → ReadOutcome ℕ
 any_header hard ahead [] = Err (missing_byte hard ahead [], [])
-any_header hard ahead (b ∷ bs) = if is_tag_number (number_of b) then length_behind hard ahead (b ∷ bs) bs else Err (UnsupportedValue, bs)
+any_header hard ahead (b ∷ bs) = if is_tag_number (number_of b) then length_after hard ahead (b ∷ bs) bs else Err (UnsupportedValue, bs)
 
 abbrev pub refusal_of : ReadOutcome ℕ → Option Refusal
 refusal_of (Ok read) = None

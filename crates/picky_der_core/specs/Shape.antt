@@ -163,31 +163,31 @@ abbrev pub IsFirst : Shape → ℕ → Type 0
 IsFirst s b = IsTrue (contains (firsts s) b)
 
 -- no byte in common
-abbrev pub are_apart : List ℕ → List ℕ → Bool
-are_apart xs ys = list_all (λ x. not (contains ys x)) xs
+abbrev pub are_disjoint : List ℕ → List ℕ → Bool
+are_disjoint xs ys = list_all (λ x. not (contains ys x)) xs
 
 -- ---- shapes whose choices and missing members are distinguished
 
 -- each of the shapes is distinguished from those after it by the first byte
-abbrev pub AreTold : Shapes → Type 0
-AreTold Shapes.none = ⊤
-AreTold (Shapes.more s ss) = IsTrue (are_apart (firsts s) (firsts_of ss)) × AreTold ss
+abbrev pub AreDistinct : Shapes → Type 0
+AreDistinct Shapes.none = ⊤
+AreDistinct (Shapes.more s ss) = IsTrue (are_disjoint (firsts s) (firsts_of ss)) × AreDistinct ss
 
 -- each member that may be missing is distinguished by the first byte from what may come instead of it
-abbrev pub AreMembersTold : Layout → Type 0
-AreMembersTold Layout.empty = ⊤
-AreMembersTold (Layout.required s l) = AreMembersTold l
-AreMembersTold (Layout.maybe s l) = IsTrue (are_apart (firsts s) (next_firsts l)) × AreMembersTold l
-AreMembersTold (Layout.others excluded) = ⊤
+abbrev pub AreMembersDistinct : Layout → Type 0
+AreMembersDistinct Layout.empty = ⊤
+AreMembersDistinct (Layout.required s l) = AreMembersDistinct l
+AreMembersDistinct (Layout.maybe s l) = IsTrue (are_disjoint (firsts s) (next_firsts l)) × AreMembersDistinct l
+AreMembersDistinct (Layout.others excluded) = ⊤
 
 -- inside, the alternatives of every choice and the members of every layout are distinguished by their first byte
 abbrev mutual
   pub IsSound : Shape → Type 0
   IsSound (Shape.list_of kind s) = IsSound s
-  IsSound (Shape.fields kind l) = AreMembersSound l × AreMembersTold l
+  IsSound (Shape.fields kind l) = AreMembersSound l × AreMembersDistinct l
   IsSound (Shape.wrapped w s) = IsSound s
   IsSound (Shape.optional s) = IsSound s
-  IsSound (Shape.choice ss) = AreSound ss × AreTold ss
+  IsSound (Shape.choice ss) = AreSound ss × AreDistinct ss
   IsSound _ = ⊤
 
   pub AreSound : Shapes → Type 0

@@ -220,8 +220,8 @@ content_low most b bs h low p small =
 -- 00, and a byte from 80 after it
 content_high : (most b : ℕ) (bs : List ℕ) → 0x80 ≤ b → AreBytes (b ∷ bs) → IsSmall most (b ∷ bs) → IsContent most (0 ∷ b ∷ bs)
 content_high most b bs high p small =
-    let behind : as_positive (b ∷ bs) ≡ 0 ∷ b ∷ bs = rw (le-ltb b 0x80 high) refl in
-    (sym (unsigned_content-number b bs (omega arith) p ∙ behind), small.1, number_below most (b ∷ bs) p small)
+    let after : as_positive (b ∷ bs) ≡ 0 ∷ b ∷ bs = rw (le-ltb b 0x80 high) refl in
+    (sym (unsigned_content-number b bs (omega arith) p ∙ after), small.1, number_below most (b ∷ bs) p small)
 
 -- what is read is the content of a number
 pub content-unsigned_error : (most : ℕ) (bs : List ℕ) → AreBytes bs → unsigned_error most bs ≡ None → (bs ≡ unsigned_content (number_from_digits 256 bs)) × (number_from_digits 256 bs ≤ most) × (number_from_digits 256 bs < 2 ^ 128)

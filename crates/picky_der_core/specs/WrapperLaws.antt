@@ -3,7 +3,7 @@ use Rattle.std.proofs.Common.{◌≡◌, ℕ, Bool, true, false, ◌⊎◌, inl,
 use Rattle.std.specs.Prelude.{if◌then◌else◌}
 use Rattle.std.proofs.lemmas.Bool.Decides.{leb_tells, eqb_tells}
 use Rattle.picky_der_core.specs.declared.asn1.wrapper.Wrapper.{Wrapper}
-use Rattle.picky_der_core.specs.declared.asn1.wrapper.Wrapper.TheVariants.{OctetContainer, BitContainer, Explicit, Implicit, Application, Retagged}
+use Rattle.picky_der_core.specs.declared.asn1.wrapper.Wrapper.TheVariants.{OctetContainer, BitContainer, Explicit, Implicit, Application, ImplicitList}
 use Rattle.picky_der_core.specs.Tag.{number_of, is_tag_number, IsTagNumber, IsConstructedTag, is_constructed_tag}
 use Rattle.picky_der_core.specs.Wrapper.{wrapper_tag, wrapper_number, wrapper_front, counts_unused_bits, keeps_header, HasTagNumber, has_tag_number}
 
@@ -24,7 +24,7 @@ wrapper_tag_number BitContainer h = omega arith
 wrapper_tag_number (Explicit n) h = omega arith
 wrapper_tag_number (Implicit n) h = omega arith
 wrapper_tag_number (Application n) h = omega arith
-wrapper_tag_number (Retagged tag) h = h.0
+wrapper_tag_number (ImplicitList tag) h = h.0
 
 pub wrapper_number-small : (w : Wrapper) → HasTagNumber w → IsTagNumber (wrapper_number w)
 wrapper_number-small OctetContainer h = omega arith
@@ -32,7 +32,7 @@ wrapper_number-small BitContainer h = omega arith
 wrapper_number-small (Explicit n) h = h
 wrapper_number-small (Implicit n) h = h
 wrapper_number-small (Application n) h = h
-wrapper_number-small (Retagged tag) h = h.0
+wrapper_number-small (ImplicitList tag) h = h.0
 
 number_tells : (n : ℕ) → ((is_tag_number n ≡ true) × IsTagNumber n) ⊎ ((is_tag_number n ≡ false) × (IsTagNumber n → ⊥))
 number_tells n = elim (leb_tells n 30) [
@@ -47,7 +47,7 @@ tag_number_tells BitContainer = inl (refl, tt)
 tag_number_tells (Explicit n) = number_tells n
 tag_number_tells (Implicit n) = number_tells n
 tag_number_tells (Application n) = number_tells n
-tag_number_tells (Retagged tag) = constructed_tag_tells tag
+tag_number_tells (ImplicitList tag) = constructed_tag_tells tag
 
 pub has_tag_number-true : (w : Wrapper) → HasTagNumber w → has_tag_number w ≡ true
 has_tag_number-true w h = elim (tag_number_tells w) [ inl proved ↦ proved.0 | inr refuted ↦ absurd (refuted.1 h) ]
@@ -66,5 +66,5 @@ after_front w c d e = after_count (counts_unused_bits w) c d e
 -- a wrapper that leaves the header of a plain value out has no front
 pub no_front : (w : Wrapper) → keeps_header w ≡ false → wrapper_front w ≡ []
 no_front (Implicit n) h = refl
-no_front (Retagged tag) h = refl
+no_front (ImplicitList tag) h = refl
 no_front _ h = cc

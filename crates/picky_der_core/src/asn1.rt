@@ -5,8 +5,8 @@ mod bytes;
 mod collections;
 mod containers;
 mod context_tags;
+mod implicit_list;
 mod newtype;
-mod retagged;
 mod tag;
 mod tagged_bytes;
 mod wrapper;
@@ -26,11 +26,11 @@ pub use context_tags::{
     ImplicitContextTag10, ImplicitContextTag11, ImplicitContextTag12, ImplicitContextTag13,
     ImplicitContextTag14, ImplicitContextTag15,
 };
-pub use newtype::Newtype;
-pub use retagged::{
-    ImplicitList0, ImplicitList1, ImplicitList2, ImplicitList3, ImplicitList4, ImplicitList5,
-    ImplicitList6, ImplicitList7, Retagged, SetOfAsGiven,
+pub use implicit_list::{
+    ImplicitList, ImplicitList0, ImplicitList1, ImplicitList2, ImplicitList3, ImplicitList4,
+    ImplicitList5, ImplicitList6, ImplicitList7, SetOfAsGiven,
 };
+pub use newtype::Newtype;
 pub use tag::{Tag, TagClass};
 pub use tagged_bytes::{
     BitStringAsn1, BmpStringAsn1, GeneralStringAsn1, GeneralizedTimeAsn1, Ia5StringAsn1,

@@ -4,7 +4,7 @@ ghost use Rattle.std.specs.Prelude.{◌≡◌, ℤ, List, ℕ, true};
 ghost use Rattle.picky_der_core.specs.Element.{AreBytes};
 ghost use Rattle.picky_der_core.specs.Integer.{is_integer, integer_content, integer_value, twos_complement};
 ghost use Rattle.picky_der_core.specs.Laws.{LengthBothWays, WrapperLengths, FirstsTell, UniqueReadability, OneValue, RoundTrip};
-ghost use Rattle.picky_der_core.specs.Laws.{SameBytes, OneInside, SetOrder};
+ghost use Rattle.picky_der_core.specs.Laws.{SameBytes, OneInside, SetOrder, NoAmplification};
 
 pub mod copies;
 pub mod equality;
@@ -58,6 +58,13 @@ pub fn one_inside()
 #[tactic(auto, using(crate::proofs::LawProofs::set_order))]
 pub fn set_order()
     ensures { SetOrder }
+{}
+
+/// What a readable tree holds is less than twice its encoding: the bytes of its contents and raw parts, and one for each member of
+/// a list. So a value that is read holds at most twice what was consumed. What vectors reserve isn't counted.
+#[tactic(auto, using(crate::proofs::HeldLaws::no_amplification))]
+pub fn no_amplification()
+    ensures { NoAmplification }
 {}
 
 /// Each whole number has one content, and each content that passes the test is that of a number. The bits of a number's content

@@ -1,4 +1,4 @@
--- Bytes that the reader has ahead.
+-- Bytes that the reader has ahead, and values of them that were consumed in one step.
 use Rattle.std.proofs.Common.{◌≡◌, ℕ, suc, ◌+◌, ◌-◌, ◌*◌, ◌^◌, ◌<◌, ◌≤◌, List, [], ◌∷◌, ◌++◌, length, take, drop, get_or, Option, Some, None, IfSome, refl, sym, subst, ◌∙◌, ap, arith, append_assoc, length-append, length-take, length-drop}
 use Rattle.std.specs.Io.{StartsWith}
 use Rattle.std.proofs.KnownBytes.{starts_with_rest}
@@ -6,47 +6,54 @@ use Rattle.std.proofs.Math.Seq.{take-append_seam}
 use Rattle.std.proofs.lemmas.List.{take-append-drop}
 use Rattle.std.proofs.lemmas.Grind.{common_steps}
 use Rattle.std.specs.Int.Digits.{number_from_digits}
-use Rattle.picky_der_core.specs.Element.{length_octets, big_endian, AreBytes, IsPrefix}
-use Rattle.picky_der_core.specs.ElementLaws.{length_octets-short, length_octets-long}
-use Rattle.picky_der_core.specs.BigEndianLaws.{big_endian-number}
+use Rattle.picky_der_core.specs.Element.{length_octets, AreBytes, IsPrefix}
+use Rattle.picky_der_core.specs.ElementLaws.{length_octets-short, second_bytes}
+use Rattle.picky_der_core.specs.LengthLaws.{length_octets-number}
 use Rattle.picky_der_core.specs.Tag.{number_of, IsTagNumber}
-use Rattle.std.specs.Io.KnownBytes.{Consumes}
-use Rattle.picky_der_core.specs.Peeking.{position_behind, count_of_any}
-use Rattle.picky_der_core.specs.Reader.{TakesFirst}
+use Rattle.std.specs.Io.KnownBytes.{Consumes, prepend_known}
+use Rattle.picky_der_core.specs.Peeking.{position_after, count_of_any}
+use Rattle.picky_der_core.specs.Reader.{ConsumesFirst}
 use Rattle.picky_der_de.specs.State.{State}
-use Rattle.picky_der_de.specs.Steps.{Takes}
+use Rattle.picky_der_de.specs.Steps.{Consumed, Fails}
 use Rattle.picky_der_de.specs.Ahead.{IsElementInFront}
-use Rattle.picky_der_de.proofs.Pieces.{bytes_in_front, moved_few}
+use Rattle.picky_der_de.proofs.Contents.{bytes_at_front, moved_few}
+use Rattle.picky_der_core.specs.Primitive.{Primitive, PrimitiveShape, primitive_content, shape_tag}
+use Rattle.picky_der_core.specs.Refusal.{Judge}
+use Rattle.picky_der_core.specs.declared.error.Asn1DerError.{Asn1DerError}
+use Rattle.picky_der_core.specs.declared.error.Asn1DerError.TheVariants.{OutOfMemory}
+use Rattle.picky_der_de.specs.PlainKinds.{IsShortKind}
+use Rattle.picky_der_de.specs.PlainKindLaws.{bytes_kind}
+use Rattle.picky_der_de.specs.Reading.{ReadsJudged, ReadsPrimitive, RefusesPrimitive}
+use Rattle.picky_der_de.specs.Headers.{header_bytes, BeginsContent}
+use Rattle.picky_der_de.specs.Elements.{without_implicit_tag, BeginsElement, ReadsRaw}
+use Rattle.picky_der_de.proofs.Steps.{consumes_beside}
+use Rattle.picky_der_de.proofs.PlainReads.{refuses_cut, reads_plain}
+use Rattle.picky_der_de.proofs.Elements.{reads_raw}
 
 -- ---- lengths in front
 
--- the long form of one and of two bytes
-long_one : (b : ℕ) → 0x80 ≤ b → b < 256 → length_octets b ≡ 0x81 ∷ b ∷ []
-long_one b long byte =
-    let number : b ≡ number_from_digits 256 (b ∷ []) = omega arith in
-    let is : big_endian b ≡ b ∷ [] = ap big_endian number ∙ big_endian-number b [] (omega arith) (byte, tt) in
-    length_octets-long b long ∙ rw is refl
-
-long_two : (b d : ℕ) → 0 < b → b < 256 → d < 256 → length_octets (b * 256 + d) ≡ 0x82 ∷ b ∷ d ∷ []
-long_two b d some byte other =
-    let number : b * 256 + d ≡ number_from_digits 256 (b ∷ d ∷ []) = omega arith in
-    let is : big_endian (b * 256 + d) ≡ b ∷ d ∷ [] = ap big_endian number ∙ big_endian-number b (d ∷ []) some (byte, (other, tt)) in
-    length_octets-long (b * 256 + d) (omega arith) ∙ rw is refl
-
+-- one byte
 pub short_front : (bs : List ℕ) (n : ℕ) → 0 < length bs → get_or bs 0 0 ≡ n → n < 0x80 → IsPrefix (length_octets n) bs × (1 ≡ length (length_octets n))
 short_front [] n some e h = absurd (omega arith)
 short_front (b ∷ bs) n some e h = rw (length_octets-short n h) (record { rest = bs; is = ap (λ x. x ∷ bs) e }, refl)
 
-pub one_front : (bs : List ℕ) (n : ℕ) → 1 < length bs → get_or bs 0 0 ≡ 0x81 → get_or bs 1 0 ≡ n → 0x80 ≤ n → n < 256 → IsPrefix (length_octets n) bs × (2 ≡ length (length_octets n))
-one_front [] n some f e h l = absurd (omega arith)
-one_front (b ∷ []) n some f e h l = absurd (omega arith)
-one_front (b ∷ d ∷ bs) n some f e h l = rw (long_one n h l) (record { rest = bs; is = rw (f, e) refl }, refl)
+-- the long form of one and of two bytes
+pub one_front : (bs : List ℕ) (n : ℕ) → 1 < length bs → get_or bs 0 0 ≡ 0x81 → get_or bs 1 0 ≡ n → n < 256 → length (length_octets n) ≡ 2 → IsPrefix (length_octets n) bs
+one_front [] n some f e l size = absurd (omega arith)
+one_front (b ∷ []) n some f e l size = absurd (omega arith)
+one_front (b ∷ d ∷ bs) n some f e l size =
+    let number : number_from_digits 256 (n ∷ []) ≡ n = omega arith in
+    let is = length_octets-number 0x81 1 (n ∷ []) (record { is = refl; some = omega arith; most = omega arith }) refl (l, tt) (ap (λ m. length (length_octets m)) number ∙ size) in
+    rw (ap length_octets (sym number) ∙ is) (record { rest = bs; is = rw (f, e) refl })
 
-pub two_front : (bs : List ℕ) (n m : ℕ) → 2 < length bs → get_or bs 0 0 ≡ 0x82 → get_or bs 1 0 ≡ n → get_or bs 2 0 ≡ m → 0 < n → n < 256 → m < 256 → IsPrefix (length_octets (n * 256 + m)) bs × (3 ≡ length (length_octets (n * 256 + m)))
-two_front [] n m some f e g h l k = absurd (omega arith)
-two_front (b ∷ []) n m some f e g h l k = absurd (omega arith)
-two_front (b ∷ d ∷ []) n m some f e g h l k = absurd (omega arith)
-two_front (b ∷ d ∷ x ∷ bs) n m some f e g h l k = rw (long_two n m h l k) (record { rest = bs; is = rw (f, e, g) refl }, refl)
+pub two_front : (bs : List ℕ) (n m : ℕ) → 2 < length bs → get_or bs 0 0 ≡ 0x82 → get_or bs 1 0 ≡ n → get_or bs 2 0 ≡ m → n < 256 → m < 256 → length (length_octets (n * 256 + m)) ≡ 3 → IsPrefix (length_octets (n * 256 + m)) bs
+two_front [] n m some f e g l k size = absurd (omega arith)
+two_front (b ∷ []) n m some f e g l k size = absurd (omega arith)
+two_front (b ∷ d ∷ []) n m some f e g l k size = absurd (omega arith)
+two_front (b ∷ d ∷ x ∷ bs) n m some f e g l k size =
+    let number : number_from_digits 256 (n ∷ m ∷ []) ≡ n * 256 + m = omega arith in
+    let is = length_octets-number 0x82 2 (n ∷ m ∷ []) (record { is = refl; some = omega arith; most = omega arith }) refl (l, (k, tt)) (ap (λ i. length (length_octets i)) number ∙ size) in
+    rw (ap length_octets (sym number) ∙ is) (record { rest = bs; is = rw (f, e, g) refl })
 
 -- ---- what is shown
 
@@ -101,9 +108,9 @@ short_there (x ∷ y ∷ xs) tag n some e f =
 
 -- and that it is made of bytes
 pub short_bytes : (all : List ℕ) (n : ℕ) → ((i : ℕ) → get_or all i 0 < 256) → AreBytes (take n (drop 2 all))
-short_bytes [] n h = bytes_in_front n [] h
-short_bytes (x ∷ []) n h = bytes_in_front n [] (λ i. h (suc i))
-short_bytes (x ∷ y ∷ xs) n h = bytes_in_front n xs (λ i. h (suc (suc i)))
+short_bytes [] n h = bytes_at_front n [] h
+short_bytes (x ∷ []) n h = bytes_at_front n [] (λ i. h (suc i))
+short_bytes (x ∷ y ∷ xs) n h = bytes_at_front n xs (λ i. h (suc (suc i)))
 
 -- the element that is there, if a length follows its first byte
 pub element_there : (all : List ℕ) (n count : ℕ) → 0 < length all → IsTagNumber (number_of (get_or all 0 0)) → get_or all 0 0 < 256 → IsPrefix (length_octets n) (drop 1 all) → count ≡ n + length (length_octets n) + 1 → count ≤ length all → IsElementInFront all count
@@ -135,7 +142,7 @@ pub at_most_one : (p : Option ℕ) → count_of_any p ≤ 1
 at_most_one None = omega arith
 at_most_one (Some b) = omega arith
 
-consumes_shown : (i j : Option (List ℕ)) (x : List ℕ) {n : ℕ} → length x ≡ n → IfSome i (λ left. StartsWith left x) → TakesFirst i j n → Consumes i j x
+consumes_shown : (i j : Option (List ℕ)) (x : List ℕ) {n : ℕ} → length x ≡ n → IfSome i (λ left. StartsWith left x) → ConsumesFirst i j n → Consumes i j x
 consumes_shown None j x size h t = tt
 consumes_shown (Some xs) None x {n} size h t = absurd (let q : None ≡ Some (drop n xs) = t.1 in cc)
 consumes_shown (Some xs) (Some ys) x {n} size h t =
@@ -144,22 +151,163 @@ consumes_shown (Some xs) (Some ys) x {n} size h t =
     starts_with_rest xs x h ∙ ap (λ z. x ++ z) (ap (λ k. drop k xs) size ∙ sym e)
 
 -- these bytes, which the reader showed before the innermost end, were consumed in one step
-pub takes_shown : {a c : State} (x : List ℕ) {n : ℕ} → length x ≡ n → IfSome a.input (λ left. StartsWith left x) → n ≤ a.until_end → count_of_any a.peeked ≤ n → a.failed ≡ None → a.taken + a.until_end < 2 ^ 64
-    → TakesFirst a.input c.input n → (count_of_any a.peeked ≤ n → c.peeked ≡ None) → c.taken ≡ position_behind a.taken n
-    → c ≡ record a { input = c.input; peeked = c.peeked; taken = c.taken; until_end = a.until_end - n; faults = c.faults; references = c.references } → c.faults ≡ a.faults → c.references ≡ a.references → Takes a c x
-takes_shown {a} {c} x {n} size shown fits few ok bound first unpeeked pos same faults references =
-    let taken : c.taken ≡ a.taken + n = pos ∙ moved_few a.taken n (omega (arith, bound, fits)) in
+pub consumed_shown : {a c : State} (x : List ℕ) {n : ℕ} → length x ≡ n → IfSome a.input (λ left. StartsWith left x) → n ≤ a.until_end → count_of_any a.peeked ≤ n → a.failed ≡ None → a.consumed + a.until_end < 2 ^ 64
+    → ConsumesFirst a.input c.input n → (count_of_any a.peeked ≤ n → c.peeked ≡ None) → c.consumed ≡ position_after a.consumed n
+    → c ≡ record a { input = c.input; peeked = c.peeked; consumed = c.consumed; until_end = a.until_end - n; faults = c.faults; references = c.references } → c.faults ≡ a.faults → c.references ≡ a.references → Consumed a c x
+consumed_shown {a} {c} x {n} size shown fits few ok bound first unpeeked pos same faults references =
+    let consumed : c.consumed ≡ a.consumed + n = pos ∙ moved_few a.consumed n (omega (arith, bound, fits)) in
     record {
       input = consumes_shown a.input c.input x size shown first;
-      taken = omega (arith, taken, size);
+      consumed = omega (arith, consumed, size);
       until_end = omega (arith, fits, size, ap (λ (s : State). s.until_end) same);
       end = ap (λ (s : State). s.end) same;
       limit = ap (λ (s : State). s.limit) same;
       sets = ap (λ (s : State). s.sets) same;
       unpeeked = unpeeked few;
-      drawn = omega (arith, few, taken);
+      fetched = omega (arith, few, consumed);
       had_not_failed = ok;
       not_failed = ap (λ (s : State). s.failed) same ∙ ok;
       faults = faults;
       references = references;
     }
+
+-- ---- values that were ahead whole, and were consumed in one step
+
+-- ---- two steps in place of one
+
+-- bytes were consumed, and then others
+pub record ConsumesInTwo (a c : State) (x y : List ℕ) : Type 0 where
+  pub mid : State
+  pub first : Consumed a mid x
+  pub rest : Consumed mid c y
+  pub implicit_tag : mid.implicit_tag ≡ c.implicit_tag
+
+first_part : (i j : Option (List ℕ)) (x y : List ℕ) → Consumes i j (x ++ y) → Consumes i (prepend_known y j) x
+first_part None j x y h = tt
+first_part (Some xs) None x y h = h
+first_part (Some xs) (Some ys) x y h = h ∙ append_assoc x y ys
+
+rest_part : (j : Option (List ℕ)) (y : List ℕ) → Consumes (prepend_known y j) j y
+rest_part None y = tt
+rest_part (Some ys) y = refl
+
+pub consumes_in_two : {a c : State} (x y : List ℕ) → Consumed a c (x ++ y) → 0 < length x → ConsumesInTwo a c x y
+consumes_in_two {a} {c} x y t some =
+    let few = at_most_one a.peeked in
+    let size = length-append x y in
+    let no_byte : count_of_any c.peeked ≡ 0 = ap count_of_any t.unpeeked in
+    record {
+      mid = record c { input = prepend_known y c.input; consumed = a.consumed + length x; until_end = length y + c.until_end };
+      first = record {
+        input = first_part a.input c.input x y t.input;
+        consumed = refl;
+        until_end = omega (arith, t.until_end, size);
+        end = t.end;
+        limit = t.limit;
+        sets = t.sets;
+        unpeeked = t.unpeeked;
+        fetched = omega (arith, few, some);
+        had_not_failed = t.had_not_failed;
+        not_failed = t.not_failed;
+        faults = t.faults;
+        references = t.references;
+      };
+      rest = record {
+        input = rest_part c.input y;
+        consumed = omega (arith, t.consumed, size);
+        until_end = refl;
+        end = refl;
+        limit = refl;
+        sets = refl;
+        unpeeked = t.unpeeked;
+        fetched = omega (arith, t.consumed, size, no_byte);
+        had_not_failed = t.not_failed;
+        not_failed = t.not_failed;
+        faults = refl;
+        references = refl;
+      };
+      implicit_tag = refl;
+    }
+
+-- ---- plain values
+
+whole_header : (d : Option ℕ) (tag n : ℕ) → d ≡ None → header_bytes d tag n ≡ tag ∷ length_octets n
+whole_header None tag n e = refl
+whole_header (Some number) tag n e = absurd (let q : Some number ≡ None = e in cc)
+
+none_directly : (P : ℕ → Type 0) (d : Option ℕ) → d ≡ None → IfSome d P
+none_directly P None e = tt
+none_directly P (Some number) e = absurd (let q : Some number ≡ None = e in cc)
+
+-- the header of an element was consumed
+pub begins_whole : {tag n : ℕ} {a b : State} → a.implicit_tag ≡ None → a.until_end < 2 ^ 64 → Consumed a b (tag ∷ length_octets n) → b.implicit_tag ≡ None → n ≤ b.until_end → BeginsContent tag a b n
+begins_whole {tag} {n} {a} {b} whole bounded t none fits = record {
+  consumes = rw (whole_header a.implicit_tag tag n whole) t;
+  implicit_tag = none;
+  fits = fits;
+  all = none_directly _ a.implicit_tag whole;
+  bounded = bounded;
+}
+
+-- header and content of an element with this tag were consumed
+record ConsumesWhole (tag : ℕ) (a c : State) (content : List ℕ) : Type 0 where
+  pub mid : State
+  pub begins : BeginsContent tag a mid (length content)
+  pub rest : Consumed mid c content
+  pub implicit_tag : c.implicit_tag ≡ None
+
+consumes_whole : {tag : ℕ} {a c : State} (content : List ℕ) → a.implicit_tag ≡ None → a.until_end < 2 ^ 64 → Consumed a c ((tag ∷ length_octets (length content)) ++ content) → c.implicit_tag ≡ a.implicit_tag → ConsumesWhole tag a c content
+consumes_whole {tag} {a} {c} content whole bounded t d =
+    let n = length content in
+    let q = consumes_in_two (tag ∷ length_octets n) content t (omega arith) in
+    let none : c.implicit_tag ≡ None = d ∙ whole in
+    record {
+      mid = q.mid;
+      begins = begins_whole whole bounded q.first (q.implicit_tag ∙ none) (omega (arith, q.rest.until_end));
+      rest = q.rest;
+      implicit_tag = none;
+    }
+
+-- a plain value of which tag, length and content were consumed
+pub reads_short : {V : Type 0} {meaning : V → Primitive} {k : PrimitiveShape} {judge : Judge} {a c : State} {bytes : List ℕ} → IsShortKind meaning k judge → (v : V)
+    → bytes ≡ primitive_content (meaning v) → judge bytes ≡ None → length bytes < 128 → a.implicit_tag ≡ None → a.until_end < 2 ^ 64 → Consumed a c (shape_tag k ∷ (length bytes ∷ bytes)) → c.implicit_tag ≡ a.implicit_tag → ReadsJudged k judge a c (meaning v)
+reads_short {judge = judge} {a = a} {c = c} {bytes = bytes} kind v is good short whole bounded t d =
+    let h = consumes_whole bytes whole bounded (rw (length_octets-short (length bytes) short) t) d in
+    let w = kind.short v (ap judge (sym is) ∙ good) in
+    reads_plain kind.plain v w.of_shape w.readable h.begins (subst (Consumed h.mid c) is h.rest) (ap length (sym is)) h.implicit_tag
+
+-- the content of an element of which header and content were consumed
+pub reads_content : {tag : ℕ} {a c : State} {bytes : List ℕ} → IsTagNumber (number_of tag) → AreBytes bytes → a.implicit_tag ≡ None → a.until_end < 2 ^ 64
+    → Consumed a c ((tag ∷ length_octets (length bytes)) ++ bytes) → c.implicit_tag ≡ a.implicit_tag → ReadsPrimitive (PrimitiveShape.bytes tag) a c (Primitive.bytes tag bytes)
+reads_content {tag} {a} {c} {bytes} number b whole bounded t d =
+    let h = consumes_whole bytes whole bounded t d in
+    reads_plain (bytes_kind tag number) bytes (refl, b) (number, b) h.begins h.rest refl h.implicit_tag
+
+-- and the allocation for its content failed
+pub refuses_for_memory : {tag n : ℕ} {a b c : State} {e : Asn1DerError} → IsTagNumber (number_of tag) → BeginsContent tag a b n → Fails b c e → e ≡ OutOfMemory → RefusesPrimitive (Primitive.bytes tag) (PrimitiveShape.bytes tag) a c e
+refuses_for_memory {tag} number h f is = refuses_cut (bytes_kind tag number) h (record { fails = f; short = λ j. absurd (j.memory is) })
+
+-- ---- elements
+
+consumes_without_implicit_tag : {a b : State} {x : List ℕ} → Consumed a b x → Consumed (without_implicit_tag a) b x
+consumes_without_implicit_tag t = consumes_beside t.until_end t.end t.sets t
+
+-- an element that was consumed whole
+pub reads_whole : {a c : State} {all : List ℕ} → IsElementInFront all (length all) → a.implicit_tag ≡ None → a.until_end < 2 ^ 64 → Consumed a c all → AreBytes all → c.implicit_tag ≡ a.implicit_tag → ReadsRaw a c all
+reads_whole {a} {c} {all} e whole bounded t b d =
+    let n = length e.content in
+    let is : all ≡ (e.tag ∷ length_octets n) ++ e.content = sym (take_whole all) ∙ e.is in
+    let q = consumes_in_two (e.tag ∷ length_octets n) e.content (subst (Consumed a c) is t) (omega arith) in
+    let none : c.implicit_tag ≡ None = d ∙ whole in
+    let begins : BeginsElement a q.mid e.tag n = record {
+      consumes = consumes_without_implicit_tag q.first;
+      number = e.number;
+      byte = e.byte;
+      implicit_tag = q.implicit_tag ∙ none;
+      fits = omega (arith, q.rest.until_end);
+      bounded = bounded;
+    } in
+    reads_raw begins (record { consumes = q.rest; count = refl; bytes = second_bytes (e.tag ∷ length_octets n) e.content (subst AreBytes is b) }) none is
+  where
+    take_whole : (xs : List ℕ) → take (length xs) xs ≡ xs
+    take_whole xs = grind (arith, common_steps)

@@ -8,19 +8,19 @@ use Rattle.picky_der_core.specs.Readable.{IsReadable, AreReadable}
 use Rattle.picky_der_core.specs.Shape.{Shape, Layout, AreOthers, contains, begins_outside, next_firsts, tags_below}
 use Rattle.picky_der_core.specs.FirstLaws.{begins_next, others_each}
 use Rattle.picky_der_de.specs.State.{State}
-use Rattle.picky_der_de.specs.Steps.{Takes, Fails}
+use Rattle.picky_der_de.specs.Steps.{Consumed, Fails}
 use Rattle.picky_der_de.specs.Order.{AreInOrder, without_order}
 use Rattle.picky_der_de.specs.LookAhead.{Peeks, Identifies}
 use Rattle.picky_der_de.specs.FirstTests.{excluded_not_left}
-use Rattle.picky_der_de.specs.Members.{members_encoding, StandUpToEnd, TakesRow, ReadsAll, RefusesAll}
+use Rattle.picky_der_de.specs.Members.{members_encoding, AreUpToEnd, ConsumesMembers, ReadsAll, RefusesAll}
 use Rattle.picky_der_de.specs.Layouts.{PeeksAtMost, same, looked, Passes, ReadsLayout, RefusesLayout}
 use Rattle.picky_der_de.specs.OtherLaws.{others_of, are_outside, others_have_layout}
-use Rattle.picky_der_de.proofs.Steps.{takes_none}
-use Rattle.picky_der_de.proofs.Order.{fails_behind, concerns_without_order}
-use Rattle.picky_der_de.proofs.Refusals.{concerns_behind, failed_grows}
+use Rattle.picky_der_de.proofs.Steps.{consumes_none}
+use Rattle.picky_der_de.proofs.Order.{fails_after_any_order, concerns_without_order}
+use Rattle.picky_der_de.proofs.Refusals.{concerns_after, failed_grows}
 use Rattle.picky_der_de.proofs.Peeked.{peeks_fails}
 use Rattle.picky_der_de.proofs.MemberReads.{members_encoding-more, members_encoding-none, none_left}
-use Rattle.picky_der_de.proofs.LayoutReads.{as_look, peeks_at_most_here, peeks_at_most_takes, first_is, Skips}
+use Rattle.picky_der_de.proofs.LayoutReads.{as_look, peeks_at_most_here, peeks_at_most_consumes, first_is, Skips}
 
 raw_bytes : (s : List ℕ) → der (Tree.raw s) ≡ s
 unfolding der tree_bytes
@@ -37,7 +37,7 @@ module _ {s : Shape} {b c d : State} (k : Skips s b c) {l : Layout} where
     passes = λ a q. n.passes a (k.peeks_at_most a q);
     implicit_tag = n.implicit_tag;
     fails = λ last e f. k.fails last e (n.fails last e f);
-    full = λ told last e f left us are readable w. n.full told last e f left us are readable (k.stands last e (members_encoding us) w);
+    full = λ distinct last e f left us are readable w. n.full distinct last e f left us are readable (k.at_front last e (members_encoding us) w);
   }
 
   pub look_refused : {V : Type 0} {members : V → Trees} {e : Asn1DerError} → RefusesLayout members l c d e → RefusesLayout members l b d e
@@ -45,7 +45,7 @@ module _ {s : Shape} {b c d : State} (k : Skips s b c) {l : Layout} where
     rest = record {
       fails = k.fails d e n.rest.fails;
       none = λ j v p readable order w.
-          n.rest.none (k.judged d e j) v p readable (subst (λ x. AreInOrder x (encodings (members v))) (sym k.sets) order) (k.stands d e (members_encoding (members v)) w);
+          n.rest.none (k.judged d e j) v p readable (subst (λ x. AreInOrder x (encodings (members v))) (sym k.sets) order) (k.at_front d e (members_encoding (members v)) w);
     };
   }
 
@@ -80,7 +80,7 @@ excluded_refused {V} {members} excluded {b} {c} {d} {tag} {e} whole i own f = re
   p : Peeks b c tag
   p = as_look whole i
 
-  none : (us : Trees) → AreOthers excluded us → AreReadable us → StandUpToEnd b d e (members_encoding us) → ⊥
+  none : (us : Trees) → AreOthers excluded us → AreReadable us → AreUpToEnd b d e (members_encoding us) → ⊥
   none Trees.none are readable w = none_left p.ahead w
   none (Trees.more u us) are readable w =
       let h = begins_next (Layout.others excluded) u us are readable.0 in
@@ -90,17 +90,17 @@ excluded_refused {V} {members} excluded {b} {c} {d} {tag} {e} whole i own f = re
 
 -- ---- all of them, up to the end
 
-row_passes : {a b c : State} (ts : Trees) → PeeksAtMost a b → TakesRow b c ts → c.failed ≡ None → Passes a c (members_encoding ts)
-row_passes {a} {b} {c} Trees.none q h n = record { mid = a; takes = subst (Takes (without_order a) (without_order a)) (sym members_encoding-none) (nothing q); peeks_at_most = subst (PeeksAtMost a) (sym h) q }
+members_passes : {a b c : State} (ts : Trees) → PeeksAtMost a b → ConsumesMembers b c ts → c.failed ≡ None → Passes a c (members_encoding ts)
+members_passes {a} {b} {c} Trees.none q h n = record { mid = a; consumes = subst (Consumed (without_order a) (without_order a)) (sym members_encoding-none) (nothing q); peeks_at_most = subst (PeeksAtMost a) (sym h) q }
   where
-    nothing : PeeksAtMost a b → Takes (without_order a) (without_order a) []
-    nothing (same e f g) = takes_none (without_order a) f g
-    nothing (looked x g p) = takes_none (without_order a) p.had_not_failed g
-row_passes {a} {b} {c} (Trees.more t ts) q h n = record { mid = c; takes = peeks_at_most_takes c q h; peeks_at_most = peeks_at_most_here n h.unpeeked }
+    nothing : PeeksAtMost a b → Consumed (without_order a) (without_order a) []
+    nothing (same e f g) = consumes_none (without_order a) f g
+    nothing (looked x g p) = consumes_none (without_order a) p.had_not_failed g
+members_passes {a} {b} {c} (Trees.more t ts) q h n = record { mid = c; consumes = peeks_at_most_consumes c q h; peeks_at_most = peeks_at_most_here n h.unpeeked }
 
-row_fails : {b c d : State} {e : Asn1DerError} (ts : Trees) → TakesRow b c ts → Fails c d e → Fails b d e
-row_fails {b} {c} {d} {e} Trees.none h f = subst (λ z. Fails z d e) h f
-row_fails (Trees.more t ts) h f = fails_behind h f
+members_fails : {b c d : State} {e : Asn1DerError} (ts : Trees) → ConsumesMembers b c ts → Fails c d e → Fails b d e
+members_fails {b} {c} {d} {e} Trees.none h f = subst (λ z. Fails z d e) h f
+members_fails (Trees.more t ts) h f = fails_after_any_order h f
 
 -- elements that are kept by their bytes
 module _ {E : Type 0} (bytes : E → List ℕ) (excluded : List ℕ) where
@@ -110,10 +110,10 @@ module _ {E : Type 0} (bytes : E → List ℕ) (excluded : List ℕ) where
     are = others_have_layout bytes excluded es outside r.readable;
     readable = r.readable;
     order = r.order;
-    passes = λ a q. row_passes (others_of bytes es) q r.takes r.not_failed;
+    passes = λ a q. members_passes (others_of bytes es) q r.consumes r.not_failed;
     implicit_tag = r.implicit_tag;
-    fails = λ last e f. row_fails (others_of bytes es) r.takes f;
-    full = λ told last e f left us are readable w. omega (arith, left, r.reached);
+    fails = λ last e f. members_fails (others_of bytes es) r.consumes f;
+    full = λ distinct last e f left us are readable w. omega (arith, left, r.reached);
   }
 
   module _ {V : Type 0} (elements : V → List E) where
@@ -130,25 +130,25 @@ module _ {E : Type 0} (bytes : E → List ℕ) (excluded : List ℕ) where
     pub others_excluded : {b c d : State} {e : Asn1DerError} (es : List E) → ReadsAll (λ x. Tree.raw (bytes x)) Shape.raw b c es → are_outside excluded bytes es ≡ false → Fails c d e → RefusesLayout (λ v. others_of bytes (elements v)) (Layout.others excluded) b d e
     others_excluded {b} {c} {d} {e} es r own f = record {
       rest = record {
-        fails = row_fails (others_of bytes es) r.takes f;
-        none = λ j v p readable order w. none es r.takes r.readable own (others_of bytes (elements v)) p.1 readable w;
+        fails = members_fails (others_of bytes es) r.consumes f;
+        none = λ j v p readable order w. none es r.consumes r.readable own (others_of bytes (elements v)) p.1 readable w;
       };
     } where
       -- members that are there where such an element was read
-      differ : (x : E) (xs : List E) → Takes (without_order b) (without_order c) (members_encoding (others_of bytes (x ∷ xs))) → AreReadable (others_of bytes (x ∷ xs)) → (s : List ℕ) → bytes x ≡ s → begins_outside excluded s ≡ false
-          → (us : Trees) → AreOthers excluded us → AreReadable us → StandUpToEnd b d e (members_encoding us) → ⊥
-      differ x xs takes there [] is h us are readable w = cc
-      differ x xs takes there (y ∷ ys) is h Trees.none are readable w =
+      differ : (x : E) (xs : List E) → Consumed (without_order b) (without_order c) (members_encoding (others_of bytes (x ∷ xs))) → AreReadable (others_of bytes (x ∷ xs)) → (s : List ℕ) → bytes x ≡ s → begins_outside excluded s ≡ false
+          → (us : Trees) → AreOthers excluded us → AreReadable us → AreUpToEnd b d e (members_encoding us) → ⊥
+      differ x xs consumes there [] is h us are readable w = cc
+      differ x xs consumes there (y ∷ ys) is h Trees.none are readable w =
           let all = members_encoding-more (Tree.raw (bytes x)) (others_of bytes xs) in
-          omega (arith, takes.until_end, w.fills, ap length members_encoding-none, ap length all, length-append (der (Tree.raw (bytes x))) (members_encoding (others_of bytes xs)), length-der (Tree.raw (bytes x)) there.0)
-      differ x xs takes there (y ∷ ys) is h (Trees.more u us) are readable w =
-          let behind = concerns_behind takes (failed_grows f) (concerns_without_order w.stand.concerns) in
+          omega (arith, consumes.until_end, w.fills, ap length members_encoding-none, ap length all, length-append (der (Tree.raw (bytes x))) (members_encoding (others_of bytes xs)), length-der (Tree.raw (bytes x)) there.0)
+      differ x xs consumes there (y ∷ ys) is h (Trees.more u us) are readable w =
+          let after = concerns_after consumes (failed_grows f) (concerns_without_order w.are_before.concerns) in
           let k = begins_next (Layout.others excluded) u us are readable.0 in
-          let both : (der (Tree.raw (bytes x)) ++ members_encoding (others_of bytes xs)) ++ behind.rest ≡ (der u ++ members_encoding us) ++ w.stand.rest =
-          ap (λ z. z ++ behind.rest) (sym (members_encoding-more (Tree.raw (bytes x)) (others_of bytes xs))) ∙ sym behind.begins ∙ w.stand.begins ∙ ap (λ z. z ++ w.stand.rest) (members_encoding-more u us) in
-          let same : y ≡ k.first = same_front (members_encoding (others_of bytes xs)) behind.rest (members_encoding us) w.stand.rest (raw_bytes (bytes x) ∙ is) k.is both in
+          let both : (der (Tree.raw (bytes x)) ++ members_encoding (others_of bytes xs)) ++ after.rest ≡ (der u ++ members_encoding us) ++ w.are_before.rest =
+          ap (λ z. z ++ after.rest) (sym (members_encoding-more (Tree.raw (bytes x)) (others_of bytes xs))) ∙ sym after.begins ∙ w.are_before.begins ∙ ap (λ z. z ++ w.are_before.rest) (members_encoding-more u us) in
+          let same : y ≡ k.first = same_front (members_encoding (others_of bytes xs)) after.rest (members_encoding us) w.are_before.rest (raw_bytes (bytes x) ∙ is) k.is both in
           not_first excluded u us are readable.0 k.first k.others k.is (subst (λ z. contains excluded z ≡ true) same (not_false (contains excluded y) h))
 
-      none : (xs : List E) → TakesRow b c (others_of bytes xs) → AreReadable (others_of bytes xs) → are_outside excluded bytes xs ≡ false → (us : Trees) → AreOthers excluded us → AreReadable us → StandUpToEnd b d e (members_encoding us) → ⊥
-      none [] takes there h us are readable w = cc
-      none (x ∷ xs) takes there h us are readable w = differ x xs takes there (bytes x) refl h us are readable w
+      none : (xs : List E) → ConsumesMembers b c (others_of bytes xs) → AreReadable (others_of bytes xs) → are_outside excluded bytes xs ≡ false → (us : Trees) → AreOthers excluded us → AreReadable us → AreUpToEnd b d e (members_encoding us) → ⊥
+      none [] consumes there h us are readable w = cc
+      none (x ∷ xs) consumes there h us are readable w = differ x xs consumes there (bytes x) refl h us are readable w

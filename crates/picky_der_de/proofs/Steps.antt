@@ -5,21 +5,21 @@ use Rattle.std.proofs.KnownBytes.{Consumes-nil, Consumes-trans, Keeps-refl}
 use Rattle.picky_der_core.specs.declared.error.Asn1DerError.{Asn1DerError}
 use Rattle.picky_der_core.specs.Failure.{failure_of}
 use Rattle.picky_der_core.specs.Peeking.{count_of_any}
-use Rattle.picky_der_core.specs.Reader.{TellsFault}
+use Rattle.picky_der_core.specs.Reader.{ReportsFault}
 use Rattle.picky_der_de.specs.declared.end.End.{End}
 use Rattle.picky_der_de.specs.State.{OpenSets, State}
-use Rattle.picky_der_de.specs.Steps.{Takes, TakesSome, Fails, IsWithin, IsUnmoved, HasDrawn, IsJudged, drawn_count}
+use Rattle.picky_der_de.specs.Steps.{Consumed, ConsumesSome, Fails, IsWithin, IsUnmoved, HasFetched, IsJudged, fetched_count}
 
-pub takes_then : {a b c : State} {x y : List ℕ} → Takes a b x → Takes b c y → Takes a c (x ++ y)
-takes_then {a} {b} {c} {x} {y} h k = record {
+pub consumes_then : {a b c : State} {x y : List ℕ} → Consumed a b x → Consumed b c y → Consumed a c (x ++ y)
+consumes_then {a} {b} {c} {x} {y} h k = record {
   input = Consumes-trans a.input b.input c.input x y h.input k.input;
-  taken = omega (arith, length-append x y);
+  consumed = omega (arith, length-append x y);
   until_end = omega (arith, length-append x y);
   end = k.end ∙ h.end;
   limit = k.limit ∙ h.limit;
   sets = k.sets ∙ h.sets;
   unpeeked = k.unpeeked;
-  drawn = omega (arith, h.drawn, k.drawn);
+  fetched = omega (arith, h.fetched, k.fetched);
   had_not_failed = h.had_not_failed;
   not_failed = k.not_failed;
   faults = k.faults ∙ h.faults;
@@ -27,16 +27,16 @@ takes_then {a} {b} {c} {x} {y} h k = record {
 }
 
 -- nothing is consumed
-pub takes_none : (a : State) → a.failed ≡ None → a.peeked ≡ None → Takes a a []
-takes_none a h p = record {
+pub consumes_none : (a : State) → a.failed ≡ None → a.peeked ≡ None → Consumed a a []
+consumes_none a h p = record {
   input = Consumes-nil a.input;
-  taken = omega arith;
+  consumed = omega arith;
   until_end = omega arith;
   end = refl;
   limit = refl;
   sets = refl;
   unpeeked = p;
-  drawn = let e : count_of_any a.peeked ≡ 0 = ap count_of_any p in omega (arith, e);
+  fetched = let e : count_of_any a.peeked ≡ 0 = ap count_of_any p in omega (arith, e);
   had_not_failed = h;
   not_failed = h;
   faults = refl;
@@ -48,16 +48,16 @@ abbrev pub beside : State → ℕ → End → OpenSets → Option ℕ → State
 beside s n kind sets tag = record s { until_end = n; end = kind; sets = sets; implicit_tag = tag }
 
 -- what was consumed before one end was consumed before another
-pub takes_beside : {a c : State} {x : List ℕ} {n m : ℕ} {i j : End} {s u : OpenSets} {d g : Option ℕ} → a.until_end ≡ length x + m → j ≡ a.end → u ≡ a.sets → Takes (beside a n i s d) c x → Takes a (beside c m j u g) x
-takes_beside ends kind sets t = record {
+pub consumes_beside : {a c : State} {x : List ℕ} {n m : ℕ} {i j : End} {s u : OpenSets} {d g : Option ℕ} → a.until_end ≡ length x + m → j ≡ a.end → u ≡ a.sets → Consumed (beside a n i s d) c x → Consumed a (beside c m j u g) x
+consumes_beside ends kind sets t = record {
   input = t.input;
-  taken = t.taken;
+  consumed = t.consumed;
   until_end = ends;
   end = kind;
   limit = t.limit;
   sets = sets;
   unpeeked = t.unpeeked;
-  drawn = t.drawn;
+  fetched = t.fetched;
   had_not_failed = t.had_not_failed;
   not_failed = t.not_failed;
   faults = t.faults;
@@ -68,7 +68,7 @@ takes_beside ends kind sets t = record {
 pub fails_beside : {a c : State} {e : Asn1DerError} {n : ℕ} {i : End} {s : OpenSets} {d : Option ℕ} → n ≤ a.until_end → Fails (beside a n i s d) c e → Fails a c e
 fails_beside nearer f = record {
   failed = f.failed;
-  again = λ k w. let q = f.again k w in (q.0, record { input = q.1.input; taken = q.1.taken; peeked = q.1.peeked; faults = q.1.faults });
+  again = λ k w. let q = f.again k w in (q.0, record { input = q.1.input; consumed = q.1.consumed; peeked = q.1.peeked; faults = q.1.faults });
   faults = f.faults;
   unpeeked = f.unpeeked;
   other = f.other;
@@ -76,48 +76,48 @@ fails_beside nearer f = record {
   grows = f.grows;
   end = omega (arith, f.end);
   limit = f.limit;
-  within = λ w. f.within (record { end = omega (arith, w.end); drawn = w.drawn });
+  within = λ w. f.within (record { end = omega (arith, w.end); fetched = w.fetched });
   there = f.there;
   references = f.references;
 }
 
-pub there_after : (i j : Option (List ℕ)) (h : List ℕ) (s t n : ℕ) → Consumes i j h → t ≡ s + length h → HasDrawn j t n → HasDrawn i s n
+pub there_after : (i j : Option (List ℕ)) (h : List ℕ) (s t n : ℕ) → Consumes i j h → t ≡ s + length h → HasFetched j t n → HasFetched i s n
 there_after None j h s t n c e f = tt
 there_after (Some xs) None h s t n c e f = absurd c
 there_after (Some xs) (Some ys) h s t n c e f = omega (arith, ap length c, length-append h ys)
 
-pub takes_within : {a b : State} {x : List ℕ} → Takes a b x → IsWithin a → IsWithin b
-takes_within {a} {b} {x} h w =
+pub consumes_within : {a b : State} {x : List ℕ} → Consumed a b x → IsWithin a → IsWithin b
+consumes_within {a} {b} {x} h w =
     let e : count_of_any b.peeked ≡ 0 = ap count_of_any h.unpeeked in
-    record { end = omega (arith, w.end, h.taken, h.until_end, h.limit); drawn = omega (arith, w.end, h.taken, h.until_end, h.limit, e) }
+    record { end = omega (arith, w.end, h.consumed, h.until_end, h.limit); fetched = omega (arith, w.end, h.consumed, h.until_end, h.limit, e) }
 
-took_after : {a b c : State} {x : List ℕ} → Takes a b x → TakesSome b c → TakesSome a c
+took_after : {a b c : State} {x : List ℕ} → Consumed a b x → ConsumesSome b c → ConsumesSome a c
 took_after {a} {b} {c} {x} h t = record {
   bytes = x ++ t.bytes;
   input = Consumes-trans a.input b.input c.input x t.bytes h.input t.input;
-  count = omega (arith, length-append x t.bytes, h.taken, t.count);
+  count = omega (arith, length-append x t.bytes, h.consumed, t.count);
 }
 
 -- a call failed after bytes that were consumed
-pub fails_after : {a b c : State} {x : List ℕ} {e : Asn1DerError} → Takes a b x → Fails b c e → Fails a c e
+pub fails_after : {a b c : State} {x : List ℕ} {e : Asn1DerError} → Consumed a b x → Fails b c e → Fails a c e
 fails_after {a} {b} {c} {x} {e} h f =
     let p : count_of_any b.peeked ≡ 0 = ap count_of_any h.unpeeked in
     record {
       failed = f.failed;
       again = λ k w. absurd (let q : None ≡ Some k = sym h.had_not_failed ∙ w in cc);
-      faults = subst (λ l. TellsFault l c.faults c.input e) h.faults f.faults;
+      faults = subst (λ l. ReportsFault l c.faults c.input e) h.faults f.faults;
       unpeeked = λ more. f.unpeeked (λ same. more (same ∙ h.faults));
       other = λ w same. f.other h.not_failed (same ∙ sym h.faults);
       took = took_after h f.took;
-      grows = omega (arith, f.grows, h.drawn, p);
-      end = omega (arith, f.end, h.taken, h.until_end);
+      grows = omega (arith, f.grows, h.fetched, p);
+      end = omega (arith, f.end, h.consumed, h.until_end);
       limit = f.limit ∙ h.limit;
-      within = λ w. f.within (takes_within h w);
-      there = λ w. there_after a.input b.input x a.taken b.taken (drawn_count c) h.input h.taken (f.there h.not_failed);
+      within = λ w. f.within (consumes_within h w);
+      there = λ w. there_after a.input b.input x a.consumed b.consumed (fetched_count c) h.input h.consumed (f.there h.not_failed);
       references = f.references ∙ h.references;
     }
 
-pub judged_after : {a b c : State} {x : List ℕ} {e : Asn1DerError} → Takes a b x → IsJudged a c e → IsJudged b c e
+pub judged_after : {a b c : State} {x : List ℕ} {e : Asn1DerError} → Consumed a b x → IsJudged a c e → IsJudged b c e
 judged_after h j = record {
   had_not_failed = h.not_failed;
   faults = j.faults ∙ sym h.faults;
@@ -125,9 +125,9 @@ judged_after h j = record {
 }
 
 pub IsUnmoved-refl : (a : State) → IsUnmoved a a
-IsUnmoved-refl a = record { input = Keeps-refl a.input; taken = refl; peeked = refl; faults = refl }
+IsUnmoved-refl a = record { input = Keeps-refl a.input; consumed = refl; peeked = refl; faults = refl }
 
-took_none : (a : State) → TakesSome a a
+took_none : (a : State) → ConsumesSome a a
 took_none a = record { bytes = []; input = Consumes-nil a.input; count = omega arith }
 
 -- it had failed before
@@ -135,7 +135,7 @@ pub fails_again : (a : State) {e : Asn1DerError} → a.failed ≡ Some (failure_
 fails_again a {e} h = record {
   failed = h;
   again = λ f w. (let q : Some (failure_of e) ≡ Some f = sym h ∙ w in cc, IsUnmoved-refl a);
-  faults = TellsFault.no_fault refl;
+  faults = ReportsFault.no_fault refl;
   unpeeked = λ more. absurd (more refl);
   other = λ w. absurd (let q : None ≡ Some (failure_of e) = sym w ∙ h in cc);
   took = took_none a;

@@ -3,7 +3,7 @@ use Rattle.std.proofs.Common.{◌≡◌, ℕ, zero, suc, List, [], ◌∷◌, le
 use lib.Pointwise.{pointwise}
 use Rattle.picky_der_core.specs.Tree.{ListKind, Tree, Trees, trees}
 use Rattle.picky_der_core.specs.Readable.{IsReadable, AreReadable}
-use Rattle.picky_der_core.specs.Shape.{Shape, IsOf, AreMembersOf, EachIs, IsSound, Layout, AreMembersSound, AreMembersTold}
+use Rattle.picky_der_core.specs.Shape.{Shape, IsOf, AreMembersOf, EachIs, IsSound, Layout, AreMembersSound, AreMembersDistinct}
 use Rattle.picky_der_ser.specs.Meaning.{list_meaning, if_as_many, array_meaning}
 use Rattle.picky_der_de.specs.InjectiveLaws.{IsInjective, HasShape, list_injective}
 
@@ -20,12 +20,12 @@ slots_sound : (n : ℕ) (s : Shape) → IsSound s → AreMembersSound (times n s
 slots_sound zero s h = tt
 slots_sound (suc n) s h = (h, slots_sound n s h)
 
-slots_told : (n : ℕ) (s : Shape) → AreMembersTold (times n s)
-slots_told zero s = tt
-slots_told (suc n) s = slots_told n s
+slots_distinct : (n : ℕ) (s : Shape) → AreMembersDistinct (times n s)
+slots_distinct zero s = tt
+slots_distinct (suc n) s = slots_distinct n s
 
 pub array_sound : (n : ℕ) (s : Shape) → IsSound s → IsSound (array_of n s)
-array_sound n s h = (slots_sound n s h, slots_told n s)
+array_sound n s h = (slots_sound n s h, slots_distinct n s)
 
 -- each is of that shape
 pub slots_each : (n : ℕ) (s : Shape) (ts : Trees) → AreMembersOf (times n s) ts → EachIs (IsOf s) ts

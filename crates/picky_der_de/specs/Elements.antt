@@ -7,7 +7,7 @@ use Rattle.picky_der_core.specs.Tree.{Tree}
 use Rattle.picky_der_core.specs.Shape.{Shape}
 use Rattle.picky_der_core.specs.Refusal.{Refusal, element_refusal}
 use Rattle.picky_der_de.specs.State.{State}
-use Rattle.picky_der_de.specs.Steps.{Takes, is_hard}
+use Rattle.picky_der_de.specs.Steps.{Consumed, is_hard}
 use Rattle.picky_der_de.specs.Reading.{Reads, Refuses, AreNotRefused, AreJustRefused}
 
 -- how an element is refused there, if it is; it keeps its header directly under an implicit tag
@@ -20,7 +20,7 @@ without_implicit_tag s = record s { implicit_tag = None }
 
 -- the header of an element was consumed, and its content is next, n bytes of it
 pub record BeginsElement (old new : State) (tag n : ℕ) : Type 0 where
-  pub takes : Takes (without_implicit_tag old) new (tag ∷ length_octets n)
+  pub consumes : Consumed (without_implicit_tag old) new (tag ∷ length_octets n)
   pub number : IsTagNumber (number_of tag)
   pub byte : tag < 256
   pub implicit_tag : new.implicit_tag ≡ None

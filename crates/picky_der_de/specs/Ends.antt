@@ -7,32 +7,32 @@ use Rattle.picky_der_core.specs.Refusal.{Refusal, header_refusal}
 use Rattle.picky_der_de.specs.declared.end.End.{End}
 use Rattle.picky_der_de.specs.declared.end.End.TheVariants.{Soft}
 use Rattle.picky_der_de.specs.State.{State}
-use Rattle.picky_der_de.specs.Steps.{Fails, TakesNoMemory, failed_with, error_at_end, is_hard}
+use Rattle.picky_der_de.specs.Steps.{Fails, UsesNoMemory, failed_with, error_at_end, is_hard}
 use Rattle.picky_der_de.specs.Order.{order_of, sets_inside, last_start, cut_at}
 use Rattle.picky_der_de.specs.Reading.{AreNotRefused}
 use Rattle.picky_der_de.specs.Headers.{BeginsContent, RefusesBegin}
 
 -- What is restored when an end is closed: how many bytes are before the end around it, and what this end is. If it is that of a set, also how many bytes are
 -- kept before the encoding of its last member.
-pub record Outer : Type 0 where
+pub record EnclosingEnd : Type 0 where
   pub position : ℕ
   pub kind : End
   pub last_start : Option ℕ
 
 -- the innermost end, to be put back
-abbrev pub innermost : State → Outer
-innermost s = record { position = s.taken + s.until_end; kind = s.end; last_start = last_start s.sets }
+abbrev pub innermost : State → EnclosingEnd
+innermost s = record { position = s.consumed + s.until_end; kind = s.end; last_start = last_start s.sets }
 
 -- an end of this kind was opened this many bytes from here
 abbrev pub with_inner_end : State → ℕ → End → State
 with_inner_end s n kind = record s { until_end = n; end = kind; sets = sets_inside None s.sets }
 
 -- the end around the innermost one was put back
-abbrev pub with_outer_end : Outer → State → State
-with_outer_end outer s = record s { until_end = outer.position - s.taken; end = outer.kind; sets = cut_at outer.last_start s.sets.around }
+abbrev pub with_outer_end : EnclosingEnd → State → State
+with_outer_end outer s = record s { until_end = outer.position - s.consumed; end = outer.kind; sets = cut_at outer.last_start s.sets.around }
 
 -- the end was reached, and the one around it is the innermost again
-pub record Closes (outer : Outer) (old new : State) : Type 0 where
+pub record Closes (outer : EnclosingEnd) (old new : State) : Type 0 where
   pub reached : old.until_end ≡ 0
   pub had_not_failed : old.failed ≡ None
   pub same : new ≡ with_outer_end outer old
@@ -53,7 +53,7 @@ abbrev pub list_refusal : ℕ → State → List ℕ → Option Refusal
 list_refusal tag s rest = list_refusal_in s.implicit_tag tag s rest
 
 -- the header under this tag was consumed, if one is there, and a soft end was opened where the content ends
-pub record OpensList (tag : ℕ) (old new : State) (outer : Outer) : Type 0 where
+pub record OpensList (tag : ℕ) (old new : State) (outer : EnclosingEnd) : Type 0 where
   pub mid : State
   pub size : ℕ
   pub begins : BeginsContent tag old mid size
@@ -64,13 +64,13 @@ pub record OpensList (tag : ℕ) (old new : State) (outer : Outer) : Type 0 wher
 -- the header was refused, with exactly its error and rest; nothing was allocated
 pub record RefusesList (tag : ℕ) (old new : State) (e : Asn1DerError) : Type 0 where
   pub begin : RefusesBegin tag old new e
-  pub memory : TakesNoMemory old new e
+  pub memory : UsesNoMemory old new e
 
 -- A soft end was opened this many bytes from here, or it would have been past the innermost end, and then the deserializer has
 -- failed. One that had failed is as it was. No order of members is tested before that end.
-pub record OpensLazily (size : ℕ) (old new : State) (outer : Outer) : Type 0 where
+pub record OpensLazily (size : ℕ) (old new : State) (outer : EnclosingEnd) : Type 0 where
   pub again : (f : Failure) → old.failed ≡ Some f → new ≡ old
   pub past : old.failed ≡ None → old.until_end < size → new ≡ failed_with old (error_at_end old.end)
   pub opened : old.failed ≡ None → size ≤ old.until_end → new ≡ record (with_inner_end old size Soft) { implicit_tag = None }
   pub outer_end : old.failed ≡ None → size ≤ old.until_end → outer ≡ innermost old
-  pub position : outer.position ≡ old.taken + old.until_end
+  pub position : outer.position ≡ old.consumed + old.until_end

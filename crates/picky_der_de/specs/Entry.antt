@@ -4,7 +4,7 @@ use Rattle.std.specs.Io.KnownBytes.{Consumes, Keeps, IsAtEnd}
 use Rattle.picky_der_core.specs.declared.error.Asn1DerError.{Asn1DerError}
 use Rattle.picky_der_core.specs.declared.error.Asn1DerError.TheVariants.{TruncatedData, OutOfMemory}
 use Rattle.picky_der_core.specs.Faults.{Fault}
-use Rattle.picky_der_core.specs.Reader.{TellsFault}
+use Rattle.picky_der_core.specs.Reader.{ReportsFault}
 use Rattle.picky_der_core.specs.Tree.{Tree}
 use Rattle.picky_der_core.specs.Encoding.{der}
 use Rattle.picky_der_core.specs.Readable.{IsReadable}
@@ -44,12 +44,12 @@ pub record ReadsFront {V : Type 0} (meaning : V → Tree) (s : Shape) (eq : V �
   pub of_shape : IsOf s (meaning v)
   pub readable : IsReadable (meaning v)
   pub within : length (der (meaning v)) ≤ limit
-  pub drawn : Consumes old.input new.input (der (meaning v))
+  pub fetched : Consumes old.input new.input (der (meaning v))
   pub front : (input : List ℕ) → old.input ≡ Some input → IsFront meaning s eq input limit v
   pub faults : new.faults ≡ old.faults
 
 -- the consumed bytes
-pub record Draws (limit : ℕ) (old new : Option (List ℕ)) : Type 0 where
+pub record Fetches (limit : ℕ) (old new : Option (List ℕ)) : Type 0 where
   pub bytes : List ℕ
   pub are : Consumes old new bytes
   pub within : length bytes ≤ limit
@@ -61,9 +61,9 @@ pub record RefusesFront {V : Type 0} (meaning : V → Tree) (s : Shape) (limit :
   pub final : new.faults ≡ old.faults → e ≢ OutOfMemory → (d left : List ℕ) → old.input ≡ Some (d ++ left) → new.input ≡ Some left → IsMendable meaning s Place.whole d any_length → e ≡ TruncatedData
   -- it isn't called cut short at a byte with which no value begins
   pub first : new.faults ≡ old.faults → e ≡ TruncatedData → 0 < limit → (b : ℕ) (left : List ℕ) → old.input ≡ Some (b ∷ left) → IsFirst s b
-  pub drawn : Draws limit old.input new.input
+  pub fetched : Fetches limit old.input new.input
   -- the reader failed at most once; then the error is what that becomes, and nothing was consumed after it
-  pub faults : TellsFault old.faults new.faults new.input e
+  pub faults : ReportsFault old.faults new.faults new.input e
   -- `Other` comes from an I/O error alone
   pub other : new.faults ≡ old.faults → IsOther e → ⊥
 

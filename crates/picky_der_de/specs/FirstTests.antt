@@ -3,27 +3,27 @@ use Rattle.std.specs.Prelude.{◌≡◌, ℕ, Bool, true, false, not, ◌&&◌, 
 use Rattle.std.specs.List.{list_all, filter}
 use Rattle.std.proofs.Common.{subst, sym, ◌∙◌, eqb-true}
 use Rattle.std.proofs.lemmas.Bool.{and_parts}
-use Rattle.picky_der_core.specs.Shape.{Layout, AreMembersTold, firsts, next_firsts, contains, are_apart, tags_below}
+use Rattle.picky_der_core.specs.Shape.{Layout, AreMembersDistinct, firsts, next_firsts, contains, are_disjoint, tags_below}
 use Rattle.picky_der_de.specs.InjectiveLaws.{both}
 
 -- None of these bytes begins the first of the members. After the last member nothing comes, and nothing has to be distinguished.
-abbrev pub is_apart : List ℕ → Layout → Bool
-is_apart fs Layout.empty = true
-is_apart fs (Layout.required s l) = are_apart fs (firsts s)
-is_apart fs (Layout.maybe s l) = are_apart fs (firsts s) && is_apart fs l
-is_apart fs (Layout.others excluded) = list_all (contains excluded) fs
+abbrev pub is_disjoint : List ℕ → Layout → Bool
+is_disjoint fs Layout.empty = true
+is_disjoint fs (Layout.required s l) = are_disjoint fs (firsts s)
+is_disjoint fs (Layout.maybe s l) = are_disjoint fs (firsts s) && is_disjoint fs l
+is_disjoint fs (Layout.others excluded) = list_all (contains excluded) fs
 
-abbrev pub are_members_told : Layout → Bool
-are_members_told Layout.empty = true
-are_members_told (Layout.required s l) = are_members_told l
-are_members_told (Layout.maybe s l) = is_apart (firsts s) l && are_members_told l
-are_members_told (Layout.others excluded) = true
+abbrev pub are_members_distinct : Layout → Bool
+are_members_distinct Layout.empty = true
+are_members_distinct (Layout.required s l) = are_members_distinct l
+are_members_distinct (Layout.maybe s l) = is_disjoint (firsts s) l && are_members_distinct l
+are_members_distinct (Layout.others excluded) = true
 
 -- ---- what it tests
 
-apart_from_none : (fs : List ℕ) → are_apart fs [] ≡ true
-apart_from_none [] = refl
-apart_from_none (f ∷ fs) = apart_from_none fs
+disjoint_from_none : (fs : List ℕ) → are_disjoint fs [] ≡ true
+disjoint_from_none [] = refl
+disjoint_from_none (f ∷ fs) = disjoint_from_none fs
 
 not_in_both : (f : ℕ) (gs hs : List ℕ) → not (contains gs f) ≡ true → not (contains hs f) ≡ true → not (contains (gs ++ hs) f) ≡ true
 not_in_both f [] hs p q = q
@@ -33,12 +33,12 @@ not_in_both f (g ∷ gs) hs p q = by_first (f == g) p (λ r. not_in_both f gs hs
     by_first true r next = cc
     by_first false r next = next r
 
-apart_from_both : (fs gs hs : List ℕ) → are_apart fs gs ≡ true → are_apart fs hs ≡ true → are_apart fs (gs ++ hs) ≡ true
-apart_from_both [] gs hs p q = refl
-apart_from_both (f ∷ fs) gs hs p q =
-    let a = and_parts (not (contains gs f)) (are_apart fs gs) p in
-    let b = and_parts (not (contains hs f)) (are_apart fs hs) q in
-    both (not_in_both f gs hs a.0 b.0) (apart_from_both fs gs hs a.1 b.1)
+disjoint_from_both : (fs gs hs : List ℕ) → are_disjoint fs gs ≡ true → are_disjoint fs hs ≡ true → are_disjoint fs (gs ++ hs) ≡ true
+disjoint_from_both [] gs hs p q = refl
+disjoint_from_both (f ∷ fs) gs hs p q =
+    let a = and_parts (not (contains gs f)) (are_disjoint fs gs) p in
+    let b = and_parts (not (contains hs f)) (are_disjoint fs hs) q in
+    both (not_in_both f gs hs a.0 b.0) (disjoint_from_both fs gs hs a.1 b.1)
 
 -- an excluded byte is none of the bytes that are left
 pub excluded_not_left : (excluded : List ℕ) (x : ℕ) (xs : List ℕ) → contains excluded x ≡ true → not (contains (filter (λ b. not (contains excluded b)) xs) x) ≡ true
@@ -59,24 +59,24 @@ excluded_not_left excluded x (y ∷ ys) h = by_test (contains excluded y) refl (
             cc
         by_first false same = next
 
-apart_from_left : (excluded fs : List ℕ) → list_all (contains excluded) fs ≡ true → are_apart fs (filter (λ b. not (contains excluded b)) (tags_below 256)) ≡ true
-apart_from_left excluded [] h = refl
-apart_from_left excluded (f ∷ fs) h =
+disjoint_from_left : (excluded fs : List ℕ) → list_all (contains excluded) fs ≡ true → are_disjoint fs (filter (λ b. not (contains excluded b)) (tags_below 256)) ≡ true
+disjoint_from_left excluded [] h = refl
+disjoint_from_left excluded (f ∷ fs) h =
     let parts = and_parts (contains excluded f) (list_all (contains excluded) fs) h in
-    both (excluded_not_left excluded f (tags_below 256) parts.0) (apart_from_left excluded fs parts.1)
+    both (excluded_not_left excluded f (tags_below 256) parts.0) (disjoint_from_left excluded fs parts.1)
 
-apart_of : (fs : List ℕ) (l : Layout) → is_apart fs l ≡ true → are_apart fs (next_firsts l) ≡ true
-apart_of fs Layout.empty h = apart_from_none fs
-apart_of fs (Layout.required s l) h = h
-apart_of fs (Layout.maybe s l) h =
-    let parts = and_parts (are_apart fs (firsts s)) (is_apart fs l) h in
-    apart_from_both fs (firsts s) (next_firsts l) parts.0 (apart_of fs l parts.1)
-apart_of fs (Layout.others excluded) h = apart_from_left excluded fs h
+disjoint_of : (fs : List ℕ) (l : Layout) → is_disjoint fs l ≡ true → are_disjoint fs (next_firsts l) ≡ true
+disjoint_of fs Layout.empty h = disjoint_from_none fs
+disjoint_of fs (Layout.required s l) h = h
+disjoint_of fs (Layout.maybe s l) h =
+    let parts = and_parts (are_disjoint fs (firsts s)) (is_disjoint fs l) h in
+    disjoint_from_both fs (firsts s) (next_firsts l) parts.0 (disjoint_of fs l parts.1)
+disjoint_of fs (Layout.others excluded) h = disjoint_from_left excluded fs h
 
-pub members_told : (l : Layout) → are_members_told l ≡ true → AreMembersTold l
-members_told Layout.empty h = tt
-members_told (Layout.required s l) h = members_told l h
-members_told (Layout.maybe s l) h =
-    let parts = and_parts (is_apart (firsts s) l) (are_members_told l) h in
-    (apart_of (firsts s) l parts.0, members_told l parts.1)
-members_told (Layout.others excluded) h = tt
+pub members_distinct : (l : Layout) → are_members_distinct l ≡ true → AreMembersDistinct l
+members_distinct Layout.empty h = tt
+members_distinct (Layout.required s l) h = members_distinct l h
+members_distinct (Layout.maybe s l) h =
+    let parts = and_parts (is_disjoint (firsts s) l) (are_members_distinct l) h in
+    (disjoint_of (firsts s) l parts.0, members_distinct l parts.1)
+members_distinct (Layout.others excluded) h = tt

@@ -6,13 +6,13 @@ use Rattle.picky_der_core.specs.declared.error.Asn1DerError.TheVariants.{Truncat
 use Rattle.picky_der_core.specs.Element.{length_octets, tlv}
 use Rattle.picky_der_core.specs.Refusal.{length_of, header_refusal}
 use Rattle.picky_der_de.specs.State.{State}
-use Rattle.picky_der_de.specs.Steps.{Takes, TakesBytes, Fails, IsCut, IsJudged, failed_with, is_hard, error_at_end}
+use Rattle.picky_der_de.specs.Steps.{Consumed, ConsumesBytes, Fails, IsCut, IsJudged, failed_with, is_hard, error_at_end}
 use Rattle.picky_der_de.specs.Reading.{AllConcerned, AreJustRefused}
 
 -- why no length was read: a byte was missing, or what was consumed begins none
 pub data StopsLength (old new : State) (e : Asn1DerError) : Type 0 where
   cut : (n : ℕ) (c : IsCut old new n e) → ((lacking : Asn1DerError) → length_of lacking c.bytes ≡ Err (lacking, [])) → StopsLength old new e
-  bad : (mid : State) (bytes : List ℕ) → Takes old mid bytes → new ≡ failed_with mid e → ((lacking : Asn1DerError) (y : List ℕ) → length_of lacking (bytes ++ y) ≡ Err (e, y)) → StopsLength old new e
+  bad : (mid : State) (bytes : List ℕ) → Consumed old mid bytes → new ≡ failed_with mid e → ((lacking : Asn1DerError) (y : List ℕ) → length_of lacking (bytes ++ y) ≡ Err (e, y)) → StopsLength old new e
 
 -- no length was read
 pub record RefusesLength (old new : State) (e : Asn1DerError) : Type 0 where
@@ -22,7 +22,7 @@ pub record RefusesLength (old new : State) (e : Asn1DerError) : Type 0 where
 -- why no length of a content was read: there is no length, or it reaches past the innermost end
 pub data StopsContentLength (old new : State) (e : Asn1DerError) : Type 0 where
   no_length : StopsLength old new e → StopsContentLength old new e
-  too_long : (mid : State) (n : ℕ) → Takes old mid (length_octets n) → n < 2 ^ 64 → mid.until_end < n → e ≡ error_at_end mid.end → new ≡ failed_with mid e → StopsContentLength old new e
+  too_long : (mid : State) (n : ℕ) → Consumed old mid (length_octets n) → n < 2 ^ 64 → mid.until_end < n → e ≡ error_at_end mid.end → new ≡ failed_with mid e → StopsContentLength old new e
 
 -- no length of a content that ends before the innermost end was read
 pub record RefusesContentLength (old new : State) (e : Asn1DerError) : Type 0 where
@@ -47,7 +47,7 @@ header_bytes (Some number) tag n = []
 
 -- the content of an element with this tag is next, n bytes of it
 pub record BeginsContent (tag : ℕ) (old new : State) (n : ℕ) : Type 0 where
-  pub takes : Takes old new (header_bytes old.implicit_tag tag n)
+  pub consumes : Consumed old new (header_bytes old.implicit_tag tag n)
   pub implicit_tag : new.implicit_tag ≡ None
   pub fits : n ≤ new.until_end
   pub all : IfSome old.implicit_tag (λ number. n ≡ new.until_end)
@@ -62,5 +62,5 @@ pub record RefusesBegin (tag : ℕ) (old new : State) (e : Asn1DerError) : Type 
 -- a number was read from this many bytes
 pub record ReadsDigits (old new : State) (count n : ℕ) : Type 0 where
   pub digits : List ℕ
-  pub takes : TakesBytes old new count digits
+  pub consumes : ConsumesBytes old new count digits
   pub number : n ≡ number_from_digits 256 digits

@@ -105,7 +105,7 @@ list_injective {V} meaning s eq known xs ys p q r e =
     same_items meaning eq (λ v. IsOf s (meaning v) × IsReadable (meaning v)) (λ vs. EachIs (IsOf s) (trees (map meaning vs)) × AreReadable (trees (map meaning vs))) (λ v vs h. ((h.0.0, h.1.0), (h.0.1, h.1.1)))
     (λ x y h k g. known x y h.0 k.0 h.1 g) xs ys (p, r) (q, subst AreReadable f r) f
 
--- ---- rows, whose members are each known
+-- ---- members, each of which is known
 
 pub list_members : {k l : ListKind} {ts us : Trees} → Tree.list k ts ≡ Tree.list l us → ts ≡ us
 list_members e = cc

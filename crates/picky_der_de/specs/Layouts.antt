@@ -6,13 +6,13 @@ use Rattle.picky_der_core.specs.Tree.{Tree, Trees}
 use Rattle.picky_der_core.specs.Encoding.{encodings}
 use Rattle.picky_der_core.specs.Readable.{IsReadable, AreReadable}
 use Rattle.picky_der_core.specs.FirstLaws.{BeginsIn}
-use Rattle.picky_der_core.specs.Shape.{Shape, Layout, IsFirst, AreMembersOf, AreMembersTold}
+use Rattle.picky_der_core.specs.Shape.{Shape, Layout, IsFirst, AreMembersOf, AreMembersDistinct}
 use Rattle.picky_der_de.specs.State.{State}
-use Rattle.picky_der_de.specs.Steps.{Takes, Fails}
+use Rattle.picky_der_de.specs.Steps.{Consumed, Fails}
 use Rattle.picky_der_de.specs.Order.{AreInOrder, without_order}
 use Rattle.picky_der_de.specs.Refusing.{FailsAs}
 use Rattle.picky_der_de.specs.LookAhead.{Peeks, Identifies, RefusesIdentifier}
-use Rattle.picky_der_de.specs.Members.{ReadsMember, RefusesMember, HasNoMore, members_encoding, StandUpToEnd, RefusesRest}
+use Rattle.picky_der_de.specs.Members.{ReadsMember, RefusesMember, HasNoMore, members_encoding, AreUpToEnd, RefusesRest}
 
 -- ---- one member that may be missing
 
@@ -38,14 +38,14 @@ pub data Presence : Type 0 where
   perhaps : Presence
 
 -- a member before others
-abbrev pub component_then : Presence → Shape → Layout → Layout
-component_then always = Layout.required
-component_then perhaps = Layout.maybe
+abbrev pub layout_with : Presence → Shape → Layout → Layout
+layout_with always = Layout.required
+layout_with perhaps = Layout.maybe
 
 -- why it wasn't read: one that is always there is no default
-abbrev pub RefusesComponent : {V : Type 0} → Presence → (V → Tree) → (V → Bool) → Shape → State → State → Asn1DerError → Type 0
-RefusesComponent always meaning left_out = RefusesMember meaning
-RefusesComponent perhaps meaning left_out = RefusesDefault meaning left_out
+abbrev pub RefusesLayoutMember : {V : Type 0} → Presence → (V → Tree) → (V → Bool) → Shape → State → State → Asn1DerError → Type 0
+RefusesLayoutMember always meaning left_out = RefusesMember meaning
+RefusesLayoutMember perhaps meaning left_out = RefusesDefault meaning left_out
 
 -- ---- all members of a layout
 
@@ -57,7 +57,7 @@ pub data PeeksAtMost (old new : State) : Type 0 where
 -- these bytes were consumed, and at most a peek at the byte after them
 pub record Passes (old new : State) (bytes : List ℕ) : Type 0 where
   pub mid : State
-  pub takes : Takes (without_order old) (without_order mid) bytes
+  pub consumes : Consumed (without_order old) (without_order mid) bytes
   pub peeks_at_most : PeeksAtMost mid new
 
 -- These members were read. Where something is left after them, no members are there that reach up to the end.
@@ -70,11 +70,11 @@ pub record ReadsLayout (l : Layout) (old new : State) (ts : Trees) : Type 0 wher
   pub implicit_tag : new.implicit_tag ≡ None
   -- what fails after them has failed from before them
   pub fails : (last : State) (e : Asn1DerError) → Fails new last e → Fails old last e
-  pub full : AreMembersTold l → (last : State) (e : Asn1DerError) → Fails new last e → 0 < new.until_end → (us : Trees) → AreMembersOf l us → AreReadable us → StandUpToEnd old last e (members_encoding us) → ⊥
+  pub full : AreMembersDistinct l → (last : State) (e : Asn1DerError) → Fails new last e → 0 < new.until_end → (us : Trees) → AreMembersOf l us → AreReadable us → AreUpToEnd old last e (members_encoding us) → ⊥
 
 -- no values are there as members up to the end, where the first byte distinguishes missing members
 pub record RefusesLayout {V : Type 0} (members : V → Trees) (l : Layout) (old new : State) (e : Asn1DerError) : Type 0 where
-  pub rest : RefusesRest (λ v. AreMembersTold l × AreMembersOf l (members v)) members old new e
+  pub rest : RefusesRest (λ v. AreMembersDistinct l × AreMembersOf l (members v)) members old new e
 
 -- ---- laws
 

@@ -22,10 +22,13 @@ pub mod Firsts
 pub mod FirstTests
 pub mod FourChoices
 pub mod InjectiveLaws
-pub mod Known
-pub mod KnownChoices
-pub mod KnownContainers
-pub mod KnownMembers
+pub mod Facts
+pub mod ChoiceFacts
+pub mod ContainerFacts
+pub mod MembersFacts
+pub mod Faithful
+pub mod MadeValues
+pub mod Examples
 pub mod LayoutLaws
 pub mod Layouts
 pub mod Lending

@@ -7,7 +7,7 @@ use Rattle.picky_der_core.specs.declared.error.Asn1DerError.TheVariants.{Invalid
 use Rattle.picky_der_core.specs.Element.{IsPrefix}
 use Rattle.picky_der_core.specs.Refusal.{Refusal, missing_byte}
 use Rattle.picky_der_de.specs.State.{State}
-use Rattle.picky_der_de.specs.Steps.{Fails, IsJudged, IsMissing, TakesNoMemory, is_hard}
+use Rattle.picky_der_de.specs.Steps.{Fails, IsJudged, IsMissing, UsesNoMemory, is_hard}
 use Rattle.picky_der_de.specs.Reading.{AreNotRefused, AreJustRefused}
 
 -- ---- how it is refused, where the reader has `rest` of the bytes before the innermost end
@@ -50,7 +50,7 @@ pub record Peeks (old new : State) (b : ℕ) : Type 0 where
 pub record RefusesPeek (refusal : State → List ℕ → Option Refusal) (old new : State) (e : Asn1DerError) : Type 0 where
   pub fails : Fails old new e
   pub just : AreJustRefused (refusal old) old new e
-  pub memory : TakesNoMemory old new e
+  pub memory : UsesNoMemory old new e
   pub same : new ≡ record old { input = new.input; failed = Some (failure_of e); faults = new.faults }
 
 -- ---- identifiers
@@ -82,7 +82,7 @@ pub record HasEnded (old new : State) : Type 0 where
 -- ---- choices
 
 -- the byte that distinguishes the alternatives of a choice is next
-pub record TellsChoice (old new : State) (tag : ℕ) : Type 0 where
+pub record IdentifiesChoice (old new : State) (tag : ℕ) : Type 0 where
   pub peeks : Peeks old new tag
   pub no_refusal : AreNotRefused (choice_refusal old) old
 

@@ -10,7 +10,7 @@ use Rattle.picky_der_core.specs.Readable.{AreReadable}
 use Rattle.picky_der_core.specs.Shape.{Shape, Layout, IsOf, AreMembersOf, EachIs}
 use Rattle.picky_der_de.specs.declared.end.End.TheVariants.{Soft}
 use Rattle.picky_der_de.specs.State.{State}
-use Rattle.picky_der_de.specs.Steps.{Takes, Fails, IsJudged, failed_with}
+use Rattle.picky_der_de.specs.Steps.{Consumed, Fails, IsJudged, failed_with}
 use Rattle.picky_der_de.specs.Headers.{header_bytes}
 use Rattle.picky_der_de.specs.Order.{AreInOrder, without_order, SeesMember, Follows, RefusesTest}
 use Rattle.picky_der_de.specs.Reading.{Reads, Refuses, Concerns}
@@ -27,7 +27,7 @@ pub record ReadsMember (s : Shape) (old new : State) (t : Tree) : Type 0 where
 -- why none may come next: no value of the type is there, or one is there that was read and then refused
 pub data RefusesNext {V : Type 0} (meaning : V → Tree) (s : Shape) (old new : State) (e : Asn1DerError) : Type 0 where
   no_value : Refuses meaning s old new e → RefusesNext meaning s old new e
-  behind_value : (mid : State) (t : Tree) → Reads s old mid t → RefusesTest (der t) mid new e → RefusesNext meaning s old new e
+  after_value : (mid : State) (t : Tree) → Reads s old mid t → RefusesTest (der t) mid new e → RefusesNext meaning s old new e
 
 -- No member was read, and none is there that may come next.
 pub record RefusesMember {V : Type 0} (meaning : V → Tree) (s : Shape) (old new : State) (e : Asn1DerError) : Type 0 where
@@ -55,7 +55,7 @@ abbrev pub members_encoding : Trees → List ℕ
 members_encoding ts = concat (encodings ts)
 
 -- bytes to which a refusal applies begin with these, which don't reach past the end
-pub record StandBefore (old new : State) (e : Asn1DerError) (bytes : List ℕ) : Type 0 where
+pub record AreBefore (old new : State) (e : Asn1DerError) (bytes : List ℕ) : Type 0 where
   pub soft : old.end ≡ Soft
   pub seen : List ℕ
   pub concerns : Concerns old new e old.until_end seen
@@ -64,34 +64,34 @@ pub record StandBefore (old new : State) (e : Asn1DerError) (bytes : List ℕ) :
   pub within : length bytes ≤ old.until_end
 
 -- they reach up to the end
-pub record StandUpToEnd (old new : State) (e : Asn1DerError) (bytes : List ℕ) : Type 0 where
-  pub stand : StandBefore old new e bytes
+pub record AreUpToEnd (old new : State) (e : Asn1DerError) (bytes : List ℕ) : Type 0 where
+  pub are_before : AreBefore old new e bytes
   pub fills : length bytes ≡ old.until_end
 
 -- these members were read, and the one after them wasn't looked at
-pub record ReadsRow (l : Layout) (old new : State) (ts : Trees) : Type 0 where
+pub record ReadsMembers (l : Layout) (old new : State) (ts : Trees) : Type 0 where
   pub of_shape : AreMembersOf l ts
   pub readable : AreReadable ts
   pub order : AreInOrder old.sets (encodings ts)
-  pub takes : Takes (without_order old) (without_order new) (members_encoding ts)
+  pub consumes : Consumed (without_order old) (without_order new) (members_encoding ts)
   pub implicit_tag : new.implicit_tag ≡ None
 
 -- no value of which P holds is there by its members, which would be all up to the end
 pub record RefusesRest {V : Type 0} (P : V → Type 0) (members : V → Trees) (old new : State) (e : Asn1DerError) : Type 0 where
   pub fails : Fails old new e
-  pub none : IsJudged old new e → (v : V) → P v → AreReadable (members v) → AreInOrder old.sets (encodings (members v)) → StandUpToEnd old new e (members_encoding (members v)) → ⊥
+  pub none : IsJudged old new e → (v : V) → P v → AreReadable (members v) → AreInOrder old.sets (encodings (members v)) → AreUpToEnd old new e (members_encoding (members v)) → ⊥
 
 -- the encodings of members were consumed; without any, nothing was done
-abbrev pub TakesRow : State → State → Trees → Type 0
-TakesRow old new Trees.none = new ≡ old
-TakesRow old new (Trees.more t ts) = Takes (without_order old) (without_order new) (members_encoding (Trees.more t ts))
+abbrev pub ConsumesMembers : State → State → Trees → Type 0
+ConsumesMembers old new Trees.none = new ≡ old
+ConsumesMembers old new (Trees.more t ts) = Consumed (without_order old) (without_order new) (members_encoding (Trees.more t ts))
 
 -- all members up to the end were read
 pub record ReadsAll {V : Type 0} (meaning : V → Tree) (s : Shape) (old new : State) (vs : List V) : Type 0 where
   pub of_shape : EachIs (IsOf s) (trees (map meaning vs))
   pub readable : AreReadable (trees (map meaning vs))
   pub order : AreInOrder old.sets (encodings (trees (map meaning vs)))
-  pub takes : TakesRow old new (trees (map meaning vs))
+  pub consumes : ConsumesMembers old new (trees (map meaning vs))
   pub not_failed : new.failed ≡ None
   pub implicit_tag : new.implicit_tag ≡ None
   pub reached : new.until_end ≡ 0
@@ -104,9 +104,9 @@ pub record BreaksOrder {V : Type 0} (meaning : V → Tree) (s : Shape) (order : 
   pub broken : order (encodings (trees (map meaning (vs ++ v ∷ [])))) → ⊥
 
 -- these bytes were consumed, and a member in them was refused for its order
-pub record RefusesTaken (old new : State) (e : Asn1DerError) (bytes : List ℕ) : Type 0 where
+pub record RefusesConsumed (old new : State) (e : Asn1DerError) (bytes : List ℕ) : Type 0 where
   pub mid : State
-  pub takes : Takes (without_order old) (without_order mid) bytes
+  pub consumes : Consumed (without_order old) (without_order mid) bytes
   pub error : e ≡ InvalidData
   pub same : new ≡ failed_with mid e
 
@@ -114,8 +114,8 @@ pub record RefusesTaken (old new : State) (e : Asn1DerError) (bytes : List ℕ) 
 -- was read.
 pub record RefusesAll {V : Type 0} (meaning : V → Tree) (s : Shape) (old new : State) (e : Asn1DerError) : Type 0 where
   pub rest : RefusesRest (λ vs. EachIs (IsOf s) (trees (map meaning vs))) (λ vs. trees (map meaning vs)) old new e
-  pub lesser : IsJudged old new e → (vs : List V) (v : V) → BreaksOrder meaning s (AreInOrder old.sets) vs v → StandBefore old new e (members_encoding (trees (map meaning (vs ++ v ∷ []))))
-      → RefusesTaken old new e (members_encoding (trees (map meaning (vs ++ v ∷ []))))
+  pub lesser : IsJudged old new e → (vs : List V) (v : V) → BreaksOrder meaning s (AreInOrder old.sets) vs v → AreBefore old new e (members_encoding (trees (map meaning (vs ++ v ∷ []))))
+      → RefusesConsumed old new e (members_encoding (trees (map meaning (vs ++ v ∷ []))))
 
 -- ---- sets out of order
 

@@ -45,13 +45,13 @@ is_out_of_order s member = is_less_than s.last member
 abbrev pub with_last : OpenSets → List ℕ → OpenSets
 with_last s member = record s { last = option_map (λ last. member) s.last }
 
-abbrev pub AreBehind : Option (List ℕ) → List (List ℕ) → Type 0
-AreBehind None members = ⊤
-AreBehind (Some last) members = IsAscending (last ∷ members)
+abbrev pub AreAfter : Option (List ℕ) → List (List ℕ) → Type 0
+AreAfter None members = ⊤
+AreAfter (Some last) members = IsAscending (last ∷ members)
 
 -- these encodings are in order after the last one, where the order is tested
 abbrev pub AreInOrder : OpenSets → List (List ℕ) → Type 0
-AreInOrder s members = AreBehind s.last members
+AreInOrder s members = AreAfter s.last members
 
 -- the same, but no order is tested
 abbrev pub without_order : State → State

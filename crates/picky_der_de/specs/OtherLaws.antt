@@ -10,7 +10,7 @@ use Rattle.picky_der_core.specs.Shape.{Shape, Layout, AreOthers, EachIs, IsRaw, 
 use Rattle.picky_der_core.specs.FirstLaws.{begins_next, others_each}
 use Rattle.picky_der_de.specs.InjectiveLaws.{raw_injective, list_injective}
 use Rattle.picky_der_de.specs.Layouts.{AreBegunBy}
-use Rattle.picky_der_de.specs.LayoutLaws.{AreComponents}
+use Rattle.picky_der_de.specs.LayoutLaws.{AreLayoutMembers}
 
 module _ {E : Type 0} (bytes : E → List ℕ) where
   -- the trees of elements that are kept by their bytes
@@ -36,11 +36,11 @@ module _ {E : Type 0} (bytes : E → List ℕ) (excluded : List ℕ) where
   others_begin (e ∷ es) h = λ r. begins_next (Layout.others excluded) (Tree.raw (bytes e)) Trees.none ((r.1, h), tt) r
 
   pub others_are : {P : Type 0} (elements : P → List E) → ((p : P) → are_outside excluded bytes (elements p) ≡ true)
-      → AreComponents (λ p. others_of bytes (elements p)) (Layout.others excluded) (λ x y. AllByRecursion (λ b. b ≡ true) (pointwise (λ a b. pointwise eqb (bytes a) (bytes b)) (elements x) (elements y) ∷ []))
+      → AreLayoutMembers (λ p. others_of bytes (elements p)) (Layout.others excluded) (λ x y. AllByRecursion (λ b. b ≡ true) (pointwise (λ a b. pointwise eqb (bytes a) (bytes b)) (elements x) (elements y) ∷ []))
   others_are elements outside = record {
     begins = λ p. others_begin (elements p) (outside p);
     has_layout = λ p. others_have_layout (elements p) (outside p);
-    injective = λ told x y p q r e. (
+    injective = λ distinct x y p q r e. (
       list_injective (λ a. Tree.raw (bytes a)) Shape.raw (λ a b. pointwise eqb (bytes a) (bytes b)) (λ a b p q r e. raw_injective (bytes a) (bytes b) e) {k = ListKind.sequence} {l = ListKind.sequence} (elements x) (elements y)
           (others_each excluded _ p) (others_each excluded _ q) r (ap (Tree.list ListKind.sequence) e),
       tt,

@@ -59,8 +59,8 @@ int_too_long : (fits : ℤ → Bool) (b d : ℕ) (bs : List ℕ) → 16 ≤ leng
 int_too_long fits b d bs h = rw (lt-ltb 17 (length (b ∷ d ∷ bs)) (omega arith)) refl
 
 -- such a judge needs no more than 16 bytes after these
-few_behind : (judge : Judge) (e : Option Asn1DerError) (b d : ℕ) (bs : List ℕ) → ((xs : List ℕ) → 16 ≤ length xs → judge (b ∷ d ∷ xs) ≡ e) → judge (b ∷ d ∷ take 16 bs) ≡ judge (b ∷ d ∷ bs)
-few_behind judge e b d bs h = elim (cases_lt (length bs) 16) [
+few_after : (judge : Judge) (e : Option Asn1DerError) (b d : ℕ) (bs : List ℕ) → ((xs : List ℕ) → 16 ≤ length xs → judge (b ∷ d ∷ xs) ≡ e) → judge (b ∷ d ∷ take 16 bs) ≡ judge (b ∷ d ∷ bs)
+few_after judge e b d bs h = elim (cases_lt (length bs) 16) [
   | inl few ↦ let all : take 16 bs ≡ bs = grind (arith, common_steps) in ap (λ x. judge (b ∷ d ∷ x)) all
   | inr many ↦ let long : length (take 16 bs) ≡ 16 = grind (arith, common_steps) in h (take 16 bs) (omega arith) ∙ sym (h bs many)
 ]
@@ -68,12 +68,12 @@ few_behind judge e b d bs h = elim (cases_lt (length bs) 16) [
 unsigned_by_front : (most : ℕ) (c : List ℕ) → unsigned_error most (take 18 c) ≡ unsigned_error most c
 unsigned_by_front most [] = refl
 unsigned_by_front most (b ∷ []) = refl
-unsigned_by_front most (b ∷ d ∷ bs) = few_behind (unsigned_error most) _ b d bs (unsigned_too_long most b d)
+unsigned_by_front most (b ∷ d ∷ bs) = few_after (unsigned_error most) _ b d bs (unsigned_too_long most b d)
 
 int_by_front : (fits : ℤ → Bool) (c : List ℕ) → int_error fits (take 18 c) ≡ int_error fits c
 int_by_front fits [] = refl
 int_by_front fits (b ∷ []) = refl
-int_by_front fits (b ∷ d ∷ bs) = few_behind (int_error fits) _ b d bs (int_too_long fits b d)
+int_by_front fits (b ∷ d ∷ bs) = few_after (int_error fits) _ b d bs (int_too_long fits b d)
 
 -- ---- kinds that are read from their first bytes
 

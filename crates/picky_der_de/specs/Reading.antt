@@ -7,24 +7,24 @@ use Rattle.picky_der_core.specs.Tree.{Tree}
 use Rattle.picky_der_core.specs.Readable.{IsReadable}
 use Rattle.picky_der_core.specs.Shape.{Shape, IsOf, IsFirst}
 use Rattle.picky_der_core.specs.Integer.{integer_tree, int_tree}
-use Rattle.picky_der_core.specs.Reading.{written_at, MayStand, StandsAt}
+use Rattle.picky_der_core.specs.Reading.{written_at, MayBeAt, IsAtFront}
 use Rattle.picky_der_core.specs.Refusal.{Judge, Refusal, plain_refusal, inside_refusal, int_error, content_error}
 use Rattle.picky_der_de.specs.State.{State}
-use Rattle.picky_der_de.specs.Steps.{Takes, Fails, IsJudged, drawn_count, mendable_limit, place_of, is_hard}
+use Rattle.picky_der_de.specs.Steps.{Consumed, Fails, IsJudged, fetched_count, mendable_limit, place_of, is_hard}
 
 -- a tree of the shape was read
 pub record Reads (s : Shape) (old new : State) (t : Tree) : Type 0 where
   pub of_shape : IsOf s t
   pub readable : IsReadable t
-  pub may_stand : MayStand (place_of old) t
-  pub takes : Takes old new (written_at (place_of old) t)
+  pub may_be_there : MayBeAt (place_of old) t
+  pub consumes : Consumed old new (written_at (place_of old) t)
   pub implicit_tag : new.implicit_tag ≡ None
 
 -- The bytes to which a refusal applies, and the end before which they are: what the reader has, and, where the refusal is
 -- final, what was consumed with any bytes after it.
 pub data Concerns (old new : State) (e : Asn1DerError) (end : ℕ) (bs : List ℕ) : Type 0 where
   now : old.input ≡ Some bs → end ≡ old.until_end → Concerns old new e end bs
-  ever : e ≢ TruncatedData → end ≡ mendable_limit old → (d y left : List ℕ) → old.input ≡ Some (d ++ left) → length d + old.taken ≡ drawn_count new → bs ≡ d ++ y → Concerns old new e end bs
+  ever : e ≢ TruncatedData → end ≡ mendable_limit old → (d y left : List ℕ) → old.input ≡ Some (d ++ left) → length d + old.consumed ≡ fetched_count new → bs ≡ d ++ y → Concerns old new e end bs
 
 -- P of all bytes to which the refusal applies
 abbrev pub AllConcerned : State → State → Asn1DerError → (ℕ → List ℕ → Type 0) → Type 0
@@ -32,7 +32,7 @@ AllConcerned old new e P = IsJudged old new e → (end : ℕ) (bs : List ℕ) �
 
 -- no value of the type is at the front of these bytes
 abbrev pub NoValue : {V : Type 0} → (V → Tree) → Shape → State → ℕ → List ℕ → Type 0
-NoValue {V} meaning s old end bs = (v : V) → StandsAt (place_of old) s bs end (meaning v) → ⊥
+NoValue {V} meaning s old end bs = (v : V) → IsAtFront (place_of old) s bs end (meaning v) → ⊥
 
 -- a refusal that more bytes may change comes at no byte that is foreign to the shape
 abbrev pub IsNoForeign : Shape → State → State → Asn1DerError → Type 0
@@ -61,8 +61,8 @@ pub record IsJustRefused (refusal : List ℕ → Option Refusal) (old new : Stat
   pub refused : refusal (take old.until_end bs) ≡ Some (e, left)
   pub input : new.input ≡ Some (left ++ drop old.until_end bs)
   -- a peeked byte stays where nothing was consumed, and else was the first
-  pub kept : new.taken ≡ old.taken → new.peeked ≡ old.peeked
-  pub used : old.taken < new.taken → new.peeked ≡ None
+  pub kept : new.consumed ≡ old.consumed → new.peeked ≡ old.peeked
+  pub used : old.consumed < new.consumed → new.peeked ≡ None
 
 abbrev pub AreJustRefused : (List ℕ → Option Refusal) → State → State → Asn1DerError → Type 0
 AreJustRefused refusal old new e = IsJudged old new e → (bs : List ℕ) → old.input ≡ Some bs → IsJustRefused refusal old new e bs

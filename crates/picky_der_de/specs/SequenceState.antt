@@ -4,7 +4,7 @@ use Rattle.std.specs.declared.io.Read as read
 use Rattle.picky_der_core.specs.declared.misc.reader.ReadExt as reader
 use Rattle.picky_der_de.specs.declared.sequence.Sequence.{Sequence}
 use Rattle.picky_der_de.specs.State.{State}
-use Rattle.picky_der_de.specs.Ends.{Outer}
+use Rattle.picky_der_de.specs.Ends.{EnclosingEnd}
 
 module _ {R : Type 0} {g : reader.Ghosts R} {h : read.Ghosts R} where
   -- the state of the deserializer
@@ -16,5 +16,5 @@ module _ {R : Type 0} {g : reader.Ghosts R} {h : read.Ghosts R} where
   borrowed_by sequence = sequence.de.ghost_name
 
   -- the end that is the innermost again once the sequence is closed
-  abbrev pub outer_of : Sequence R g h → Outer
+  abbrev pub outer_of : Sequence R g h → EnclosingEnd
   outer_of sequence = sequence.outer

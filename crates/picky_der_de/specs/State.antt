@@ -1,4 +1,4 @@
--- What contracts see of an input, and of the deserializer that holds it.
+-- What contracts see of a deserializer.
 use Rattle.std.specs.Prelude.{ℕ, List, [], Option, None}
 use Rattle.picky_der_core.specs.declared.failure.Failure.{Failure}
 use Rattle.picky_der_core.specs.Faults.{Fault}
@@ -18,7 +18,7 @@ pub record State : Type 0 where
   -- the byte that was peeked
   pub peeked : Option ℕ
   -- how many bytes were consumed, a peeked one not counted
-  pub taken : ℕ
+  pub consumed : ℕ
   -- this many bytes may be consumed in all
   pub limit : ℕ
   -- how far ahead the innermost end is, and what it is
@@ -40,7 +40,7 @@ abbrev pub fresh : Option (List ℕ) → ℕ → List Fault → List ℕ → Sta
 fresh input limit faults references = record {
   input = input;
   peeked = None;
-  taken = 0;
+  consumed = 0;
   limit = limit;
   until_end = limit;
   end = Limit;

@@ -1,4 +1,4 @@
--- What the calls of an input do to it.
+-- What the calls of a deserializer do to it.
 use Rattle.std.specs.Prelude.{◌≡◌, ◌≢◌, ℕ, ◌+◌, ◌-◌, ◌^◌, ◌<◌, ◌≤◌, Bool, true, false, List, ◌++◌, length, take, Option, Some, None, IfSome, ⊤}
 use Rattle.std.specs.Io.KnownBytes.{Consumes, Keeps, IsAtEnd}
 use Rattle.picky_der_core.specs.Element.{AreBytes}
@@ -6,7 +6,7 @@ use Rattle.picky_der_core.specs.declared.error.Asn1DerError.{Asn1DerError}
 use Rattle.picky_der_core.specs.declared.failure.Failure.{Failure}
 use Rattle.picky_der_core.specs.Failure.{failure_of}
 use Rattle.picky_der_core.specs.declared.error.Asn1DerError.TheVariants.{TruncatedData, Other, OutOfMemory}
-use Rattle.picky_der_core.specs.Reader.{TellsFault}
+use Rattle.picky_der_core.specs.Reader.{ReportsFault}
 use Rattle.picky_der_core.specs.Peeking.{count_of_any}
 use Rattle.picky_der_core.specs.Refusal.{error_past_end}
 use Rattle.picky_der_core.specs.Reading.{Place}
@@ -15,8 +15,8 @@ use Rattle.picky_der_de.specs.declared.end.End.TheVariants.{Limit, Soft, Hard}
 use Rattle.picky_der_de.specs.State.{State}
 
 -- how many bytes were consumed from the reader
-abbrev pub drawn_count : State → ℕ
-drawn_count s = s.taken + count_of_any s.peeked
+abbrev pub fetched_count : State → ℕ
+fetched_count s = s.consumed + count_of_any s.peeked
 
 -- ---- ends
 
@@ -48,8 +48,8 @@ place_of s = place_in s.implicit_tag s.until_end
 
 -- no more was consumed than the limit allows, and the innermost end isn't past the limit
 pub record IsWithin (s : State) : Type 0 where
-  pub end : s.taken + s.until_end ≤ s.limit
-  pub drawn : drawn_count s ≤ s.limit
+  pub end : s.consumed + s.until_end ≤ s.limit
+  pub fetched : fetched_count s ≤ s.limit
 
 -- no byte is peeked directly under an implicit tag
 abbrev pub IsUnpeekedIfImplicit : Option ℕ → Option ℕ → Type 0
@@ -59,31 +59,31 @@ IsUnpeekedIfImplicit (Some tag) peeked = peeked ≡ None
 -- ---- steps
 
 -- these bytes were consumed, and nothing else changed
-pub record Takes (old new : State) (bytes : List ℕ) : Type 0 where
+pub record Consumed (old new : State) (bytes : List ℕ) : Type 0 where
   pub input : Consumes old.input new.input bytes
-  pub taken : new.taken ≡ old.taken + length bytes
+  pub consumed : new.consumed ≡ old.consumed + length bytes
   pub until_end : old.until_end ≡ length bytes + new.until_end
   pub end : new.end ≡ old.end
   pub limit : new.limit ≡ old.limit
   pub sets : new.sets ≡ old.sets
   pub unpeeked : new.peeked ≡ None
   -- a peeked byte was the first of them
-  pub drawn : drawn_count old ≤ new.taken
+  pub fetched : fetched_count old ≤ new.consumed
   pub had_not_failed : old.failed ≡ None
   pub not_failed : new.failed ≡ None
   pub faults : new.faults ≡ old.faults
   pub references : new.references ≡ old.references
 
 -- the bytes that a failed call consumed
-pub record TakesSome (old new : State) : Type 0 where
+pub record ConsumesSome (old new : State) : Type 0 where
   pub bytes : List ℕ
   pub input : Consumes old.input new.input bytes
-  pub count : new.taken ≡ old.taken + length bytes
+  pub count : new.consumed ≡ old.consumed + length bytes
 
 -- it had failed, and nothing was consumed
 pub record IsUnmoved (old new : State) : Type 0 where
   pub input : Keeps old.input new.input
-  pub taken : new.taken ≡ old.taken
+  pub consumed : new.consumed ≡ old.consumed
   pub peeked : new.peeked ≡ old.peeked
   pub faults : new.faults ≡ old.faults
 
@@ -96,27 +96,27 @@ abbrev pub IsOfContent : Asn1DerError → Type 0
 IsOfContent e = (IsOther e → ⊥) × (e ≢ OutOfMemory)
 
 -- no more was consumed than the reader had
-abbrev pub HasDrawn : Option (List ℕ) → ℕ → ℕ → Type 0
-HasDrawn input taken n = IfSome input (λ bs. n ≤ taken + length bs)
+abbrev pub HasFetched : Option (List ℕ) → ℕ → ℕ → Type 0
+HasFetched input consumed n = IfSome input (λ bs. n ≤ consumed + length bs)
 
 -- it has failed with this error, or had failed with one of its kind
 pub record Fails (old new : State) (e : Asn1DerError) : Type 0 where
   pub failed : new.failed ≡ Some (failure_of e)
   pub again : (f : Failure) → old.failed ≡ Some f → (failure_of e ≡ f) × IsUnmoved old new
   -- the reader failed at most once; then the error is what that becomes, and nothing was consumed after it
-  pub faults : TellsFault old.faults new.faults new.input e
+  pub faults : ReportsFault old.faults new.faults new.input e
   -- nor was a byte peeked
   pub unpeeked : new.faults ≢ old.faults → new.peeked ≡ None
   -- `Other` comes from an I/O error alone
   pub other : old.failed ≡ None → new.faults ≡ old.faults → IsOther e → ⊥
-  pub took : TakesSome old new
+  pub took : ConsumesSome old new
   -- a peeked byte stays, or was consumed
-  pub grows : drawn_count old ≤ drawn_count new
+  pub grows : fetched_count old ≤ fetched_count new
   -- the innermost end doesn't move away
-  pub end : new.taken + new.until_end ≤ old.taken + old.until_end
+  pub end : new.consumed + new.until_end ≤ old.consumed + old.until_end
   pub limit : new.limit ≡ old.limit
   pub within : IsWithin old → IsWithin new
-  pub there : old.failed ≡ None → HasDrawn old.input old.taken (drawn_count new)
+  pub there : old.failed ≡ None → HasFetched old.input old.consumed (fetched_count new)
   pub references : new.references ≡ old.references
 
 -- neither an I/O error nor out of memory
@@ -126,8 +126,8 @@ pub record IsJudged (old new : State) (e : Asn1DerError) : Type 0 where
   pub memory : e ≢ OutOfMemory
 
 -- nothing is allocated, unless the reader reports `OutOfMemory`
-abbrev pub TakesNoMemory : State → State → Asn1DerError → Type 0
-TakesNoMemory old new e = old.failed ≡ None → new.faults ≡ old.faults → e ≢ OutOfMemory
+abbrev pub UsesNoMemory : State → State → Asn1DerError → Type 0
+UsesNoMemory old new e = old.failed ≡ None → new.faults ≡ old.faults → e ≢ OutOfMemory
 
 -- why no byte came: the end is here, or the input ended before it
 pub data IsMissing (s : State) (e : Asn1DerError) : Type 0 where
@@ -144,11 +144,11 @@ failed_with s e = record s { failed = Some (failure_of e) }
 pub record IsCut (old new : State) (n : ℕ) (e : Asn1DerError) : Type 0 where
   pub mid : State
   pub bytes : List ℕ
-  pub takes : Takes old mid bytes
+  pub consumes : Consumed old mid bytes
   pub short : length bytes < n
   pub missing : IsMissing mid e
   pub input : Keeps mid.input new.input
-  pub taken : new.taken ≡ mid.taken
+  pub consumed : new.consumed ≡ mid.consumed
   pub peeked : new.peeked ≡ mid.peeked
 
 -- no byte came where fewer than n were consumed; or, after any number of them, an allocation failed
@@ -157,30 +157,30 @@ pub record StopsShort (old new : State) (n : ℕ) (e : Asn1DerError) : Type 0 wh
   pub short : IsJudged old new e → IsCut old new n e
 
 -- these bytes were consumed, n of them
-pub record TakesBytes (old new : State) (n : ℕ) (content : List ℕ) : Type 0 where
-  pub takes : Takes old new content
+pub record ConsumesBytes (old new : State) (n : ℕ) (content : List ℕ) : Type 0 where
+  pub consumes : Consumed old new content
   pub count : length content ≡ n
   pub bytes : AreBytes content
 
 -- a piece of a content was consumed, where so many of its bytes were left: n bytes, which are at the front of the buffer
-pub record TakesPiece (old new : State) (left n : ℕ) (buffer : List ℕ) : Type 0 where
-  pub takes : TakesBytes old new n (take n buffer)
+pub record ConsumesPiece (old new : State) (left n : ℕ) (buffer : List ℕ) : Type 0 where
+  pub consumes : ConsumesBytes old new n (take n buffer)
   pub some : 0 < n
   pub fits : n ≤ left
 
 -- a content of n bytes was consumed, and put after others
-pub record TakesBehind (front : List ℕ) (old new : State) (n : ℕ) (all : List ℕ) : Type 0 where
+pub record ConsumesAfter (front : List ℕ) (old new : State) (n : ℕ) (all : List ℕ) : Type 0 where
   pub content : List ℕ
-  pub takes : TakesBytes old new n content
+  pub consumes : ConsumesBytes old new n content
   pub is : all ≡ front ++ content
 
 -- a vector was made longer by no more bytes than were consumed
-abbrev pub GrowsByTaken : List ℕ → List ℕ → State → State → Type 0
-GrowsByTaken before behind old new = length behind + old.taken ≤ length before + new.taken
+abbrev pub GrowsByConsumed : List ℕ → List ℕ → State → State → Type 0
+GrowsByConsumed before after old new = length after + old.consumed ≤ length before + new.consumed
 
 -- a content of n bytes was consumed, and its first bytes are kept
-pub record TakesKept (old new : State) (n : ℕ) (kept : List ℕ) : Type 0 where
+pub record ConsumesKept (old new : State) (n : ℕ) (kept : List ℕ) : Type 0 where
   pub content : List ℕ
-  pub takes : Takes old new content
+  pub consumes : Consumed old new content
   pub count : length content ≡ n
   pub first : kept ≡ take 18 content

@@ -5,5 +5,5 @@ use Rattle.picky_der_core.specs.declared.error.Asn1DerError.TheVariants.{Invalid
 use Rattle.picky_der_core.specs.Tree.{Tree}
 
 -- this value of the twin is none of the type, unless an allocation failed
-abbrev pub TellsNone : {V W : Type 0} → (W → Tree) → (V → W) → W → Asn1DerError → Type 0
-TellsNone {V} meaning parts w e = (e ≡ OutOfMemory) ⊎ (e ≡ InvalidData) × ((v : V) → meaning (parts v) ≡ meaning w → ⊥)
+abbrev pub IsNoValue : {V W : Type 0} → (W → Tree) → (V → W) → W → Asn1DerError → Type 0
+IsNoValue {V} meaning parts w e = (e ≡ OutOfMemory) ⊎ (e ≡ InvalidData) × ((v : V) → meaning (parts v) ≡ meaning w → ⊥)

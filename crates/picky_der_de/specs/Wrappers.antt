@@ -11,9 +11,9 @@ use Rattle.picky_der_core.specs.Shape.{Shape}
 use Rattle.picky_der_core.specs.Refusal.{Refusal, ReadOutcome, wrapper_header, error_past_end}
 use Rattle.picky_der_de.specs.declared.end.End.TheVariants.{Hard}
 use Rattle.picky_der_de.specs.State.{State}
-use Rattle.picky_der_de.specs.Steps.{Takes, Fails, IsJudged, IsMissing, TakesNoMemory, failed_with, is_hard}
+use Rattle.picky_der_de.specs.Steps.{Consumed, Fails, IsJudged, IsMissing, UsesNoMemory, failed_with, is_hard}
 use Rattle.picky_der_de.specs.Reading.{Reads, Refuses, AllConcerned, AreNotRefused, AreJustRefused}
-use Rattle.picky_der_de.specs.Ends.{Outer, innermost, with_inner_end, with_outer_end, RefusesClose}
+use Rattle.picky_der_de.specs.Ends.{EnclosingEnd, innermost, with_inner_end, with_outer_end, RefusesClose}
 
 -- the shape, in a wrapper or as it is
 abbrev pub wrap_shape_if : Option Wrapper → Shape → Shape
@@ -32,14 +32,14 @@ unused_bits_refusal zero rest = Some (error_past_end true, rest)
 unused_bits_refusal (suc n) [] = Some (TruncatedData, [])
 unused_bits_refusal (suc n) (b ∷ bs) = if b == 0x00 then None else Some (InvalidData, bs)
 
-abbrev pub refusal_behind : Bool → ReadOutcome ℕ → Option Refusal
-refusal_behind counts (Err r) = Some r
-refusal_behind true (Ok (n, rest)) = unused_bits_refusal n rest
-refusal_behind false (Ok (n, rest)) = None
+abbrev pub refusal_after : Bool → ReadOutcome ℕ → Option Refusal
+refusal_after counts (Err r) = Some r
+refusal_after true (Ok (n, rest)) = unused_bits_refusal n rest
+refusal_after false (Ok (n, rest)) = None
 
 -- how the bytes before the value are refused, or none
 abbrev pub opening_refusal : Wrapper → State → List ℕ → Option Refusal
-opening_refusal w s rest = refusal_behind (counts_unused_bits w) (wrapper_header w (is_hard s.end) s.until_end rest)
+opening_refusal w s rest = refusal_after (counts_unused_bits w) (wrapper_header w (is_hard s.end) s.until_end rest)
 
 -- ---- openings
 
@@ -48,13 +48,13 @@ abbrev pub wrapper_opening : Wrapper → ℕ → List ℕ
 wrapper_opening w n = (wrapper_tag w ∷ length_octets n) ++ wrapper_front w
 
 -- What is before the value was consumed, and nothing else changed but for a hard end that was opened where the length says.
-pub record OpensWrapper (w : Wrapper) (old new : State) (outer : Outer) : Type 0 where
+pub record OpensWrapper (w : Wrapper) (old new : State) (outer : EnclosingEnd) : Type 0 where
   pub size : ℕ
   pub number : HasTagNumber w
   pub outer_end : outer ≡ innermost old
-  pub takes : Takes old (with_outer_end outer new) (wrapper_opening w size)
+  pub consumes : Consumed old (with_outer_end outer new) (wrapper_opening w size)
   pub until_end : size ≡ length (wrapper_front w) + new.until_end
-  pub within : new.taken + new.until_end ≤ outer.position
+  pub within : new.consumed + new.until_end ≤ outer.position
   pub end : new.end ≡ Hard
   pub implicit_tag : new.implicit_tag ≡ implicit_tag_of w
   pub bounded : old.until_end < 2 ^ 64
@@ -70,15 +70,15 @@ pub record RefusesOpening (w : Wrapper) (old new : State) (e : Asn1DerError) : T
   pub none : AllConcerned old new e (NoWrapper w)
   pub first : IsJudged old new e → e ≡ TruncatedData → 0 < old.until_end → (b : ℕ) (left : List ℕ) → old.input ≡ Some (b ∷ left) → (b ≡ wrapper_tag w) × HasTagNumber w
   pub just : AreJustRefused (opening_refusal w old) old new e
-  pub memory : TakesNoMemory old new e
+  pub memory : UsesNoMemory old new e
   pub bounded : old.failed ≡ None → old.until_end < 2 ^ 64
 
 -- the header was consumed, and the end was opened
-pub record BeginsWrapper (w : Wrapper) (old new : State) (outer : Outer) : Type 0 where
+pub record BeginsWrapper (w : Wrapper) (old new : State) (outer : EnclosingEnd) : Type 0 where
   pub mid : State
   pub size : ℕ
   pub number : HasTagNumber w
-  pub takes : Takes old mid (wrapper_tag w ∷ length_octets size)
+  pub consumes : Consumed old mid (wrapper_tag w ∷ length_octets size)
   pub fits : size ≤ mid.until_end
   pub opened : new ≡ with_inner_end mid size Hard
   pub outer_end : outer ≡ innermost mid
@@ -86,13 +86,13 @@ pub record BeginsWrapper (w : Wrapper) (old new : State) (outer : Outer) : Type 
 
 -- why the count of unused bits isn't 00: it is missing, or another byte was consumed
 pub data StopsUnusedBits (old new : State) (e : Asn1DerError) : Type 0 where
-  count_missing : IsMissing old e → Keeps old.input new.input → new.taken ≡ old.taken → new.peeked ≡ old.peeked → StopsUnusedBits old new e
-  count_other : (mid : State) (b : ℕ) → Takes old mid (b ∷ []) → b ≢ 0x00 → e ≡ InvalidData → new ≡ failed_with mid e → StopsUnusedBits old new e
+  count_missing : IsMissing old e → Keeps old.input new.input → new.consumed ≡ old.consumed → new.peeked ≡ old.peeked → StopsUnusedBits old new e
+  count_other : (mid : State) (b : ℕ) → Consumed old mid (b ∷ []) → b ≢ 0x00 → e ≡ InvalidData → new ≡ failed_with mid e → StopsUnusedBits old new e
 
 pub record RefusesUnusedBits (old new : State) (e : Asn1DerError) : Type 0 where
   pub fails : Fails old new e
   pub stops : IsJudged old new e → StopsUnusedBits old new e
-  pub memory : TakesNoMemory old new e
+  pub memory : UsesNoMemory old new e
 
 -- ---- values in wrappers
 
@@ -104,5 +104,5 @@ pub record ReadsWrapped (w : Wrapper) (s : Shape) (old new : State) (t : Tree) :
 -- Where a value in this wrapper was refused: before it, in it, where some read of the value is refused so, or after it.
 pub data RefusesWrapped {V : Type 0} (meaning : V → Tree) (s : Shape) (w : Wrapper) (old new : State) (e : Asn1DerError) : Type 0 where
   before_value : RefusesOpening w old new e → RefusesWrapped meaning s w old new e
-  in_value : (mid : State) (outer : Outer) → OpensWrapper w old mid outer → Refuses meaning s mid new e → RefusesWrapped meaning s w old new e
-  behind_value : (mid last : State) (outer : Outer) (t : Tree) → OpensWrapper w old mid outer → Reads s mid last t → RefusesClose last new e → RefusesWrapped meaning s w old new e
+  in_value : (mid : State) (outer : EnclosingEnd) → OpensWrapper w old mid outer → Refuses meaning s mid new e → RefusesWrapped meaning s w old new e
+  after_value : (mid last : State) (outer : EnclosingEnd) (t : Tree) → OpensWrapper w old mid outer → Reads s mid last t → RefusesClose last new e → RefusesWrapped meaning s w old new e

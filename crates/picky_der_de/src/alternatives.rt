@@ -3,8 +3,8 @@ ghost use Rattle.std.specs.Prelude.{◌↔◌, IsTrue, IfOk, IfErr};
 ghost use Rattle.picky_der_core.specs.Tree.{Tree};
 ghost use Rattle.picky_der_core.specs.Shape.{Shapes, firsts_of, contains};
 ghost use Rattle.picky_der_core.specs.Equality.{IsThatOf};
-ghost use Rattle.picky_der_de.specs.Choices.{ReadsBehind, RefusesBehind, chosen_of, equal_this_or_other};
-ghost use Rattle.picky_der_de.specs.KnownChoices.{KnownChoice, known_no_choice, known_this_or_other};
+ghost use Rattle.picky_der_de.specs.Choices.{ReadsAfter, RefusesAfter, chosen_of, equal_this_or_other};
+ghost use Rattle.picky_der_de.specs.ChoiceFacts.{ChoiceFacts, no_choice_facts, this_or_other_facts};
 
 use crate::{Begins, Deserializer};
 use picky_der_core::asn1::Tag;
@@ -41,8 +41,8 @@ pub trait Alternatives: Sized {
     // The tree of the value that was chosen, as a value of its own type.
     ghost chosen: { Self → Tree };
 
-    // What is known of the values: that these trees determine them, and what is owed for it.
-    ghost known: { KnownChoice Self shapes chosen };
+    // What the type says of its values: that these trees determine them. It follows from the premise.
+    ghost facts: { ChoiceFacts Self shapes chosen };
 
     // The tree of the value as a choice.
     ghost meaning: { Self → Tree };
@@ -55,11 +55,11 @@ pub trait Alternatives: Sized {
     ///
     /// `InvalidData` if no alternative begins with it. Any other error is the alternative's.
     fn deserialize_alternative<R: ReadExt>(tag: Tag, de: &mut Deserializer<R>) -> Result<Self>
-        ensures ok { IfOk result (λ value. ReadsBehind shapes tag de.old de.new (chosen value)) }
-        ensures err { IfErr result (RefusesBehind chosen shapes tag de.old de.new) };
+        ensures ok { IfOk result (λ value. ReadsAfter shapes tag de.old de.new (chosen value)) }
+        ensures err { IfErr result (RefusesAfter chosen shapes tag de.old de.new) };
 
-    // What is owed.
-    ghost owed: { known.Owed };
+    // The premise, proved.
+    ghost premise: { facts.Premise };
 }
 
 impl Alternatives for NoneOf {
@@ -67,7 +67,7 @@ impl Alternatives for NoneOf {
 
     ghost chosen = { λ v. elim v [ ] };
 
-    ghost known = { known_no_choice (λ v. elim v [ ]) (λ v. elim v [ ]) };
+    ghost facts = { no_choice_facts (λ v. elim v [ ]) (λ v. elim v [ ]) };
 
     ghost meaning = { λ v. elim v [ ] };
 
@@ -79,7 +79,7 @@ impl Alternatives for NoneOf {
         Err(de.refuse(Asn1DerError::InvalidData))
     }
 
-    ghost owed = { Prim.assumption };
+    ghost premise = { Prim.assumption };
 }
 
 impl<A: Begins, B: Alternatives> Alternatives for OneOf<A, B> {
@@ -87,7 +87,7 @@ impl<A: Begins, B: Alternatives> Alternatives for OneOf<A, B> {
 
     ghost chosen = { chosen_of A.meaning B.chosen };
 
-    ghost known = { known_this_or_other A.known A.meaning A.eq B.known };
+    ghost facts = { this_or_other_facts A.facts A.meaning A.eq B.facts };
 
     ghost meaning = { λ v. Tree.choice (chosen_of A.meaning B.chosen v) };
 
@@ -105,5 +105,5 @@ impl<A: Begins, B: Alternatives> Alternatives for OneOf<A, B> {
         Ok(OneOf::Other(B::deserialize_alternative(tag, de)?))
     }
 
-    ghost owed = { Prim.assumption };
+    ghost premise = { Prim.assumption };
 }

@@ -1,5 +1,5 @@
 //! Integers of any type, signed or not (X.690, 8.3).
-ghost use Rattle.std.specs.Prelude.{◌≡◌, ℤ, None, Some, IfOk, OnOk, IfErr};
+ghost use Rattle.std.specs.Prelude.{◌≡◌, ℤ, None, Some, IfOk, OnOk, IfErr, refl};
 ghost use Rattle.picky_der_core.specs.Primitive.{Primitive, PrimitiveShape};
 ghost use Rattle.picky_der_core.specs.Integer.{content_within};
 ghost use Rattle.picky_der_core.specs.Refusal.{int_error};
@@ -41,14 +41,15 @@ impl<N: Int> PlainKind<N> for AnyInteger {
 
     ghost judge = { int_error N.fits };
 
-    #[inline(always)]
-    fn tag() -> Tag {
-        Tag::INTEGER
-    }
+    ghost TAG = { 0x02 };
+
+    const TAG: Tag = Tag::INTEGER;
 
     fn of_content(content: &[u8]) -> Result<N> {
         int_of(content)
     }
+
+    ghost tagged = { refl };
 
     ghost kind = { short_int N.fits N.narrow };
 }

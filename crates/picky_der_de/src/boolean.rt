@@ -1,5 +1,5 @@
 //! Bools (X.690, 8.2 and 11.1).
-ghost use Rattle.std.specs.Prelude.{◌≡◌, Bool, None, Some, IfOk, OnOk, IfErr};
+ghost use Rattle.std.specs.Prelude.{◌≡◌, Bool, None, Some, IfOk, OnOk, IfErr, refl};
 ghost use Rattle.picky_der_core.specs.Primitive.{Primitive, PrimitiveShape, boolean_content};
 ghost use Rattle.picky_der_core.specs.Refusal.{boolean_error};
 ghost use Rattle.picky_der_de.specs.Steps.{IsOfContent};
@@ -36,10 +36,9 @@ impl PlainKind<bool> for Boolean {
 
     ghost judge = { boolean_error };
 
-    #[inline(always)]
-    fn tag() -> Tag {
-        Tag::BOOLEAN
-    }
+    ghost TAG = { 0x01 };
+
+    const TAG: Tag = Tag::BOOLEAN;
 
     fn of_content(content: &[u8]) -> Result<bool> {
         match content {
@@ -49,6 +48,8 @@ impl PlainKind<bool> for Boolean {
             _ => Err(Asn1DerError::InvalidData),
         }
     }
+
+    ghost tagged = { refl };
 
     ghost kind = { short_boolean };
 }

@@ -3,7 +3,7 @@ ghost use Rattle.std.specs.Prelude.{◌≡◌, true, IfOk, IfErr};
 ghost use Rattle.picky_der_core.specs.Shape.{Shape};
 ghost use Rattle.picky_der_core.specs.Tree.{Tree};
 ghost use Rattle.picky_der_de.specs.Reading.{Reads, Refuses};
-ghost use Rattle.picky_der_de.specs.KnownChoices.{are_told};
+ghost use Rattle.picky_der_de.specs.ChoiceFacts.{are_distinct};
 
 use crate::{Alternatives, Deserializer};
 use picky_der_core::Result;
@@ -28,7 +28,7 @@ pub trait Choice: Sized {
 /// `InvalidData` if no alternative begins with the first byte. `InvalidData` too directly under an implicit tag, where no byte
 /// distinguishes the alternatives. Any other error is that of `deserialize_enum`, or of the alternative's `deserialize`.
 pub fn deserialize_choice_as<T: Choice, R: ReadExt>(de: &mut Deserializer<R>) -> Result<T>
-    requires told { are_told T.Alternatives.shapes ≡ true }
+    requires distinct { are_distinct T.Alternatives.shapes ≡ true }
     ensures ok { IfOk result (λ value. Reads (Shape.choice T.Alternatives.shapes) de.old de.new
         (Tree.choice (T.Alternatives.chosen (T.parts value)))) }
     ensures err { IfErr result (Refuses

@@ -2,7 +2,7 @@
 ghost use Rattle.std.specs.Prelude.{IfOk, IfErr};
 ghost use Rattle.picky_der_core.specs.Shape.{Shape};
 ghost use Rattle.picky_der_de.specs.Reading.{Reads, Refuses};
-ghost use Rattle.picky_der_de.specs.Known.{Known, Tied};
+ghost use Rattle.picky_der_de.specs.Facts.{Facts, Proved};
 
 use crate::Deserializer;
 use picky_der_core::Result;
@@ -14,8 +14,8 @@ pub trait Deserialize: Serialize + PartialEq + Drop + Sized {
     // The trees of its values.
     ghost shape: { Shape };
 
-    // What is known of the values: which trees they mean, that these determine them, and what is owed for it.
-    ghost known: { Known Self shape };
+    // What the type says of its values: which trees they mean, and that these determine them. It follows from the premise.
+    ghost facts: { Facts Self shape };
 
     /// Reads a value, and consumes exactly the bytes of its encoding. Directly under an implicit tag it consumes the bytes of
     /// its content.
@@ -28,6 +28,6 @@ pub trait Deserialize: Serialize + PartialEq + Drop + Sized {
         ensures ok { IfOk result (λ value. Reads shape de.old de.new (Self.meaning value)) }
         ensures err { IfErr result (Refuses Self.meaning shape de.old de.new) };
 
-    // What is owed, and that it is known of what the values mean to `Serialize`, and of their `==`.
-    ghost tied: { Tied known Self.meaning Self.eq };
+    // The premise, and that the facts are of what the values mean to `Serialize`, and of their `==`.
+    ghost proved: { Proved facts Self.meaning Self.eq };
 }

@@ -1,14 +1,15 @@
 //! What reads values of any type from an input, and how far the input may be read.
-ghost use Rattle.std.specs.Prelude.{◌≡◌, ◌<◌, ◌^◌, ℕ, List, [], length, false, Option, None, Some, IfNone, IfSome};
+ghost use Rattle.std.specs.Prelude.{◌≡◌, ◌≢◌, ◌<◌, ◌^◌, ℕ, List, [], length, false, Option, None, Some, IfNone, IfSome};
 ghost use Rattle.picky_der_de.specs.State.{fresh};
 ghost use Rattle.std.specs.IoError.{error_kind};
 ghost use Rattle.picky_der_core.specs.Error.{error_of_kind};
 ghost use Rattle.picky_der_core.specs.Failure.{failure_of};
-ghost use Rattle.picky_der_core.specs.Peeking.{in_front};
+ghost use Rattle.picky_der_core.specs.Peeking.{prepend};
 ghost use Rattle.picky_der_de.specs.Steps.{IsWithin, Fails, IsOther, failed_with};
+ghost use Rattle.picky_der_de.specs.Refusing.{FailsAs};
 
 mod ahead;
-mod draw;
+mod fetch;
 mod header;
 mod nesting;
 mod octets;
@@ -16,12 +17,12 @@ mod order;
 mod peek;
 mod plain;
 mod raw;
-mod refusals;
 mod texts;
+mod unsupported;
 mod wrapper;
 
 use crate::End;
-pub(crate) use nesting::Outer;
+pub(crate) use nesting::EnclosingEnd;
 use picky_der_core::misc::{PeekableReader, ReadExt};
 use picky_der_core::{Asn1DerError, Failure, Result};
 use std::alloc::Global;
@@ -60,7 +61,7 @@ impl<R: ReadExt> Model for Deserializer<R> {
     ghost view = { λ d. record {
       input = left_in R.remaining d.reader;
       peeked = d.reader.peeked;
-      taken = d.reader.pos;
+      consumed = d.reader.pos;
       limit = d.limit;
       until_end = d.until_end;
       end = d.end;
@@ -88,7 +89,7 @@ impl<'a> Deserializer<&'a [u8]> {
     // A slice has no I/O errors, and a peeked byte is the first byte that is left.
     pub(crate) fn has_no_faults(&self)
         ensures no_fault { self.now.faults ≡ [] }
-        ensures left { (left : Option (List ℕ)) × (self.now.input ≡ in_front self.now.peeked left) }
+        ensures left { (left : Option (List ℕ)) × (self.now.input ≡ prepend self.now.peeked left) }
     {
         self.reader.peeked_is_left();
     }
@@ -117,7 +118,7 @@ impl<R: ReadExt> Deserializer<R> {
 
     /// Returns the reader. A byte that was peeked was consumed from it.
     pub fn into_reader(self) -> R
-        ensures input { self.input ≡ in_front self.peeked (R.remaining result) }
+        ensures input { self.input ≡ prepend self.peeked (R.remaining result) }
         ensures faults { R.faults result ≡ self.faults }
         ensures same_references { R.references result ≡ self.references }
     {
@@ -139,7 +140,7 @@ impl<R: ReadExt> Deserializer<R> {
 
     /// The number of bytes that were consumed so far. A peeked byte isn't counted. With it the number is at most the limit.
     pub fn taken(&self) -> usize
-        ensures taken { result ≡ self.now.taken }
+        ensures consumed { result ≡ self.now.consumed }
         ensures within { IsWithin self.now }
     {
         self.reader.pos()
@@ -150,6 +151,23 @@ impl<R: ReadExt> Deserializer<R> {
         ensures { result ≡ false }
     {
         false
+    }
+
+    /// Makes the deserializer fail with this error, and returns it. If it has failed before, nothing changes and the earlier
+    /// error is returned. Nothing is consumed.
+    ///
+    /// A hand-written `deserialize` calls it if the parts that it has read make no value. More bytes can't change that, and the
+    /// reader didn't fail, so the error may be neither `TruncatedData` nor `Other`.
+    pub fn refuse(&mut self, kind: Asn1DerError) -> Asn1DerError
+        requires no_fault { IsOther kind → ⊥ }
+        requires lasting { kind ≢ Asn1DerError.TruncatedData }
+        ensures is { FailsAs kind self.old result self.new }
+        ensures fails { Fails self.old self.new result }
+    {
+        match self.earlier() {
+            Some(error) => error,
+            None => self.fail(kind),
+        }
     }
 
     // The allocator of the vectors.

@@ -32,7 +32,7 @@ pub fn from_bytes<T: Deserialize>(alloc: Global, bytes: &[u8]) -> Result<T>
     ensures ok { IfOk result (IsFront T.meaning T.shape T.eq bytes.now (length bytes.now)) }
     ensures err { IfErr result (HasNoFront T.meaning T.shape bytes.now (length bytes.now)) }
 {
-    let mut de = Deserializer::new_from_bytes(alloc, bytes);
+    let mut de = Deserializer::new_from_reader(alloc, bytes, bytes.len());
     let result = T::deserialize(&mut de);
     // No effect at run time.
     de.has_no_faults();

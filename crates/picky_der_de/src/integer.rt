@@ -1,5 +1,5 @@
 //! Unsigned integers (X.690, 8.3).
-ghost use Rattle.std.specs.Prelude.{◌≡◌, ◌≤◌, ℕ, length, None, Some, IfOk, OnOk, IfErr};
+ghost use Rattle.std.specs.Prelude.{◌≡◌, ◌≤◌, ℕ, length, None, Some, IfOk, OnOk, IfErr, refl};
 ghost use Rattle.std.specs.Int.Digits.{number_from_digits};
 ghost use Rattle.picky_der_core.specs.Primitive.{Primitive, PrimitiveShape, unsigned_content};
 ghost use Rattle.picky_der_core.specs.Refusal.{unsigned_error, number_error};
@@ -69,10 +69,9 @@ impl<T: UInt> PlainKind<T> for UnsignedInteger {
 
     ghost judge = { unsigned_error T.greatest };
 
-    #[inline(always)]
-    fn tag() -> Tag {
-        Tag::INTEGER
-    }
+    ghost TAG = { 0x02 };
+
+    const TAG: Tag = Tag::INTEGER;
 
     fn of_content(content: &[u8]) -> Result<T> {
         // Most numbers have one byte, which needs no other test.
@@ -85,6 +84,8 @@ impl<T: UInt> PlainKind<T> for UnsignedInteger {
         }
         T::from_u128(value_of(digits))
     }
+
+    ghost tagged = { refl };
 
     ghost kind = { short_unsigned T.greatest };
 }

@@ -4,11 +4,11 @@ ghost use Rattle.picky_der_core.specs.Shape.{Shape, Layout};
 ghost use Rattle.picky_der_core.specs.Tree.{Tree};
 ghost use Rattle.picky_der_ser.specs.Meaning.{unless_default};
 ghost use Rattle.picky_der_de.specs.Members.{ReadsMember};
-ghost use Rattle.picky_der_de.specs.Layouts.{Presence, always, perhaps, Lacks, RefusesComponent, ReadsLayout, RefusesLayout};
+ghost use Rattle.picky_der_de.specs.Layouts.{Presence, always, perhaps, Lacks, RefusesLayoutMember, ReadsLayout, RefusesLayout};
 ghost use Rattle.picky_der_de.specs.LayoutLaws.{IsLeftOut, none_left_out, default_left_out};
-ghost use Rattle.picky_der_de.specs.KnownMembers.{KnownMember, TiedMember, known_always, known_element, known_perhaps, known_default, KnownMembers, TiedMembers, known_none, sequence_of, sequence_shape};
+ghost use Rattle.picky_der_de.specs.MembersFacts.{MemberFacts, ProvedMember, always_facts, element_facts, perhaps_facts, default_facts, MembersFacts, ProvedMembers, none_facts, sequence_of, sequence_shape};
 ghost use Rattle.picky_der_de.specs.Reading.{Reads, Refuses};
-ghost use Rattle.picky_der_de.specs.FirstTests.{are_members_told};
+ghost use Rattle.picky_der_de.specs.FirstTests.{are_members_distinct};
 
 use crate::{Begins, Deserialize, Deserializer, Sequence};
 use picky_der_core::Result;
@@ -42,26 +42,26 @@ pub trait DeserializeMember: SerializeMember + PartialEq + Drop + Sized {
     // What is never written.
     ghost left_out: { Self.Item → Bool };
 
-    // What is known of the member: which trees it means, that these determine it, and what is owed for it.
-    ghost known: { KnownMember Self presence shape item_meaning item_eq item };
+    // What the member says of itself: which trees it means, and that these determine it. It follows from the premise.
+    ghost facts: { MemberFacts Self presence shape item_meaning item_eq item };
 
     /// Reads the member. The errors are those of `next_field`, `next_optional` or `next_or_default`.
     fn deserialize_member<R: ReadExt>(sequence: &mut Sequence<'_, R>) -> Result<Self>
         ensures same_reference { borrowed_by sequence.new ≡ borrowed_by sequence.old }
         ensures outer { outer_of sequence.new ≡ outer_of sequence.old }
-        ensures member { IfOk result (λ slot. IfSome (item slot)
+        ensures member { IfOk result (λ member. IfSome (item member)
             (λ value. ReadsMember shape (state_of sequence.old) (state_of sequence.new)
             (item_meaning value))) }
-        ensures none { IfOk result (λ slot. IfNone (item slot)
+        ensures none { IfOk result (λ member. IfNone (item member)
             (Lacks shape (state_of sequence.old) (state_of sequence.new))) }
-        ensures err { IfErr result (RefusesComponent presence item_meaning left_out shape
+        ensures err { IfErr result (RefusesLayoutMember presence item_meaning left_out shape
             (state_of sequence.old) (state_of sequence.new)) };
 
     // The tree determines which values are never written.
     ghost distinguished: { IsLeftOut item_meaning item left_out };
 
-    // What is owed, and that `SerializeMember` writes what is there.
-    ghost tied: { TiedMember known Self.in_front };
+    // The premise, and that `SerializeMember` writes what is there.
+    ghost proved: { ProvedMember facts Self.prepend };
 }
 
 impl<T: Deserialize> DeserializeMember for T {
@@ -79,7 +79,7 @@ impl<T: Deserialize> DeserializeMember for T {
 
     ghost left_out = { λ _. false };
 
-    ghost known = { known_always T.known T.meaning T.eq };
+    ghost facts = { always_facts T.facts T.meaning T.eq };
 
     fn deserialize_member<R: ReadExt>(sequence: &mut Sequence<'_, R>) -> Result<T> {
         sequence.next_field::<T>()
@@ -87,7 +87,7 @@ impl<T: Deserialize> DeserializeMember for T {
 
     ghost distinguished = { none_left_out (λ value. Some value) };
 
-    ghost tied = { Prim.assumption };
+    ghost proved = { Prim.assumption };
 }
 
 impl<T: Deserialize> DeserializeMember for Element<T> {
@@ -105,7 +105,7 @@ impl<T: Deserialize> DeserializeMember for Element<T> {
 
     ghost left_out = { λ _. false };
 
-    ghost known = { known_element T.known T.meaning T.eq (λ element. element.0) };
+    ghost facts = { element_facts T.facts T.meaning T.eq (λ element. element.0) };
 
     fn deserialize_member<R: ReadExt>(sequence: &mut Sequence<'_, R>) -> Result<Element<T>> {
         let value = sequence.next_field::<T>()?;
@@ -114,7 +114,7 @@ impl<T: Deserialize> DeserializeMember for Element<T> {
 
     ghost distinguished = { none_left_out (λ element. Some element.0) };
 
-    ghost tied = { Prim.assumption };
+    ghost proved = { Prim.assumption };
 }
 
 impl<T: Begins> DeserializeMember for Optional<T> {
@@ -132,7 +132,7 @@ impl<T: Begins> DeserializeMember for Optional<T> {
 
     ghost left_out = { λ _. false };
 
-    ghost known = { known_perhaps T.known T.meaning T.eq (λ member. member.0) };
+    ghost facts = { perhaps_facts T.facts T.meaning T.eq (λ member. member.0) };
 
     fn deserialize_member<R: ReadExt>(sequence: &mut Sequence<'_, R>) -> Result<Optional<T>> {
         let value = sequence.next_optional::<T>()?;
@@ -141,7 +141,7 @@ impl<T: Begins> DeserializeMember for Optional<T> {
 
     ghost distinguished = { none_left_out (λ member. member.0) };
 
-    ghost tied = { Prim.assumption };
+    ghost proved = { Prim.assumption };
 }
 
 impl<T: Begins, D: DefaultOf<T>> DeserializeMember for Defaulted<T, D> {
@@ -159,7 +159,7 @@ impl<T: Begins, D: DefaultOf<T>> DeserializeMember for Defaulted<T, D> {
 
     ghost left_out = { D.left_out };
 
-    ghost known = { known_default T.known T.meaning T.eq D.left_out D.equal D.one (λ member. member.value) };
+    ghost facts = { default_facts T.facts T.meaning T.eq D.left_out D.equal D.one (λ member. member.value) };
 
     fn deserialize_member<R: ReadExt>(sequence: &mut Sequence<'_, R>) -> Result<Defaulted<T, D>> {
         let value = sequence.next_or_default::<T, D>()?;
@@ -168,7 +168,7 @@ impl<T: Begins, D: DefaultOf<T>> DeserializeMember for Defaulted<T, D> {
 
     ghost distinguished = { default_left_out D.left_out D.by_tree (λ member. member.value) };
 
-    ghost tied = { Prim.assumption };
+    ghost proved = { Prim.assumption };
 }
 
 /// Members of a sequence that can be read, of which some may be absent. They are `()` or a tuple of up to eight members and the
@@ -179,8 +179,8 @@ pub trait DeserializeMembers: SerializeMembers + PartialEq + Drop + Sized {
     // The shapes of the members, and which may be missing.
     ghost layout: { Layout };
 
-    // What is known of the members: which trees they mean, that these determine them, and what is owed for it.
-    ghost known: { KnownMembers Self layout };
+    // What the members say of themselves: which trees they mean, and that these determine them. It follows from the premise.
+    ghost facts: { MembersFacts Self layout };
 
     /// Reads the members, from a sequence that hasn't failed and of which no member is awaited directly under an implicit tag.
     /// What is left after the last member may be peeked, and isn't consumed.
@@ -192,25 +192,25 @@ pub trait DeserializeMembers: SerializeMembers + PartialEq + Drop + Sized {
         requires implicit_tag { (state_of sequence.old).implicit_tag ≡ None }
         ensures same_reference { borrowed_by sequence.new ≡ borrowed_by sequence.old }
         ensures outer { outer_of sequence.new ≡ outer_of sequence.old }
-        ensures ok { IfOk result (λ row. ReadsLayout layout (state_of sequence.old)
-            (state_of sequence.new) (Self.members row)) }
+        ensures ok { IfOk result (λ it. ReadsLayout layout (state_of sequence.old)
+            (state_of sequence.new) (Self.members it)) }
         ensures err { IfErr result (RefusesLayout Self.members layout (state_of sequence.old)
             (state_of sequence.new)) };
 
-    // What is owed, and that the members mean the same to `SerializeMembers`.
-    ghost tied: { TiedMembers known Self.members };
+    // The premise, and that the members mean the same to `SerializeMembers`.
+    ghost proved: { ProvedMembers facts Self.members };
 }
 
 impl DeserializeMembers for () {
     ghost layout = { Layout.empty };
 
-    ghost known = { known_none };
+    ghost facts = { none_facts };
 
     fn deserialize_members<R: ReadExt>(_sequence: &mut Sequence<'_, R>) -> Result<()> {
         Ok(())
     }
 
-    ghost tied = { Prim.assumption };
+    ghost proved = { Prim.assumption };
 }
 
 /// A type whose values are those of the members of a SEQUENCE, as a struct's are.
@@ -236,7 +236,7 @@ pub trait Struct: Sized {
 /// `InvalidData` for what is left after the members, and for a default that is written out (X.690, 11.5). Any other error is
 /// that of `deserialize_seq`, `next_field` or `next_optional`.
 pub fn deserialize_struct_as<T: Struct, R: ReadExt>(de: &mut Deserializer<R>) -> Result<T>
-    requires told { are_members_told T.Members.layout ≡ true }
+    requires distinct { are_members_distinct T.Members.layout ≡ true }
     ensures ok { IfOk result (λ value. Reads (sequence_shape T.Members.layout) de.old de.new
         (sequence_of T.Members.members T.parts value)) }
     ensures err { IfErr result (Refuses (sequence_of T.Members.members T.parts)

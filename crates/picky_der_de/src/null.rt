@@ -1,5 +1,5 @@
 //! Null (X.690, 8.8).
-ghost use Rattle.std.specs.Prelude.{◌≡◌, [], None, Some, OnOk, IfErr};
+ghost use Rattle.std.specs.Prelude.{◌≡◌, [], None, Some, OnOk, IfErr, refl};
 ghost use Rattle.picky_der_core.specs.Primitive.{Primitive, PrimitiveShape};
 ghost use Rattle.picky_der_core.specs.Refusal.{null_error};
 ghost use Rattle.picky_der_de.specs.Steps.{IsOfContent};
@@ -35,10 +35,9 @@ impl PlainKind<()> for Null {
 
     ghost judge = { null_error };
 
-    #[inline(always)]
-    fn tag() -> Tag {
-        Tag::NULL
-    }
+    ghost TAG = { 0x05 };
+
+    const TAG: Tag = Tag::NULL;
 
     fn of_content(content: &[u8]) -> Result<()> {
         match content {
@@ -46,6 +45,8 @@ impl PlainKind<()> for Null {
             _ => Err(Asn1DerError::InvalidData),
         }
     }
+
+    ghost tagged = { refl };
 
     ghost kind = { short_null };
 }

@@ -1,5 +1,5 @@
 //! The kinds of plain values that are read from the first bytes of their contents.
-ghost use Rattle.std.specs.Prelude.{◌≡◌, None, Some, IfOk, OnOk, IfErr};
+ghost use Rattle.std.specs.Prelude.{◌≡◌, ℕ, None, Some, IfOk, OnOk, IfErr};
 ghost use Rattle.picky_der_core.specs.Primitive.{Primitive, PrimitiveShape, primitive_content, shape_tag};
 ghost use Rattle.picky_der_core.specs.Refusal.{Judge};
 ghost use Rattle.picky_der_de.specs.Steps.{IsOfContent};
@@ -24,8 +24,9 @@ pub(crate) trait PlainKind<V> {
     ghost judge: { Judge };
 
     // The tag of each.
-    fn tag() -> Tag
-        ensures { result ≡ shape_tag shape };
+    ghost TAG: { ℕ };
+
+    const TAG: Tag;
 
     // The value with this content.
     fn of_content(content: &[u8]) -> Result<V>
@@ -33,6 +34,8 @@ pub(crate) trait PlainKind<V> {
         ensures right { OnOk result (judge content.now ≡ None) }
         ensures fault { IfErr result (λ e. judge content.now ≡ Some e) }
         ensures no_device { IfErr result IsOfContent };
+
+    ghost tagged: { TAG ≡ shape_tag shape };
 
     // As many bytes as are kept of a content determine its value, or its error.
     ghost kind: { IsShortKind meaning shape judge };

@@ -1,7 +1,7 @@
 //! Sequences and sets that are being read (X.690, 8.9 to 8.12).
 ghost use Rattle.std.specs.Prelude.{◌≡◌, ◌≤◌, ◌+◌, ◌++◌, ◌∷◌, [], None, OnOk};
 
-use crate::deserializer::Outer;
+use crate::deserializer::EnclosingEnd;
 use crate::{Begins, Deserialize, Deserializer};
 use picky_der_core::asn1::Tag;
 use picky_der_core::misc::ReadExt;
@@ -27,8 +27,8 @@ fn add<T: Drop>(values: &mut Vec<T>, value: T, is_last: bool) -> std::result::Re
 pub struct Sequence<'a, R: ReadExt> {
     de: &'a mut Deserializer<R>,
     // The end around its own.
-    outer: Outer,
-    ghost within: { de.now.taken + de.now.until_end ≤ outer.position },
+    outer: EnclosingEnd,
+    ghost within: { de.now.consumed + de.now.until_end ≤ outer.position },
     ghost bounded: { outer.position ≤ de.now.limit },
     ghost whole: { de.now.failed ≡ None → de.now.implicit_tag ≡ None },
 }

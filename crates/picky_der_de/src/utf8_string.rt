@@ -1,5 +1,5 @@
 //! Texts in UTF-8 (X.690, 8.23).
-ghost use Rattle.std.specs.Prelude.{◌≡◌, ℕ, None, Some, IfOk, OnOk, IfErr, IsUtf8, encode_utf8};
+ghost use Rattle.std.specs.Prelude.{◌≡◌, ℕ, None, Some, IfOk, OnOk, IfErr, IsUtf8, encode_utf8, refl};
 ghost use Rattle.picky_der_core.specs.Primitive.{Primitive, PrimitiveShape};
 ghost use Rattle.picky_der_core.specs.Refusal.{text_error, character_error};
 ghost use Rattle.picky_der_de.specs.Steps.{IsOfContent};
@@ -38,10 +38,9 @@ impl PlainKind<char> for Utf8String {
 
     ghost judge = { character_error };
 
-    #[inline(always)]
-    fn tag() -> Tag {
-        Tag::UTF8_STRING
-    }
+    ghost TAG = { 0x0C };
+
+    const TAG: Tag = Tag::UTF8_STRING;
 
     // The character that is the whole text.
     fn of_content(content: &[u8]) -> Result<char> {
@@ -54,6 +53,8 @@ impl PlainKind<char> for Utf8String {
             Some(_) => Err(Asn1DerError::InvalidData),
         }
     }
+
+    ghost tagged = { refl };
 
     ghost kind = { short_character };
 }

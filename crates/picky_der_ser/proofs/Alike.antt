@@ -91,7 +91,7 @@ module _ {W : Type 0} (g : Ghosts W) where
         untouched = k.untouched;
         refuses_unwritable = refuses_unwritable-alike t u old new r a k.refuses_unwritable;
         counted = k.counted;
-        goes_on = k.goes_on;
+        continues = k.continues;
       }
 
 -- ---- choices, which are written as the alternative that was chosen
@@ -163,7 +163,7 @@ module _ {W : Type 0} (g : Ghosts W) where
         untouched = record { same = λ well. refl };
         refuses_unwritable = λ n failed. (refl, refl);
         counted = (omega arith, omega arith);
-        goes_on = later;
+        continues = later;
       }
 
 -- ---- a value that isn't there: nothing is written, and no wrapper stays open

@@ -203,17 +203,17 @@ count-uncut true {m} {vs} {ms} s q w n was none count =
 
 -- ---- a room that is widened: what was from `m.at` on has moved by k bytes, and its content by n more
 module _ (m : Mark) (s t u : List ℕ) (end k n : ℕ) (room : m.at ≤ m.start) (within : m.start ≤ end) (moved : drop (m.at + k) t ≡ drop m.at s) (front : take (m.start + k) u ≡ take (m.start + k) t)
-    (behind : drop (m.start + k + n) u ≡ drop (m.start + k) t) where
+    (after : drop (m.start + k + n) u ≡ drop (m.start + k) t) where
   -- what was from the content on
   content-moved : drop (m.start + k + n) u ≡ drop m.start s
   content-moved =
       let r = m.start - m.at in
       let there : m.start + k ≡ (m.at + k) + r = omega (arith, room) in
       let was : m.at + r ≡ m.start = omega (arith, room) in
-      behind ∙ ap (λ x. drop x t) there ∙ sym (drop-drop r (m.at + k) t) ∙ ap (drop r) moved ∙ drop-drop r m.at s ∙ ap (λ x. drop x s) was
+      after ∙ ap (λ x. drop x t) there ∙ sym (drop-drop r (m.at + k) t) ∙ ap (drop r) moved ∙ drop-drop r m.at s ∙ ap (λ x. drop x s) was
 
-  pub widened-behind : drop (end + (k + n)) u ≡ drop end s
-  widened-behind =
+  pub widened-after : drop (end + (k + n)) u ≡ drop end s
+  widened-after =
       let c = end - m.start in
       let there : end + (k + n) ≡ (m.start + k + n) + c = omega (arith, within) in
       let was : m.start + c ≡ end = omega (arith, within) in

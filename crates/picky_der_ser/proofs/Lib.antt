@@ -7,4 +7,4 @@ pub mod Brought
 pub mod EntryWrites
 pub mod ListBytes
 pub mod MemberWrites
-mod RowWrites
+mod MembersWrites

@@ -65,8 +65,8 @@ module _ (p : Option Level) (old new : Stack) (n : ℕ) (numbers : IfSome p (λ 
       by_level (Some l) a = subst (λ o. IfSome o (λ m. bs ≡ m.content)) (ap (λ (s : Stack). s.pending) a) h
 
   -- the headers, and a content that is borrowed
-  pub encoding_behind : (front c : List ℕ) → n ≡ length c → IfSome p (λ l. l.content ≡ []) → IfSome new.pending (λ l. front ≡ l.content) → length front + length c < 2 ^ 64 → AreEncoding (with_content c) p (front ++ c)
-  encoding_behind front c count empty shown fits = by_level p numbers empty (held front shown)
+  pub encoding_after : (front c : List ℕ) → n ≡ length c → IfSome p (λ l. l.content ≡ []) → IfSome new.pending (λ l. front ≡ l.content) → length front + length c < 2 ^ 64 → AreEncoding (with_content c) p (front ++ c)
+  encoding_after front c count empty shown fits = by_level p numbers empty (held front shown)
     where
       by_level : (q : Option Level) → IfSome q (λ l. CanAllBeOpen l.around × HasNumber l.header) → IfSome q (λ l. l.content ≡ []) → IfSome q (λ l. front ≡ l.content ++ headers l.around l.header n) → AreEncoding (with_content c) q (front ++ c)
       by_level None a b d = tt
@@ -160,7 +160,7 @@ module _ {W : Type 0} (g : Ghosts W) where
     untouched = tt;
     refuses_unwritable = λ no. absurd (no w);
     counted = subst (λ v. IsOnceAtMost (g.faults old.sink) (g.faults v)) (sym same) c;
-    goes_on = subst (g.later old.sink) (sym same) l;
+    continues = subst (g.later old.sink) (sym same) l;
   })
   plain_outside t old new mid levels (Err e) s is same x w f i j a b h k m u q c l = rw is (record {
     wrote = tt;
@@ -169,14 +169,14 @@ module _ {W : Type 0} (g : Ghosts W) where
     untouched = subst (λ v. UntouchedUnlessFailed g old.sink e v) (sym same) u;
     refuses_unwritable = λ no. absurd (no w);
     counted = subst (λ v. IsOnceAtMost (g.faults old.sink) (g.faults v)) (sym same) c;
-    goes_on = subst (g.later old.sink) (sym same) l;
+    continues = subst (g.later old.sink) (sym same) l;
   })
 
   pub plain_inside : (t : Tree) (old new : State W) (n : ℕ) → IsWritable t → Writes g t old n new → IsOnceAtMost (g.faults old.sink) (g.faults new.sink) → g.later old.sink new.sink → WritesPlain g t old (Ok n) new
-  plain_inside t old new n w h c l = record { wrote = h; failed = tt; outside = tt; untouched = tt; refuses_unwritable = λ no. absurd (no w); counted = c; goes_on = l }
+  plain_inside t old new n w h c l = record { wrote = h; failed = tt; outside = tt; untouched = tt; refuses_unwritable = λ no. absurd (no w); counted = c; continues = l }
 
   pub plain_refused : (t : Tree) (old new : State W) (e : Asn1DerError) → IsWritable t → old.inside ≢ [] → RefusesWrite g t old e new → new.sink ≡ old.sink → IsOnceAtMost (g.faults old.sink) (g.faults new.sink) → g.later old.sink new.sink → WritesPlain g t old (Err e) new
-  plain_refused t old new e w some h same c l = record { wrote = tt; failed = h; outside = λ x y inside around. absurd (some inside); untouched = record { same = λ well. same }; refuses_unwritable = λ no. absurd (no w); counted = c; goes_on = l }
+  plain_refused t old new e w some h same c l = record { wrote = tt; failed = h; outside = λ x y inside around. absurd (some inside); untouched = record { same = λ well. same }; refuses_unwritable = λ no. absurd (no w); counted = c; continues = l }
 
   -- without wrappers, the sink accepted an element
   pub bare_wrote : (t : Tree) (ws : List Wrapper) (bs : List ℕ) (old new : W) (r : Result ℕ Asn1DerError) → ws ≡ [] → IsWritable t → bs ≡ der t → IfOk r (λ n. n ≡ length bs) → OnOk r (Appends (g.written old) (g.written new) bs) → IfOk r (λ n. SinkWrites g (under ws t) old n new)
@@ -225,7 +225,7 @@ module _ {W : Type 0} (g : Ghosts W) where
               failed = tt;
               untouched = tt;
               counted = let same = ap g.faults s in (omega (arith, same), omega (arith, same));
-              goes_on = subst (g.later old.sink) (sym s) later;
+              continues = subst (g.later old.sink) (sym s) later;
             }
 
 pub on_ok : {A E : Type 0} {P : Type 0} (r : Result A E) → P → OnOk r P

@@ -106,7 +106,7 @@ module _ {W : Type 0} (g : Ghosts W) where
     pub untouched : IfErr r (λ e. UntouchedUnlessFailed old.sink e new.sink)
     pub refuses_unwritable : RefusesUnwritable t old r new
     pub counted : IsOnceAtMost (g.faults old.sink) (g.faults new.sink)
-    pub goes_on : g.later old.sink new.sink
+    pub continues : g.later old.sink new.sink
 
   -- so one of a primitive kind
   abbrev pub WritesPrimitive : Primitive → State W → Result ℕ Asn1DerError → State W → Type 0
@@ -155,24 +155,24 @@ module _ {W : Type 0} (g : Ghosts W) where
     pub writable : AreWritable ts
     pub added : IfSome old.pending (λ l. new ≡ record { sink = old.sink; around = []; failed = None; inside = old.inside; pending = Some (with_members l (encodings ts)) })
 
-  -- the members of a row were added; without any, nothing was done
-  abbrev pub AddsRow : Trees → State W → State W → Type 0
-  AddsRow Trees.none old new = new ≡ old
-  AddsRow (Trees.more t ts) old new = AddsMembers (Trees.more t ts) old new
+  -- all of these members were added; without any, nothing was done
+  abbrev pub AddsAll : Trees → State W → State W → Type 0
+  AddsAll Trees.none old new = new ≡ old
+  AddsAll (Trees.more t ts) old new = AddsMembers (Trees.more t ts) old new
 
   -- one of them wasn't added
-  abbrev pub RefusesToAddRow : Trees → State W → Asn1DerError → State W → Type 0
-  RefusesToAddRow Trees.none old e new = ⊥
-  RefusesToAddRow (Trees.more t ts) old e new = RefusesBefore (AreWritable (Trees.more t ts)) old e new
+  abbrev pub RefusesToAddAll : Trees → State W → Asn1DerError → State W → Type 0
+  RefusesToAddAll Trees.none old e new = ⊥
+  RefusesToAddAll (Trees.more t ts) old e new = RefusesBefore (AreWritable (Trees.more t ts)) old e new
 
-  -- What comes before members was added: they are added, or refused, as the row of it and of them is.
-  pub record AddsInFront (in_front : Trees → Trees) (old new : State W) : Type 0 where
-    pub added : (ts : Trees) (last : State W) → AddsRow ts new last → AddsRow (in_front ts) old last
-    pub refused : (ts : Trees) (e : Asn1DerError) (last : State W) → RefusesToAddRow ts new e last → RefusesToAddRow (in_front ts) old e last
+  -- What comes before members was added: they are added, or refused, as it and they together are.
+  pub record AddsPrepended (prepend : Trees → Trees) (old new : State W) : Type 0 where
+    pub added : (ts : Trees) (last : State W) → AddsAll ts new last → AddsAll (prepend ts) old last
+    pub refused : (ts : Trees) (e : Asn1DerError) (last : State W) → RefusesToAddAll ts new e last → RefusesToAddAll (prepend ts) old e last
 
-  -- It wasn't added, and so no row is that begins with it.
-  abbrev pub RefusesInFront : (Trees → Trees) → State W → Asn1DerError → State W → Type 0
-  RefusesInFront in_front old e new = (ts : Trees) → RefusesToAddRow (in_front ts) old e new
+  -- It wasn't added, and so no members are that begin with it.
+  abbrev pub RefusesPrepended : (Trees → Trees) → State W → Asn1DerError → State W → Type 0
+  RefusesPrepended prepend old e new = (ts : Trees) → RefusesToAddAll (prepend ts) old e new
 
   -- one that had failed returned one of that kind again, and wrote nothing
   pub record AnswersAgain (old : W) (f : Failure) (r : Result ℕ Asn1DerError) (new : State W) : Type 0 where
@@ -188,7 +188,7 @@ module _ {W : Type 0} (g : Ghosts W) where
     pub failed : IfErr r (λ e. RefusesWrite t old e new)
     pub untouched : IfErr r (λ e. UntouchedUnlessFailed old.sink e new.sink)
     pub counted : IsOnceAtMost (g.faults old.sink) (g.faults new.sink)
-    pub goes_on : g.later old.sink new.sink
+    pub continues : g.later old.sink new.sink
 
   -- so of this content under the header
   abbrev pub WritesContent : Header → List ℕ → State W → Result ℕ Asn1DerError → State W → Type 0

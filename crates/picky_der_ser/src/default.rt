@@ -9,7 +9,7 @@ ghost use Rattle.picky_der_ser.specs.Defaults.{IsByTree, IsOne, one_false, one_t
 
 use crate::{List, Sequence, Serialize, SerializeMember};
 use picky_der_core::Result;
-use picky_der_core::asn1::{ExplicitContextTag, ImplicitContextTag, Retagged};
+use picky_der_core::asn1::{ExplicitContextTag, ImplicitContextTag, ImplicitList};
 use picky_der_core::misc::WriteExt;
 use std::marker::PhantomData;
 
@@ -39,7 +39,7 @@ pub trait DefaultOf<T: Serialize + PartialEq> {
     ghost equal_so: { (x y : T) → equal x y ≡ true → T.eq x y ≡ true };
 }
 
-/// A member of a row with the default `D`. A value that is the default isn't written (X.690, 11.5), and the other members are
+/// A member with the default `D`. A value that is the default isn't written (X.690, 11.5), and the other members are
 /// written as without it.
 #[derive(Drop)]
 #[derive_where(Debug, PartialEq, Eq; T)]
@@ -70,7 +70,7 @@ impl<T: PartialEq, D> Defaulted<T, D> {
     {}
 }
 
-/// A member of a row with the default `D`, by reference, for the field of a struct.
+/// A member with the default `D`, by reference, for the field of a struct.
 #[derive(Drop)]
 pub struct DefaultedRef<'a, T, D> {
     /// The value, which isn't written if it is the default.
@@ -91,7 +91,7 @@ impl<'a, T, D> DefaultedRef<'a, T, D> {
 }
 
 impl<T: Serialize + PartialEq, D: DefaultOf<T>> SerializeMember for Defaulted<T, D> {
-    ghost in_front = { λ member. maybe_more T.meaning (unless_default D.left_out member.value) };
+    ghost prepend = { λ member. maybe_more T.meaning (unless_default D.left_out member.value) };
 
     fn serialize_member<W: WriteExt>(&self, sequence: &mut Sequence<'_, W>) -> Result<()> {
         DefaultedRef::<T, D>::new(&self.value).serialize_member(sequence)
@@ -99,7 +99,7 @@ impl<T: Serialize + PartialEq, D: DefaultOf<T>> SerializeMember for Defaulted<T,
 }
 
 impl<T: Serialize + PartialEq, D: DefaultOf<T>> SerializeMember for DefaultedRef<'_, T, D> {
-    ghost in_front = { λ member. maybe_more T.meaning (unless_default D.left_out member.value.now) };
+    ghost prepend = { λ member. maybe_more T.meaning (unless_default D.left_out member.value.now) };
 
     fn serialize_member<W: WriteExt>(&self, sequence: &mut Sequence<'_, W>) -> Result<()> {
         if D::is_default(self.value) {
@@ -206,20 +206,20 @@ impl<T: Serialize + PartialEq, D: DefaultOf<T>, const N: u8> DefaultOf<ImplicitC
 }
 
 /// A default of a list is also a default of it under a tag in place of its own.
-impl<T: List + PartialEq, D: DefaultOf<T>, const TAG: u8> DefaultOf<Retagged<T, TAG>> for D {
+impl<T: List + PartialEq, D: DefaultOf<T>, const TAG: u8> DefaultOf<ImplicitList<T, TAG>> for D {
     ghost left_out = { λ tagged. D.left_out tagged.0 };
 
     ghost equal = { λ x y. D.equal x.0 y.0 };
 
-    fn is_default(value: &Retagged<T, TAG>) -> bool {
+    fn is_default(value: &ImplicitList<T, TAG>) -> bool {
         D::is_default(&value.0)
     }
 
-    fn default() -> Retagged<T, TAG> {
-        Retagged(D::default())
+    fn default() -> ImplicitList<T, TAG> {
+        ImplicitList(D::default())
     }
 
-    ghost by_tree = { λ x y d. wrapped_by_tree (wrapper.Retagged TAG) T.meaning D.left_out D.by_tree x.0 y.0 d };
+    ghost by_tree = { λ x y d. wrapped_by_tree (wrapper.ImplicitList TAG) T.meaning D.left_out D.by_tree x.0 y.0 d };
 
     ghost one = { λ x y. D.one x.0 y.0 };
 

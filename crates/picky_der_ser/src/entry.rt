@@ -19,7 +19,7 @@ use std::alloc::Global;
 /// can't be written: the slice is unchanged then. `OutOfMemory` if an allocation fails.
 ///
 /// After `OutOfMemory` the slice may hold a beginning of the encoding, if the value's type allocates after it began to write.
-/// Plain values, lists, rows, tuples and application tags never do.
+/// Plain values, lists, structs, tuples and application tags never do.
 pub fn to_bytes<T: Serialize>(alloc: Global, value: &T, buf: &mut [u8]) -> Result<usize>
     ensures ok { IfOk result (λ n. Overwrites (T.meaning value.now) buf.old n buf.new) }
     ensures fits { OnOk result (length (der (T.meaning value.now)) ≤ length buf.old) }
@@ -52,7 +52,7 @@ pub fn to_byte_buf<T: Serialize>(alloc: Global, value: &T, buf: &mut Vec<u8>) ->
 /// The canonical encoding of a value, in a vector that may have room for more bytes.
 ///
 /// `OutOfMemory` if an allocation fails. `UnsupportedValue` if the value can't be written: a tag number in it is past 30, the
-/// tag of a `Retagged` isn't constructed, or the encoding is longer than `usize::MAX`.
+/// tag of an `ImplicitList` isn't constructed, or the encoding is longer than `usize::MAX`.
 pub fn to_vec<T: Serialize>(alloc: Global, value: &T) -> Result<Vec<u8>>
     ensures ok { IfOk result (λ bytes. bytes.items ≡ der (T.meaning value.now)) }
     ensures writable { OnOk result (IsWritable (T.meaning value.now)) }
@@ -83,7 +83,7 @@ pub fn to_vec<T: Serialize>(alloc: Global, value: &T) -> Result<Vec<u8>>
 /// beginning of the encoding is written then, and at least one byte is missing. `OutOfMemory` if an allocation fails.
 ///
 /// After `OutOfMemory` a beginning of the encoding may be written, if the value's type allocates after it began to write. Plain
-/// values, lists, rows, tuples and application tags never do.
+/// values, lists, structs, tuples and application tags never do.
 pub fn to_writer<T: Serialize, W: WriteExt>(
     alloc: Global,
     value: &T,
@@ -95,7 +95,7 @@ pub fn to_writer<T: Serialize, W: WriteExt>(
     ensures err { IfErr result (λ e. SinkRefuses W.WriteExt.own
         (T.meaning value.now) writer.old e writer.new) }
     ensures counted { IsOnceAtMost (W.faults writer.old) (W.faults writer.new) }
-    ensures goes_on { W.later writer.old writer.new }
+    ensures continues { W.later writer.old writer.new }
 {
     let mut ser = Serializer::new_to_writer(alloc, writer);
     let outcome = value.serialize(&mut ser);

@@ -2,7 +2,7 @@
 //! What repeats for each width or type.
 
 mod defaults;
-mod lent;
+mod member_refs;
 mod members;
 mod numbers;
 mod tuples;

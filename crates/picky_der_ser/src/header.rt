@@ -173,30 +173,6 @@ pub(crate) fn short_identifier(around: &[Wrapper], header: &Header, len: usize) 
     }
 }
 
-// Makes the room for the header of a content that hasn't come yet, if this is a short one, for which the vector has room. Else
-// nothing is done.
-#[inline(always)]
-pub(crate) fn make_short_room(out: &mut Vec<u8>, is_short: bool)
-    ensures front { take (vec_len out.old) out.new.items ≡ out.old.items }
-    ensures grows { vec_len out.old ≤ vec_len out.new }
-{
-    if is_short && out.capacity() - out.len() >= 2 {
-        // There is room, so this doesn't fail.
-        let _ = out.extend_from_slice(&[0; 2]);
-    }
-}
-
-// Writes a header of two bytes over the bytes from `at` on.
-#[inline(always)]
-fn overwrite_short(out: &mut Vec<u8>, at: usize, identifier: u8, len: u8)
-    requires { at + 2 ≤ vec_len out.old }
-    ensures items { out.new.items ≡ take at out.old.items ++
-        (identifier ∷ len ∷ drop (at + 2) out.old.items) }
-    ensures len { vec_len out.new ≡ vec_len out.old }
-{
-    out[at..at + 2].copy_from_slice(&[identifier, len]);
-}
-
 // Writes the header of the content from `start` on into the room from `at` to `start`, if it is a short one that fits exactly.
 // Else nothing is done.
 #[inline(always)]
@@ -219,7 +195,7 @@ pub(crate) fn fill_short(
     let len = out.len() - start;
     match short_identifier(around, header, len) {
         Some(identifier) if start - at == 2 => {
-            overwrite_short(out, at, identifier, len as u8);
+            out[at..at + 2].copy_from_slice(&[identifier, len as u8]);
             true
         }
         _ => false,

@@ -1,6 +1,6 @@
 //! The levels of a serializer, in one vector.
 ghost use Rattle.std.specs.Prelude.{◌≡◌, ◌≢◌, ◌<◌, ◌≤◌, ◌^◌, ◌+◌, List, [], ◌∷◌, ◌++◌};
-ghost use Rattle.std.specs.Prelude.{true, false, length, drop, vec_len, None, Some, IfSome, IfNone, IsSome, IfOk, OnOk};
+ghost use Rattle.std.specs.Prelude.{true, false, length, None, Some, IfSome, IfNone, IsSome, IfOk, OnOk};
 ghost use Rattle.picky_der_core.specs.Primitive.{Primitive};
 ghost use Rattle.picky_der_core.specs.OpenWrappers.{under};
 ghost use Rattle.picky_der_core.specs.Encoding.{der};
@@ -9,11 +9,11 @@ ghost use Rattle.picky_der_ser.specs.Headers.{tree_of, headers, HasNumber, CanBe
 ghost use Rattle.picky_der_ser.specs.State.{Level, root, with_bytes, at_next_member, in_order, final_content, EntersLevel, HasLevelNumbers};
 
 use crate::Header;
-use crate::enclose::{enclose, push_enclosed};
-use crate::header::{fill_short, make_short_room, push_few, push_headers, push_short};
+use crate::header::{fill_short, push_few, push_headers, push_short};
+use crate::header_insertion::{enclose, push_enclosed};
+use crate::header_room::widen_rooms;
 use crate::marks::{Mark, Marks};
 use crate::order::{arrange, begin_member};
-use crate::widen::widen_rooms;
 use crate::wrapper_stack::Wrappers;
 use picky_der_core::asn1::{Tag, Wrapper};
 use std::alloc::{AllocError, Global};
@@ -60,16 +60,6 @@ impl Model for Levels {
 
     ghost invariant = { λ s. AreMarks s.marks.marks (length s.scratch.items) s.seams.items s.wrappers.of_levels
         × HasMark s.pending s.marks.marks s.marks.spare };
-}
-
-// Drops the bytes before this index.
-#[cold]
-#[inline(never)]
-fn drop_front(out: &mut Vec<u8>, start: usize)
-    requires { start ≤ vec_len out.old }
-    ensures { out.new.items ≡ drop start out.old.items }
-{
-    out.drain(..start);
 }
 
 impl Levels {
@@ -134,7 +124,7 @@ impl Levels {
             marks: _,
             pending: _,
         } = self;
-        drop_front(&mut scratch, start);
+        scratch.drain(..start);
         scratch
     }
 
@@ -180,7 +170,10 @@ impl Levels {
     {
         self.give_up();
         let at = self.scratch.len();
-        make_short_room(&mut self.scratch, self.wrappers.is_bare());
+        // The room for a short header, if there is room for it, so that this doesn't fail.
+        if self.wrappers.is_bare() && self.scratch.capacity() - at >= 2 {
+            let _ = self.scratch.extend_from_slice(&[0; 2]);
+        }
         let first_wrapper = self.wrappers.take();
         self.marks.push(Mark {
             header,

@@ -2,10 +2,11 @@
 #![tactic(auto)]
 
 mod default;
-mod enclose;
 mod entry;
 mod generated;
 mod header;
+mod header_insertion;
+mod header_room;
 mod impls;
 mod integer;
 mod kinds;
@@ -18,7 +19,6 @@ mod order;
 mod sequence;
 mod serializer;
 mod sink;
-mod widen;
 mod wrapper_stack;
 
 pub use default::{DefaultOf, Defaulted, DefaultedRef, False, Number, SignedNumber, True};

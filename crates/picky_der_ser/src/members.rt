@@ -3,32 +3,32 @@ ghost use Rattle.std.specs.Prelude.{◌≡◌, IfOk, IfErr, OnOk};
 ghost use Rattle.picky_der_core.specs.WriterFaults.{IsOnceAtMost};
 ghost use Rattle.picky_der_core.specs.Equality.{IsThatOf};
 ghost use Rattle.picky_der_core.specs.Tree.{ListKind, Tree, Trees};
-ghost use Rattle.picky_der_ser.specs.Calls.{UntouchedUnlessFailed, RefusesWrite, AddsRow, RefusesToAddRow, Writes};
-ghost use Rattle.picky_der_ser.specs.Calls.{AddsInFront, RefusesInFront};
+ghost use Rattle.picky_der_ser.specs.Calls.{UntouchedUnlessFailed, RefusesWrite, AddsAll, RefusesToAddAll, Writes};
+ghost use Rattle.picky_der_ser.specs.Calls.{AddsPrepended, RefusesPrepended};
 
 use crate::{Sequence, Serialize, Serializer};
 use picky_der_core::Result;
 use picky_der_core::asn1::Tag;
 use picky_der_core::misc::WriteExt;
 
-/// A member of a row: a value that is always there, or one that may be absent.
+/// A member of a SEQUENCE: a value that is always there, or one that may be absent.
 pub trait SerializeMember {
     ghost use Rattle.picky_der_ser.specs.SequenceState.{borrowed_by, state_of};
 
     // The members after it, with this one before them if it is there.
-    ghost in_front: { Self → Trees → Trees };
+    ghost prepend: { Self → Trees → Trees };
 
     /// Adds the member to the sequence, if it is there. The errors are those of `serialize_element`.
     fn serialize_member<W: WriteExt>(&self, sequence: &mut Sequence<'_, W>) -> Result<()>
         ensures same_reference { borrowed_by sequence.new ≡ borrowed_by sequence.old }
-        ensures added { OnOk result (AddsInFront W.WriteExt.own (in_front self.now)
+        ensures added { OnOk result (AddsPrepended W.WriteExt.own (prepend self.now)
             (state_of sequence.old) (state_of sequence.new)) }
-        ensures err { IfErr result (λ e. RefusesInFront W.WriteExt.own (in_front self.now)
+        ensures err { IfErr result (λ e. RefusesPrepended W.WriteExt.own (prepend self.now)
             (state_of sequence.old) e (state_of sequence.new)) };
 }
 
 impl<T: Serialize> SerializeMember for T {
-    ghost in_front = { λ value. Trees.more (T.meaning value) };
+    ghost prepend = { λ value. Trees.more (T.meaning value) };
 
     fn serialize_member<W: WriteExt>(&self, sequence: &mut Sequence<'_, W>) -> Result<()> {
         sequence.ser.write_member(self)
@@ -48,7 +48,7 @@ impl<T: PartialEq> Element<T> {
 }
 
 impl<T: Serialize> SerializeMember for Element<T> {
-    ghost in_front = { λ element. Trees.more (T.meaning element.0) };
+    ghost prepend = { λ element. Trees.more (T.meaning element.0) };
 
     fn serialize_member<W: WriteExt>(&self, sequence: &mut Sequence<'_, W>) -> Result<()> {
         sequence.ser.write_member(&self.0)
@@ -65,9 +65,9 @@ pub trait SerializeMembers {
     /// Adds the members to the sequence. The errors are those of `serialize_element`.
     fn serialize_members<W: WriteExt>(&self, sequence: &mut Sequence<'_, W>) -> Result<()>
         ensures same_reference { borrowed_by sequence.new ≡ borrowed_by sequence.old }
-        ensures added { OnOk result (AddsRow W.WriteExt.own (members self.now)
+        ensures added { OnOk result (AddsAll W.WriteExt.own (members self.now)
             (state_of sequence.old) (state_of sequence.new)) }
-        ensures err { IfErr result (λ e. RefusesToAddRow W.WriteExt.own (members self.now)
+        ensures err { IfErr result (λ e. RefusesToAddAll W.WriteExt.own (members self.now)
             (state_of sequence.old) e (state_of sequence.new)) };
 
     /// Writes the members as a sequence. It is the whole body of `Serialize::serialize` of a struct, and has its errors.
@@ -79,7 +79,7 @@ pub trait SerializeMembers {
         ensures untouched { IfErr result (λ e. UntouchedUnlessFailed W.WriteExt.own
             ser.old.sink e ser.new.sink) }
         ensures counted { IsOnceAtMost (W.faults ser.old.sink) (W.faults ser.new.sink) }
-        ensures goes_on { W.later ser.old.sink ser.new.sink }
+        ensures continues { W.later ser.old.sink ser.new.sink }
     {
         let mut sequence = Sequence::serialize_lazy(ser, Tag::SEQUENCE);
         self.serialize_members(&mut sequence)?;
@@ -99,7 +99,7 @@ impl<T: Serialize> Serialize for &T {
 
 /// Members by reference, for the fields of a struct.
 impl<M: SerializeMembers> SerializeMembers for &M {
-    ghost members = { λ row. M.members row.now };
+    ghost members = { λ it. M.members it.now };
 
     fn serialize_members<W: WriteExt>(&self, sequence: &mut Sequence<'_, W>) -> Result<()> {
         M::serialize_members(self, sequence)

@@ -19,7 +19,7 @@ impl<T: Serialize> Serialize for Option<T> {
     }
 }
 
-/// A member of a row that may be absent (ASN.1's OPTIONAL). An absent member isn't written, and the other members are written
+/// A member that may be absent (ASN.1's OPTIONAL). An absent member isn't written, and the other members are written
 /// as without it.
 #[derive(Debug, Clone, Drop, PartialEq, Eq)]
 pub struct Optional<T>(pub Option<T>);
@@ -40,12 +40,12 @@ impl<T: Clone> Optional<T> {
     {}
 }
 
-/// A member of a row that may be absent, by reference, for the field of a struct.
+/// A member that may be absent, by reference, for the field of a struct.
 #[derive(Drop)]
 pub struct OptionalRef<'a, T>(pub &'a Option<T>);
 
 impl<T: Serialize> SerializeMember for Optional<T> {
-    ghost in_front = { λ member. maybe_more T.meaning member.0 };
+    ghost prepend = { λ member. maybe_more T.meaning member.0 };
 
     fn serialize_member<W: WriteExt>(&self, sequence: &mut Sequence<'_, W>) -> Result<()> {
         OptionalRef(&self.0).serialize_member(sequence)
@@ -53,7 +53,7 @@ impl<T: Serialize> SerializeMember for Optional<T> {
 }
 
 impl<T: Serialize> SerializeMember for OptionalRef<'_, T> {
-    ghost in_front = { λ member. maybe_more T.meaning member.0.now };
+    ghost prepend = { λ member. maybe_more T.meaning member.0.now };
 
     fn serialize_member<W: WriteExt>(&self, sequence: &mut Sequence<'_, W>) -> Result<()> {
         match self.0 {

@@ -63,11 +63,15 @@ impl<'a, W: WriteExt> Sequence<'a, W> {
     ///
     /// If the serializer has failed before, its earlier error is returned. `OutOfMemory` if an allocation fails; if it is the
     /// allocation for the order of a set, nothing was written. Any other error is the sink's.
-    #[inline(always)]
     pub fn end(self) -> Result<usize>
         ensures { EndsLevel W.WriteExt.own (state_of self.entry) result self.exit.0.now }
     {
         let ser: &mut Serializer<W> = self.ser;
+        if ser.failed.is_none() {
+            if let Some(count) = ser.levels.merge_short() {
+                return Ok(count);
+            }
+        }
         ser.close()
     }
 }

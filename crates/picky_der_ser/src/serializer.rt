@@ -31,7 +31,7 @@ pub trait Serialize {
     ///
     /// `UnsupportedValue` if the value can't be written: nothing is written then. `OutOfMemory` if an allocation fails. Any
     /// other error is the sink's. After an error of the sink, or `OutOfMemory`, a beginning of the encoding may be written. If
-    /// only an allocation failed, the plain values, lists and rows of this library leave the sink unchanged (`untouched`).
+    /// only an allocation failed, the plain values, lists and tuples of this library leave the sink unchanged (`untouched`).
     ///
     /// An implementation returns the errors of the calls that it makes, and makes none of its own. After an error the
     /// serializer has failed with it.
@@ -41,7 +41,7 @@ pub trait Serialize {
         ensures failed { IfErr result (λ e. RefusesWrite W.WriteExt.own
             (meaning self.now) ser.old e ser.new) }
         ensures counted { IsOnceAtMost (W.faults ser.old.sink) (W.faults ser.new.sink) }
-        ensures goes_on { W.later ser.old.sink ser.new.sink };
+        ensures continues { W.later ser.old.sink ser.new.sink };
 }
 
 /// Writes values to a sink. After an error it has failed: each later call returns an error of its kind and writes nothing.

@@ -18,7 +18,7 @@ pub(crate) fn put_element<W: WriteExt>(sink: &mut W, tag: Tag, content: &[u8]) -
         (tlv tag content.now)) }
     ensures fault { IfErr result (λ e. WriterFails W.WriteExt.own sink.old e sink.new) }
     ensures no_fault { OnOk result (W.faults sink.new ≡ W.faults sink.old) }
-    ensures goes_on { W.later sink.old sink.new }
+    ensures continues { W.later sink.old sink.new }
 {
     let identifier = sink.write_one(tag.inner())?;
     let length = Length::serialize(content.len(), sink)?;
@@ -35,7 +35,7 @@ pub(crate) fn put_headed<W: WriteExt>(sink: &mut W, headers: &[u8], content: &[u
         (headers.now ++ content.now)) }
     ensures fault { IfErr result (λ e. WriterFails W.WriteExt.own sink.old e sink.new) }
     ensures no_fault { OnOk result (W.faults sink.new ≡ W.faults sink.old) }
-    ensures goes_on { W.later sink.old sink.new }
+    ensures continues { W.later sink.old sink.new }
 {
     let first = sink.write_exact(headers)?;
     let rest = sink.write_exact(content)?;

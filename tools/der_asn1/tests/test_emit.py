@@ -134,8 +134,8 @@ class AsByHand(unittest.TestCase):
             if not item.startswith(("impl Begins", "impl Notated")):
                 self.assertIn(item, hand)
         aliases = crate.files()["src/types.rt"]
-        self.assertIn("pub type Personnel = RetaggedSet<PersonnelMembers, 0x60>;\n", aliases)
-        self.assertIn("pub type EmployeeNumber = RetaggedPrimitive<Integer, 0x42>;\n", aliases)
+        self.assertIn("pub type Personnel = ImplicitSet<PersonnelMembers, 0x60>;\n", aliases)
+        self.assertIn("pub type EmployeeNumber = ImplicitPrimitive<Integer, 0x42>;\n", aliases)
 
     def test_a_choice_of_two(self):
         body = "NumberOrFlag ::= CHOICE { number INTEGER (0..255), flag BOOLEAN }"
@@ -511,7 +511,7 @@ class Alternatives(unittest.TestCase):
 
     def test_types(self):
         self.assertEqual("OneOf<A, NoneOf>", str(parts_type([of("A")])))
-        self.assertEqual("OneOf4<A, B, C, D, OneOf<E, NoneOf>>", str(parts_type([of(it) for it in "ABCDE"])))
+        self.assertEqual("Choice4<A, B, C, D, OneOf<E, NoneOf>>", str(parts_type([of(it) for it in "ABCDE"])))
 
     def test_terms_and_patterns(self):
         self.assertEqual("Later (Later (This x))", term(["Later", "Later", "This"], "x"))

@@ -67,20 +67,20 @@ EXACT = [
     ("[3] IMPLICIT OCTET STRING (CONTAINING OCTET STRING (CONTAINING NULL))", "ImplicitContextTag3<(OctetStringAsn1Container<()>,)>"),
     ("[3] IMPLICIT OCTET STRING (CONTAINING [4] IMPLICIT OCTET STRING (CONTAINING NULL))", "ImplicitContextTag3<(ImplicitContextTag4<((),)>,)>"),
     ("[3] IMPLICIT SEQUENCE OF NULL", "ImplicitList3<Vec<()>>"),
-    ("[8] IMPLICIT SET OF NULL", "Retagged<Asn1SetOf<()>, 0xA8>"),
+    ("[8] IMPLICIT SET OF NULL", "ImplicitList<Asn1SetOf<()>, 0xA8>"),
     ("[APPLICATION 3] NULL", "ApplicationTag<(), 3>"),
-    ("[APPLICATION 3] IMPLICIT SEQUENCE OF NULL", "Retagged<Vec<()>, 0x63>"),
-    ("[APPLICATION 3] IMPLICIT OBJECT IDENTIFIER", "RetaggedPrimitive<ObjectIdentifier, 0x43>"),
-    ("[PRIVATE 3] IMPLICIT INTEGER", "RetaggedPrimitive<Integer, 0xC3>"),
+    ("[APPLICATION 3] IMPLICIT SEQUENCE OF NULL", "ImplicitList<Vec<()>, 0x63>"),
+    ("[APPLICATION 3] IMPLICIT OBJECT IDENTIFIER", "ImplicitPrimitive<ObjectIdentifier, 0x43>"),
+    ("[PRIVATE 3] IMPLICIT INTEGER", "ImplicitPrimitive<Integer, 0xC3>"),
     ("[APPLICATION 3] IMPLICIT OCTET STRING", "TaggedBytes<0x43>"),
-    ("[PRIVATE 3] EXPLICIT NULL", "Retagged<((),), 0xE3>"),
+    ("[PRIVATE 3] EXPLICIT NULL", "ImplicitList<((),), 0xE3>"),
     ("[1] IMPLICIT [2] EXPLICIT NULL", "ExplicitContextTag1<()>"),
     ("[1] IMPLICIT [2] IMPLICIT NULL", "ImplicitContextTag1<()>"),
     ("[1] IMPLICIT [2] IMPLICIT SEQUENCE OF NULL", "ImplicitList1<Vec<()>>"),
     ("[1] EXPLICIT [2] IMPLICIT NULL", "ExplicitContextTag1<ImplicitContextTag2<()>>"),
     ("SEQUENCE { a NULL }", "T"),
     ("SET { a NULL }", "Asn1Set<T>"),
-    ("[1] IMPLICIT SET { a NULL }", "RetaggedSet<T, 0xA1>"),
+    ("[1] IMPLICIT SET { a NULL }", "ImplicitSet<T, 0xA1>"),
     ("[1] IMPLICIT SEQUENCE { a NULL }", "ImplicitList1<T>"),
     ("SEQUENCE {}", "WithSize<Vec<()>, 0, 0>"),
     ("CHOICE { a NULL, b [0] NULL }", "T"),
@@ -134,8 +134,8 @@ MISSING = [
     ("OCTET STRING (CONTAINING INTEGER ENCODED BY { 2 1 1 })", Level.NEAR, Feature.ENCODING),
     ("BIT STRING { a(0) } (SIZE (1..9))", Level.NEAR, Feature.NAMED_BITS_SIZE),
     ("INTEGER (0..missing)", Level.NEAR, Feature.UNKNOWN_BOUND),
-    ("REAL", Level.RAW, Feature.RARE),
-    ("SEQUENCE { a REAL }", Level.PARTLY_RAW, Feature.RARE),
+    ("CHARACTER STRING", Level.RAW, Feature.RARE),
+    ("SEQUENCE { a CHARACTER STRING }", Level.PARTLY_RAW, Feature.RARE),
     ("SEQUENCE { a Missing }", Level.PARTLY_RAW, Feature.UNDEFINED),
     ("SEQUENCE { a T OPTIONAL }", Level.PARTLY_RAW, Feature.RECURSION),
     ("[31] NULL", Level.REFUSED, Feature.LONG_TAG),
@@ -193,7 +193,7 @@ class Parts(unittest.TestCase):
         self.assertEqual(Level.NEAR, one.meaning("T").level)
 
     def test_what_is_raw_is_a_raw_part(self):
-        one = given("T ::= SEQUENCE { a U }\nU ::= REAL")
+        one = given("T ::= SEQUENCE { a U }\nU ::= CHARACTER STRING")
         self.assertEqual((Level.RAW, Level.PARTLY_RAW), (one.meaning("U").level, one.meaning("T").level))
 
     def test_constraints_after_a_name(self):
@@ -267,13 +267,13 @@ class Parameters(unittest.TestCase):
         self.assertEqual(Level.EXACT, found.level)
 
     def test_a_parameter_of_a_parameter(self):
-        one = given("A { X } ::= B { X }\nB { Y } ::= SEQUENCE { a Y }\nT ::= A { REAL }")
+        one = given("A { X } ::= B { X }\nB { Y } ::= SEQUENCE { a Y }\nT ::= A { CHARACTER STRING }")
         self.assertEqual({Feature.RARE}, one.meaning("T").features)
 
     def test_names_in_arguments_are_of_the_module_that_gives_them(self):
         two = Given(
             "M DEFINITIONS ::= BEGIN IMPORTS A FROM N; T ::= A { Own } Own ::= BOOLEAN END",
-            "N DEFINITIONS ::= BEGIN A { X } ::= SEQUENCE { a X } Own ::= REAL END",
+            "N DEFINITIONS ::= BEGIN A { X } ::= SEQUENCE { a X } Own ::= CHARACTER STRING END",
         )
         self.assertEqual(Level.EXACT, two.meaning("T").level)
 
@@ -323,7 +323,7 @@ U ::= AlgorithmIdentifier {{ {{...}} }}"""
 
 class Selection(unittest.TestCase):
     def test_of_an_alternative(self):
-        one = Given(module_text("C ::= CHOICE { a INTEGER, b REAL }\nT ::= a < C\nU ::= c < C"))
+        one = Given(module_text("C ::= CHOICE { a INTEGER, b CHARACTER STRING }\nT ::= a < C\nU ::= c < C"))
         self.assertEqual(Level.EXACT, one.meaning("T").level)
         one.meaning("U")
         self.assertEqual(["0.asn1:4:7: error: there is no alternative `c` (X.680, 30.3)"], [str(it) for it in one.problems.found])

@@ -19,7 +19,7 @@ OWN = "an enum of its own with numbers of more than a byte"
 BODY = """A ::= BOOLEAN
 B ::= CHOICE { a NULL, ... }
 C ::= ANY
-D ::= SEQUENCE { a REAL }
+D ::= SEQUENCE { a CHARACTER STRING }
 E ::= [31] NULL
 F { X } ::= SEQUENCE { a X }
 G ::= 5
@@ -47,7 +47,7 @@ class Reports(unittest.TestCase):
 
     def test_the_greedy_list(self):
         self.assertEqual(["2", "3", "4", "5"], [it.split()[0] for it in report.greedy(self.found)])
-        self.assertIn("REAL", report.greedy(self.found)[1])
+        self.assertIn("CHARACTER STRING", report.greedy(self.found)[1])
 
     def test_how_many_each_feature_stops(self):
         lines = report.features_table(self.found)
@@ -100,7 +100,7 @@ class Command(unittest.TestCase):
     def test_an_import(self):
         texts = {
             "m.asn1": "M DEFINITIONS ::= BEGIN IMPORTS U FROM N; T ::= SEQUENCE { a U } END",
-            "n.asn1": "N DEFINITIONS ::= BEGIN U ::= NULL V ::= REAL END",
+            "n.asn1": "N DEFINITIONS ::= BEGIN U ::= NULL V ::= CHARACTER STRING END",
         }
         _, out, _ = self.run_on(texts, "--report", "--import", "{folder}/n.asn1")
         self.assertIn("1 of 1 (100.0 %) exact\n", out)
@@ -127,7 +127,7 @@ class Command(unittest.TestCase):
 
     def test_some_types_of_a_crate(self):
         with tempfile.TemporaryDirectory() as folder:
-            texts = {"m.asn1": module_text("T ::= SEQUENCE { a U } U ::= SEQUENCE { a NULL } V ::= REAL")}
+            texts = {"m.asn1": module_text("T ::= SEQUENCE { a U } U ::= SEQUENCE { a NULL } V ::= CHARACTER STRING")}
             self.assertEqual(0, self.run_on(texts, "--out", folder, "--type", "T")[0])
             self.assertEqual(["lib.rt", "notation.rt", "types.rt"], sorted(os.listdir(os.path.join(folder, "src"))))
             with open(os.path.join(folder, "src", "types.rt"), encoding="utf-8") as it:
@@ -152,7 +152,7 @@ class Command(unittest.TestCase):
 
     def test_what_a_crate_refuses(self):
         for notation, options, wanted in (
-            ("T ::= REAL", [], f"2:1: error: `T` would be kept as bytes, or a part of it: {RARE}. `--allow-raw` allows it"),
+            ("T ::= CHARACTER STRING", [], f"2:1: error: `T` would be kept as bytes, or a part of it: {RARE}. `--allow-raw` allows it"),
             ("T ::= [1] IMPLICIT BIT STRING (CONTAINING NULL)", ["--strict"], f"2:1: error: `T` would be kept as bytes, or a part of it: {BITS}. `--allow-raw` allows it"),
             ("T ::= ENUMERATED { a(128) }", [], f"2:1: error: `T` would have more values than the notation: {OWN}. `--allow-wider` allows it"),
             ("T ::= [31] NULL", [], "2:1: error: `T` has no type: tags with a number above 30"),
@@ -165,7 +165,7 @@ class Command(unittest.TestCase):
                 self.assertEqual([], os.listdir(folder))
 
     def test_what_a_crate_allows(self):
-        raw, wider = ("T ::= REAL", "--allow-raw", "TaggedBytes<0x09>"), ("T ::= ENUMERATED { a(128) }", "--allow-wider", "Enumerated")
+        raw, wider = ("T ::= CHARACTER STRING", "--allow-raw", "TaggedBytes<0x3D>"), ("T ::= ENUMERATED { a(128) }", "--allow-wider", "Enumerated")
         bits = ("T ::= [1] IMPLICIT BIT STRING (CONTAINING NULL)", "--allow-raw", "TaggedBytes<0x81>")
         for notation, option, wanted in (raw, bits, wider):
             with self.subTest(notation), tempfile.TemporaryDirectory() as folder:

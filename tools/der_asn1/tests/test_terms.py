@@ -28,11 +28,11 @@ class Terms(unittest.TestCase):
 
     def test_ranges(self):
         self.check([("INTEGER (0..255)", "INTEGER-from-to 0 255"), ("INTEGER (5)", "INTEGER-from-to 5 5")])
-        self.check([("INTEGER (-128..127)", "INTEGER-from-minus-to 128 127"), ("INTEGER (-1..5)", "instead INTEGER")])
+        self.check([("INTEGER (-128..127)", "INTEGER-from-minus-to 128 127"), ("INTEGER (-1..5)", "wider INTEGER")])
 
     def test_sizes(self):
         self.check([("OCTET STRING (SIZE (4..16))", "SIZE 4 16 OCTET-STRING"), ("IA5String (SIZE (3))", "SIZE 3 3 IA5String")])
-        self.check([("SET SIZE (1..MAX) OF NULL", "SIZE 1 MAX (SET-OF NULL)"), ("IA5String (SIZE (1 | 3))", "instead IA5String")])
+        self.check([("SET SIZE (1..MAX) OF NULL", "SIZE 1 MAX (SET-OF NULL)"), ("IA5String (SIZE (1 | 3))", "wider IA5String")])
 
     def test_tags(self):
         self.check([("[1] INTEGER", "CONTEXT 1 TAGS-M INTEGER"), ("[1] IMPLICIT INTEGER", "CONTEXT 1 IMPLICIT INTEGER")])
@@ -47,17 +47,17 @@ class Terms(unittest.TestCase):
         self.assertEqual("PNull", found)
 
     def test_a_tag_that_the_library_has_for_other_values_alone(self):
-        self.check([("[APPLICATION 1] BOOLEAN", "instead (any-content 0x41)")], "IMPLICIT TAGS")
-        self.check([("[APPLICATION 1] INTEGER (0..255)", "instead (content-under 0x41 INTEGER)")], "IMPLICIT TAGS")
+        self.check([("[APPLICATION 1] BOOLEAN", "wider (any-content 0x41)")], "IMPLICIT TAGS")
+        self.check([("[APPLICATION 1] INTEGER (0..255)", "wider (content-under 0x41 INTEGER)")], "IMPLICIT TAGS")
         self.check([("[APPLICATION 1] OCTET STRING", "APPLICATION 1 TAGS-M OCTET-STRING")], "IMPLICIT TAGS")
 
     def test_a_tag_over_a_set_with_a_constraint(self):
         one = given("T ::= [1] IMPLICIT S (WITH COMPONENTS { a PRESENT })\nS ::= SET { a NULL OPTIONAL }")
-        self.assertEqual("RetaggedSet<SMembers, 0xA1>", str(one.meanings.declarations.by_name[one.meaning("T").rust.text].type))
+        self.assertEqual("ImplicitSet<SMembers, 0xA1>", str(one.meanings.declarations.by_name[one.meaning("T").rust.text].type))
 
     def test_a_tag_over_a_string_of_which_the_library_has_only_bytes(self):
-        pairs = [("[0] GraphicString", "CONTEXT 0 TAGS-M (instead (any-content 0x19))")]
-        self.check([*pairs, ("[APPLICATION 3] VideotexString", "APPLICATION 3 TAGS-M (instead (any-content 0x15))")], "IMPLICIT TAGS")
+        pairs = [("[0] GraphicString", "CONTEXT 0 TAGS-M (wider (any-content 0x19))")]
+        self.check([*pairs, ("[APPLICATION 3] VideotexString", "APPLICATION 3 TAGS-M (wider (any-content 0x15))")], "IMPLICIT TAGS")
         self.assertEqual("TaggedBytes<0x43>", self.field())
 
     def field(self):
@@ -67,7 +67,7 @@ class Terms(unittest.TestCase):
     def test_members(self):
         wanted = "SEQUENCE (required NULL ⨾ optional BOOLEAN ⨾ default TRUE (CONTEXT 0 TAGS-M BOOLEAN) ⨾ end)"
         self.check([("SEQUENCE { a NULL, b BOOLEAN OPTIONAL, c [0] BOOLEAN DEFAULT TRUE }", wanted)])
-        wanted = "instead (SEQUENCE (default-as-optional INTEGER ⨾ end))"
+        wanted = "wider (SEQUENCE (default-as-optional INTEGER ⨾ end))"
         self.check([("SEQUENCE { a INTEGER DEFAULT -1 }", wanted), ("SEQUENCE {}", "SEQUENCE end")])
         self.check([("SEQUENCE { a [0] INTEGER DEFAULT 7 }", "SEQUENCE (default-of 7 (CONTEXT 0 TAGS-M INTEGER) ⨾ end)")])
 
@@ -88,14 +88,14 @@ class Terms(unittest.TestCase):
         self.check([("SEQUENCE { a NULL, ... }", "SEQUENCE (required NULL ⨾ later-members)"), ("SEQUENCE { ... }", "SEQUENCE later-members")])
         self.check([("SEQUENCE { a NULL, ..., b BOOLEAN }", "SEQUENCE (required NULL ⨾ added BOOLEAN ⨾ later-members)")])
         self.check([("SEQUENCE { a NULL, ..., [[ b BOOLEAN ]] }", "SEQUENCE (required NULL ⨾ added BOOLEAN ⨾ later-members)")])
-        wanted = "instead (SEQUENCE (required NULL ⨾ added BOOLEAN ⨾ required INTEGER ⨾ later-members-refused))"
+        wanted = "wider (SEQUENCE (required NULL ⨾ added BOOLEAN ⨾ required INTEGER ⨾ later-members-refused))"
         self.check([("SEQUENCE { a NULL, ..., b BOOLEAN, ..., c INTEGER }", wanted)])
-        self.check([("SEQUENCE { a NULL, b ANY OPTIONAL, ... }", "instead (SEQUENCE (required NULL ⨾ optional ANY ⨾ later-members-refused))")])
-        self.check([("SET { a NULL, ... }", "instead (SET (required NULL ⨾ later-members-refused))")])
-        self.check([("CHOICE { a NULL, ... }", "instead (CHOICE (NULL ∣ later-alternatives-refused))")])
+        self.check([("SEQUENCE { a NULL, b ANY OPTIONAL, ... }", "wider (SEQUENCE (required NULL ⨾ optional ANY ⨾ later-members-refused))")])
+        self.check([("SET { a NULL, ... }", "wider (SET (required NULL ⨾ later-members-refused))")])
+        self.check([("CHOICE { a NULL, ... }", "wider (CHOICE (NULL ∣ later-alternatives-refused))")])
 
     def test_what_is_kept_as_bytes(self):
-        self.check([("REAL", "instead (any-content 0x09)"), ("SEQUENCE { a T2 }", "SEQUENCE (required (instead ANY) ⨾ end)")])
+        self.check([("CHARACTER STRING", "wider (any-content 0x3D)"), ("SEQUENCE { a T2 }", "SEQUENCE (required (wider ANY) ⨾ end)")])
 
     def test_strings_that_contain_a_value(self):
         self.check([("OCTET STRING (CONTAINING NULL)", "OCTET-STRING-CONTAINING NULL")])
@@ -104,8 +104,8 @@ class Terms(unittest.TestCase):
     def test_a_tag_in_place_of_that_of_a_string_that_contains_a_value(self):
         """X.690, 8.14.3: `81 03 02 01 07` of an octet string, and `81 04 00 02 01 07` of a bit string, for which the library has no type."""
         self.check([("[1] IMPLICIT OCTET STRING (CONTAINING INTEGER)", "CONTEXT 1 IMPLICIT (OCTET-STRING-CONTAINING INTEGER)")])
-        self.check([("[1] IMPLICIT BIT STRING (CONTAINING INTEGER)", "instead (any-content 0x81)")])
-        self.check([("[PRIVATE 1] IMPLICIT OCTET STRING (CONTAINING INTEGER)", "instead (any-content 0xC1)")])
+        self.check([("[1] IMPLICIT BIT STRING (CONTAINING INTEGER)", "wider (any-content 0x81)")])
+        self.check([("[PRIVATE 1] IMPLICIT OCTET STRING (CONTAINING INTEGER)", "wider (any-content 0xC1)")])
 
 
 class Definitions(unittest.TestCase):
@@ -137,7 +137,7 @@ class Definitions(unittest.TestCase):
 
     def test_a_name_that_the_type_under_a_tag_has_not(self):
         crate = crate_of("A ::= SEQUENCE { b [0] IMPLICIT B } B ::= SET { c NULL }", "A")
-        self.assertIn("RetaggedSet<BMembers, 0xA0>", crate.files()["src/types.rt"])
+        self.assertIn("ImplicitSet<BMembers, 0xA0>", crate.files()["src/types.rt"])
         self.assertEqual(["A", "B", "BMembers"], sorted(crate.types))
 
     def test_the_law(self):

@@ -54,7 +54,7 @@ class Comments(unittest.TestCase):
         first, second = scan("a -- one\nb", "t", Problems())[:2]
         self.assertEqual(("one", []), (first.beside, second.above))
 
-    def test_a_comment_beside_an_item_goes_on_below(self):
+    def test_a_comment_beside_an_item_continues_below(self):
         first, _, second = scan("a, -- one\n   -- two\nb", "t", Problems())[:3]
         self.assertEqual("", first.beside)
         self.assertEqual("one two", scan("a, -- one\n   -- two\nb", "t", Problems())[1].beside)

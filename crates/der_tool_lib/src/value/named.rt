@@ -9,7 +9,7 @@ use picky_asn1_der::asn1::ByteBuf;
 use picky_asn1_der::misc::ReadExt;
 use picky_asn1_der::{Asn1RawDer, Deserialize, Deserializer, Result};
 
-// A type that lines name. Its description says which error a rejected input has.
+// A type that lines name. Its description says which error a refused input has.
 pub(crate) trait Named: Deserialize {
     ghost use Rattle.der_tool_lib.specs.declared.value.ValueType.{ValueType};
 

@@ -3,13 +3,13 @@
 ghost use Rattle.std.proofs.Common.{lit≤};
 ghost use Rattle.std.specs.Prelude.{◌≡◌, true, false, refl, IfSome, IfNone, IfOk, IfErr};
 ghost use Rattle.std.specs.Cmp.Lexicographic.{bytes_decides};
-ghost use Rattle.picky_der_de.specs.Known.{known_bytes};
+ghost use Rattle.picky_der_de.specs.Facts.{bytes_facts};
 ghost use Rattle.der_types.specs.BitString.{is_bit_string};
 ghost use Rattle.der_types.specs.ContentForms as form;
 ghost use Rattle.der_types.specs.ContentTests.{ReadsContent, RefusesContent};
 ghost use Rattle.der_types.specs.Exact.{content_exact, plain_values};
 ghost use Rattle.der_types.specs.ExactContents.{own_contents};
-ghost use Rattle.der_types.specs.KnownContents.{contents_of, contents_shape};
+ghost use Rattle.der_types.specs.ContentsFacts.{contents_of, contents_shape};
 ghost use Rattle.der_types.specs.MadeValues.{vec_of};
 
 use crate::bits::is_bit_string;
@@ -81,9 +81,9 @@ impl Serialize for BitString {
 impl Deserialize for BitString {
     ghost shape = { contents_shape 0x03 };
 
-    ghost known = { known_bytes 0x03 (λ it. it.content.items) };
+    ghost facts = { bytes_facts 0x03 (λ it. it.content.items) };
 
-    ghost tied = { Prim.assumption };
+    ghost proved = { Prim.assumption };
 
     fn deserialize<R: ReadExt>(deserializer: &mut Deserializer<R>) -> Result<BitString>
         ensures read { IfOk result (λ it. ReadsContent 0x03 is_bit_string deserializer.old deserializer.new it.content.items) }

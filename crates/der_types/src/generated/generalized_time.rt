@@ -8,7 +8,7 @@ ghost use Rattle.der_types.specs.ContentForms as form;
 ghost use Rattle.der_types.specs.ContentTests.{ReadsContent, RefusesContent};
 ghost use Rattle.der_types.specs.Exact.{content_exact, plain_values};
 ghost use Rattle.der_types.specs.ExactContents.{own_contents};
-ghost use Rattle.der_types.specs.KnownContents.{contents_of, contents_shape, known_contents};
+ghost use Rattle.der_types.specs.ContentsFacts.{contents_of, contents_shape, contents_facts};
 ghost use Rattle.der_types.specs.MadeValues.{vec_of};
 
 use crate::time_contents::is_generalized_time;
@@ -80,9 +80,9 @@ impl Serialize for GeneralizedTime {
 impl Deserialize for GeneralizedTime {
     ghost shape = { contents_shape 0x18 };
 
-    ghost known = { known_contents 0x18 (λ it. it.content.items) ⟦<Self as PartialEq>⟧.eq ⟦<Self as Contents>⟧.same };
+    ghost facts = { contents_facts 0x18 (λ it. it.content.items) ⟦<Self as PartialEq>⟧.eq ⟦<Self as Contents>⟧.same };
 
-    ghost tied = { Prim.assumption };
+    ghost proved = { Prim.assumption };
 
     fn deserialize<R: ReadExt>(deserializer: &mut Deserializer<R>) -> Result<GeneralizedTime>
         ensures read { IfOk result (λ it. ReadsContent 0x18 is_generalized_time deserializer.old deserializer.new it.content.items) }

@@ -292,7 +292,7 @@ impl WholeNumber for u8 {
         least <= number && number <= most
     }
 
-    ghost told = { λ x y e. ap pos (unsigned_tree-same (2 ^ 8 - 1) x y e) };
+    ghost determined = { λ x y e. ap pos (unsigned_tree-same (2 ^ 8 - 1) x y e) };
 }
 
 impl WholeNumber for u16 {
@@ -303,7 +303,7 @@ impl WholeNumber for u16 {
         least <= number && number <= most
     }
 
-    ghost told = { λ x y e. ap pos (unsigned_tree-same (2 ^ 16 - 1) x y e) };
+    ghost determined = { λ x y e. ap pos (unsigned_tree-same (2 ^ 16 - 1) x y e) };
 }
 
 impl WholeNumber for u32 {
@@ -314,7 +314,7 @@ impl WholeNumber for u32 {
         least <= number && number <= most
     }
 
-    ghost told = { λ x y e. ap pos (unsigned_tree-same (2 ^ 32 - 1) x y e) };
+    ghost determined = { λ x y e. ap pos (unsigned_tree-same (2 ^ 32 - 1) x y e) };
 }
 
 impl WholeNumber for u64 {
@@ -324,7 +324,7 @@ impl WholeNumber for u64 {
         least <= *self && *self <= most
     }
 
-    ghost told = { λ x y e. ap pos (unsigned_tree-same (2 ^ 64 - 1) x y e) };
+    ghost determined = { λ x y e. ap pos (unsigned_tree-same (2 ^ 64 - 1) x y e) };
 }
 
 impl WholeNumber for u128 {
@@ -334,7 +334,7 @@ impl WholeNumber for u128 {
         u128::from(least) <= *self && *self <= u128::from(most)
     }
 
-    ghost told = { λ x y e. ap pos (unsigned_tree-same (2 ^ 128 - 1) x y e) };
+    ghost determined = { λ x y e. ap pos (unsigned_tree-same (2 ^ 128 - 1) x y e) };
 }
 
 impl WholeNumber for usize {
@@ -345,5 +345,5 @@ impl WholeNumber for usize {
         least <= number && number <= most
     }
 
-    ghost told = { λ x y e. ap pos (unsigned_tree-same (2 ^ 64 - 1) x y e) };
+    ghost determined = { λ x y e. ap pos (unsigned_tree-same (2 ^ 64 - 1) x y e) };
 }

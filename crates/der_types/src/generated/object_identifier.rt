@@ -3,13 +3,13 @@
 ghost use Rattle.std.proofs.Common.{lit≤};
 ghost use Rattle.std.specs.Prelude.{◌≡◌, true, false, refl, IfSome, IfNone, IfOk, IfErr};
 ghost use Rattle.std.specs.Cmp.Lexicographic.{bytes_decides};
-ghost use Rattle.picky_der_de.specs.Known.{known_bytes};
+ghost use Rattle.picky_der_de.specs.Facts.{bytes_facts};
 ghost use Rattle.der_types.specs.ObjectIdentifier.{is_object_identifier};
 ghost use Rattle.der_types.specs.ContentForms as form;
 ghost use Rattle.der_types.specs.ContentTests.{ReadsContent, RefusesContent};
 ghost use Rattle.der_types.specs.Exact.{content_exact, plain_values};
 ghost use Rattle.der_types.specs.ExactContents.{own_contents};
-ghost use Rattle.der_types.specs.KnownContents.{contents_of, contents_shape};
+ghost use Rattle.der_types.specs.ContentsFacts.{contents_of, contents_shape};
 ghost use Rattle.der_types.specs.MadeValues.{small_vec_of};
 
 use crate::object_identifier::INLINE;
@@ -95,9 +95,9 @@ impl Serialize for ObjectIdentifier {
 impl Deserialize for ObjectIdentifier {
     ghost shape = { contents_shape 0x06 };
 
-    ghost known = { known_bytes 0x06 (λ it. it.content.items) };
+    ghost facts = { bytes_facts 0x06 (λ it. it.content.items) };
 
-    ghost tied = { Prim.assumption };
+    ghost proved = { Prim.assumption };
 
     fn deserialize<R: ReadExt>(deserializer: &mut Deserializer<R>) -> Result<ObjectIdentifier>
         ensures read { IfOk result (λ it. ReadsContent 0x06 is_object_identifier deserializer.old deserializer.new (⟦<ObjectIdentifier as Contents>⟧.content it)) }

@@ -3,7 +3,7 @@
 ghost use Rattle.std.proofs.Common.{ap};
 ghost use Rattle.std.specs.Prelude.{◌≡◌, true, false, not, refl, IfSome, IfNone, IfOk, IfErr};
 ghost use Rattle.picky_der_de.specs.Reading.{Reads, Refuses};
-ghost use Rattle.picky_der_de.specs.Known.{known_part};
+ghost use Rattle.picky_der_de.specs.Facts.{part_facts};
 ghost use Rattle.der_types.specs.Constraints.{is_between, RefusesConstrained};
 ghost use Rattle.der_types.specs.ExactConstraints.{other_than_values};
 ghost use Rattle.der_types.specs.Notation.{Notation};
@@ -71,7 +71,7 @@ impl<T: WholeNumber + Deserialize, const N: u64> Constrained for OtherThan<T, N>
 
     ghost kept = { λ it. ap not it.allowed };
 
-    ghost told = { λ x y e. ap (λ z. not (is_between N N z)) (T.told x y e) };
+    ghost determined = { λ x y e. ap (λ z. not (is_between N N z)) (T.determined x y e) };
 }
 
 impl<T: WholeNumber, const N: u64> Serialize for OtherThan<T, N> {
@@ -85,9 +85,9 @@ impl<T: WholeNumber, const N: u64> Serialize for OtherThan<T, N> {
 impl<T: WholeNumber + Deserialize, const N: u64> Deserialize for OtherThan<T, N> {
     ghost shape = { T.shape };
 
-    ghost known = { known_part T.known T.meaning T.eq (λ it. it.value) };
+    ghost facts = { part_facts T.facts T.meaning T.eq (λ it. it.value) };
 
-    ghost tied = { Prim.assumption };
+    ghost proved = { Prim.assumption };
 
     fn deserialize<R: ReadExt>(deserializer: &mut Deserializer<R>) -> Result<OtherThan<T, N>>
         ensures ok { IfOk result (λ it. Reads T.shape deserializer.old deserializer.new

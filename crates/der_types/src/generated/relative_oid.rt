@@ -3,13 +3,13 @@
 ghost use Rattle.std.proofs.Common.{lit≤};
 ghost use Rattle.std.specs.Prelude.{◌≡◌, true, false, refl, IfSome, IfNone, IfOk, IfErr};
 ghost use Rattle.std.specs.Cmp.Lexicographic.{bytes_decides};
-ghost use Rattle.picky_der_de.specs.Known.{known_bytes};
+ghost use Rattle.picky_der_de.specs.Facts.{bytes_facts};
 ghost use Rattle.der_types.specs.RelativeOid.{is_relative_oid};
 ghost use Rattle.der_types.specs.ContentForms as form;
 ghost use Rattle.der_types.specs.ContentTests.{ReadsContent, RefusesContent};
 ghost use Rattle.der_types.specs.Exact.{content_exact, plain_values};
 ghost use Rattle.der_types.specs.ExactContents.{own_contents};
-ghost use Rattle.der_types.specs.KnownContents.{contents_of, contents_shape};
+ghost use Rattle.der_types.specs.ContentsFacts.{contents_of, contents_shape};
 ghost use Rattle.der_types.specs.MadeValues.{vec_of};
 
 use crate::subidentifiers::is_subidentifiers;
@@ -81,9 +81,9 @@ impl Serialize for RelativeOid {
 impl Deserialize for RelativeOid {
     ghost shape = { contents_shape 0x0D };
 
-    ghost known = { known_bytes 0x0D (λ it. it.content.items) };
+    ghost facts = { bytes_facts 0x0D (λ it. it.content.items) };
 
-    ghost tied = { Prim.assumption };
+    ghost proved = { Prim.assumption };
 
     fn deserialize<R: ReadExt>(deserializer: &mut Deserializer<R>) -> Result<RelativeOid>
         ensures read { IfOk result (λ it. ReadsContent 0x0D is_relative_oid deserializer.old deserializer.new it.content.items) }

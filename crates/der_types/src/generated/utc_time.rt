@@ -8,7 +8,7 @@ ghost use Rattle.der_types.specs.ContentForms as form;
 ghost use Rattle.der_types.specs.ContentTests.{ReadsContent, RefusesContent};
 ghost use Rattle.der_types.specs.Exact.{content_exact, plain_values};
 ghost use Rattle.der_types.specs.ExactContents.{own_contents};
-ghost use Rattle.der_types.specs.KnownContents.{contents_of, contents_shape, known_contents};
+ghost use Rattle.der_types.specs.ContentsFacts.{contents_of, contents_shape, contents_facts};
 ghost use Rattle.der_types.specs.ExactTimes.{utc_made};
 ghost use Rattle.der_types.specs.TimeLaws.{utc-valid};
 ghost use Rattle.der_types.specs.TimeValues.{utc_content};
@@ -71,9 +71,9 @@ impl Serialize for UtcTime {
 impl Deserialize for UtcTime {
     ghost shape = { contents_shape 0x17 };
 
-    ghost known = { known_contents 0x17 (λ it. utc_content it.at) ⟦<Self as PartialEq>⟧.eq ⟦<Self as Contents>⟧.same };
+    ghost facts = { contents_facts 0x17 (λ it. utc_content it.at) ⟦<Self as PartialEq>⟧.eq ⟦<Self as Contents>⟧.same };
 
-    ghost tied = { Prim.assumption };
+    ghost proved = { Prim.assumption };
 
     fn deserialize<R: ReadExt>(deserializer: &mut Deserializer<R>) -> Result<UtcTime>
         ensures read { IfOk result (λ it. ReadsContent 0x17 is_utc_time deserializer.old deserializer.new (utc_content it.at)) }

@@ -1,24 +1,33 @@
 //! What the entry calls return one after another, and what they leave in a slice and in a reader or writer.
 
+use crate::tests::checks::bytes;
 use der_fixtures::{SlowReader, SlowWriter};
 use picky_asn1_der::Asn1DerError::{InvalidData, InvalidSink, TruncatedData};
 use picky_asn1_der::asn1::{ByteBuf, Bytes, PrintableStringAsn1};
 use picky_asn1_der::misc::{PeekableReader, ReadExt, Watched};
-use picky_asn1_der::round_trip::{read_back, written_back};
+use picky_asn1_der::round_trip::{read_back, reads_back, written_back};
 use picky_asn1_der::{
-    Length, Result as DerResult, Serializer, de, from_bytes, from_reader, from_reader_with_max_len,
-    next_from_reader, to_writer,
+    Asn1RawDer, Length, Result as DerResult, Serializer, de, from_bytes, from_reader,
+    from_reader_with_max_len, next_from_reader, to_writer,
 };
-use std::alloc::{AllocError, Global};
-use std::test::Fail;
+use std::alloc::Global;
+use std::process::Abort;
 
 #[test]
-fn a_value_goes_there_and_back(rt: HostRuntime) -> Result<(), Fail> {
+fn a_value_goes_there_and_back(rt: HostRuntime) {
     same!(rt; read_back(rt.alloc(), &128u8), Ok(128));
-    let again = written_back::<u8>(rt.alloc(), &[0x02, 0x02, 0x00, 0x80, 0x05, 0x00])?;
-    same!(rt; again.as_slice(), [0x02, 0x02, 0x00, 0x80].as_slice());
+    let again = written_back::<u8>(rt.alloc(), &[0x02, 0x02, 0x00, 0x80, 0x05, 0x00]);
+    same!(rt; again, Ok(bytes(&rt, "02 02 00 80")));
     same!(rt; written_back::<u8>(rt.alloc(), &[0x02, 0x02, 0x00]).err(), Some(TruncatedData));
-    Ok(())
+}
+
+#[test]
+fn a_value_reads_back_or_does_not(rt: HostRuntime) {
+    let whole = Asn1RawDer::from(bytes(&rt, "02 01 05"));
+    let cut = Asn1RawDer::from(bytes(&rt, "02 02 05"));
+    same!(rt; reads_back(rt.alloc(), &128u8), Ok(true));
+    same!(rt; reads_back(rt.alloc(), &whole), Ok(true));
+    same!(rt; reads_back(rt.alloc(), &cut), Ok(false));
 }
 
 #[test]
@@ -80,58 +89,65 @@ fn a_vector_grows_with_each_call(rt: HostRuntime) {
 }
 
 // This header, with zero bytes up to this length.
-fn with_zeros(alloc: Global, header: &[u8], len: usize) -> Result<Vec<u8>, AllocError> {
-    let mut bytes = Vec::from_slice(alloc, header)?;
-    bytes.resize(len, 0)?;
-    Ok(bytes)
+fn with_zeros(rt: &(impl Abort + AllocGlobal), header: &[u8], len: usize) -> Vec<u8> {
+    let mut bytes = Vec::from_slice(rt.alloc(), header).expect(rt, "memory");
+    bytes.resize(len, 0).expect(rt, "memory");
+    bytes
 }
 
 #[test]
-fn from_reader_reads_10240_bytes_at_most(rt: HostRuntime) -> Result<(), Fail> {
-    let whole = with_zeros(rt.alloc(), &[0x04, 0x82, 0x27, 0xFC], 10240)?;
+fn from_reader_reads_10240_bytes_at_most(rt: HostRuntime) {
+    let whole = with_zeros(&rt, &[0x04, 0x82, 0x27, 0xFC], 10240);
     let mut reader = Watched::new(SlowReader::new(&whole));
     let octets = from_reader::<ByteBuf, _>(rt.alloc(), &mut reader);
     same!(rt; octets.is_ok_and(|it| whole.ends_with(&it.0) && it.0.len() == 10236), true);
     same!(rt; reader.get_ref().given(), 10240);
-    Ok(())
 }
 
 #[test]
-fn from_reader_reads_nothing_of_a_content_that_is_longer(rt: HostRuntime) -> Result<(), Fail> {
-    let past = with_zeros(rt.alloc(), &[0x04, 0x82, 0x27, 0xFD], 10241)?;
+fn from_reader_reads_nothing_of_a_content_that_is_longer(rt: HostRuntime) {
+    let past = with_zeros(&rt, &[0x04, 0x82, 0x27, 0xFD], 10241);
     let mut reader = Watched::new(SlowReader::new(&past));
     let refused = from_reader::<ByteBuf, _>(rt.alloc(), &mut reader);
     same!(rt; refused.err(), Some(TruncatedData));
     same!(rt; reader.get_ref().given(), 4);
     let octets = from_bytes::<ByteBuf>(rt.alloc(), &past);
     same!(rt; octets.is_ok_and(|it| it.0.len() == 10237), true);
-    Ok(())
 }
 
-// A wrong tag, a wrong tag after a member, and a member that isn't the shortest. The number is how many bytes are read up to the one that
-// shows the error.
-const REFUSED: [(&[u8], usize); 3] = [
-    (&[0x05, 0x00, 0x05, 0x00], 1),
-    (&[0x30, 0x06, 0x02, 0x01, 0x07, 0x05, 0x00, 0x05], 6),
-    (&[0x30, 0x06, 0x02, 0x02, 0x00, 0x7F, 0x05, 0x00], 6),
-];
+// A wrong tag, a wrong tag after a member, and a member that isn't the shortest.
+const WRONG_TAG: &[u8] = &[0x05, 0x00, 0x05, 0x00];
+
+const WRONG_SECOND_TAG: &[u8] = &[0x30, 0x06, 0x02, 0x01, 0x07, 0x05, 0x00, 0x05];
+
+const NOT_THE_SHORTEST: &[u8] = &[0x30, 0x06, 0x02, 0x02, 0x00, 0x7F, 0x05, 0x00];
+
+// So many bytes are read, up to the one that shows the error.
+fn is_refused_after(rt: &(impl Abort + AllocGlobal), bytes: &[u8], given: usize) {
+    let mut reader = Watched::new(SlowReader::new(bytes));
+    let refused = from_reader::<(u8, bool), _>(rt.alloc(), &mut reader);
+    same!(*rt; refused.err(), Some(InvalidData));
+    same!(*rt; reader.get_ref().given(), given);
+}
 
 #[test]
 fn no_byte_is_read_after_one_that_shows_a_refusal(rt: HostRuntime) {
-    for (bytes, given) in REFUSED {
-        let mut reader = Watched::new(SlowReader::new(bytes));
-        let refused = from_reader::<(u8, bool), _>(rt.alloc(), &mut reader);
-        same!(rt; refused.err(), Some(InvalidData));
-        same!(rt; reader.get_ref().given(), given);
-    }
+    is_refused_after(&rt, WRONG_TAG, 1);
+    is_refused_after(&rt, WRONG_SECOND_TAG, 6);
+    is_refused_after(&rt, NOT_THE_SHORTEST, 6);
+}
+
+// The same for the next value.
+fn next_is_refused_after(rt: &(impl Abort + AllocGlobal), bytes: &[u8], given: usize) {
+    let mut reader = Watched::new(SlowReader::new(bytes));
+    let refused = next_from_reader::<(u8, bool), _>(rt.alloc(), &mut reader, 8);
+    same!(*rt; refused.err(), Some(InvalidData));
+    same!(*rt; reader.get_ref().given(), given);
 }
 
 #[test]
 fn no_byte_of_the_next_value_is_read_after_it_either(rt: HostRuntime) {
-    for (bytes, given) in REFUSED {
-        let mut reader = Watched::new(SlowReader::new(bytes));
-        let refused = next_from_reader::<(u8, bool), _>(rt.alloc(), &mut reader, 8);
-        same!(rt; refused.err(), Some(InvalidData));
-        same!(rt; reader.get_ref().given(), given);
-    }
+    next_is_refused_after(&rt, WRONG_TAG, 1);
+    next_is_refused_after(&rt, WRONG_SECOND_TAG, 6);
+    next_is_refused_after(&rt, NOT_THE_SHORTEST, 6);
 }

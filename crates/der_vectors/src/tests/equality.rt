@@ -1,6 +1,6 @@
 //! Values that differ in one part each, which `==` distinguishes.
 
-use der_fixtures::bytes_of;
+use crate::tests::checks::bytes;
 use picky_asn1_der::application_tag::ApplicationTag;
 use picky_asn1_der::asn1::{
     Asn1SequenceOf, Asn1SetOf, BitStringAsn1Container, BmpStringAsn1, ByteBuf, Bytes,
@@ -8,11 +8,10 @@ use picky_asn1_der::asn1::{
     Wrapper,
 };
 use picky_asn1_der::ser::{Defaulted, False, Header, Optional};
-use picky_asn1_der::{Asn1DerError, Asn1RawDer, NoneOf, OneOf, OneOf4};
+use picky_asn1_der::{Asn1DerError, Asn1RawDer, Choice4, NoneOf, OneOf};
 use picky_der_core::Failure;
 use std::io::ErrorKind;
 use std::process::Abort;
-use std::test::Fail;
 
 // Each of these values is equal to itself, and differs from every one before it.
 fn all_differ<T: PartialEq>(rt: &impl Abort, values: &[T]) {
@@ -21,36 +20,32 @@ fn all_differ<T: PartialEq>(rt: &impl Abort, values: &[T]) {
     }
 }
 
-#[test]
-fn bytes_differ(rt: HostRuntime) -> Result<(), Fail> {
-    let alloc = rt.alloc();
-    let mut octets = Vec::new(alloc);
-    let mut tagged = Vec::new(alloc);
-    let mut raw = Vec::new(alloc);
-    for row in ["", "00", "01", "00 00", "00 01", "01 00"] {
-        octets.push(ByteBuf::from(bytes_of(alloc, row)?))?;
-        tagged.push(BmpStringAsn1::from(bytes_of(alloc, row)?))?;
-        raw.push(Asn1RawDer::from(bytes_of(alloc, row)?))?;
+// The same for the values that are made of these bytes.
+fn all_differ_as<T: From<Vec<u8>> + PartialEq + Drop>(
+    rt: &(impl Abort + AllocGlobal),
+    rows: &[&str],
+) {
+    let mut values: Vec<T> = Vec::new(rt.alloc());
+    for row in rows {
+        values.push(T::from(bytes(rt, row))).expect(rt, "memory");
     }
-    all_differ(&rt, &octets);
-    all_differ(&rt, &tagged);
-    all_differ(&rt, &raw);
-    all_differ(&rt, &[Bytes(&[]), Bytes(&[0]), Bytes(&[1]), Bytes(&[0, 0])]);
-    Ok(())
+    all_differ(rt, &values);
 }
 
 #[test]
-fn lists_differ(rt: HostRuntime) -> Result<(), Fail> {
-    let alloc = rt.alloc();
-    let mut sequences = Vec::new(alloc);
-    let mut sets = Vec::new(alloc);
-    for row in ["", "05", "06", "05 06", "06 05"] {
-        sequences.push(Asn1SequenceOf::from(bytes_of(alloc, row)?))?;
-        sets.push(Asn1SetOf::from(bytes_of(alloc, row)?))?;
-    }
-    all_differ(&rt, &sequences);
-    all_differ(&rt, &sets);
-    Ok(())
+fn bytes_differ(rt: HostRuntime) {
+    let rows = ["", "00", "01", "00 00", "00 01", "01 00"];
+    all_differ_as::<ByteBuf>(&rt, &rows);
+    all_differ_as::<BmpStringAsn1>(&rt, &rows);
+    all_differ_as::<Asn1RawDer>(&rt, &rows);
+    all_differ(&rt, &[Bytes(&[]), Bytes(&[0]), Bytes(&[1]), Bytes(&[0, 0])]);
+}
+
+#[test]
+fn lists_differ(rt: HostRuntime) {
+    let rows = ["", "05", "06", "05 06", "06 05"];
+    all_differ_as::<Asn1SequenceOf<u8>>(&rt, &rows);
+    all_differ_as::<Asn1SetOf<u8>>(&rt, &rows);
 }
 
 #[test]
@@ -110,8 +105,8 @@ fn wrappers_differ(rt: HostRuntime) {
             Wrapper::Implicit(1),
             Wrapper::Application(0),
             Wrapper::Application(1),
-            Wrapper::Retagged(0xA0),
-            Wrapper::Retagged(0xA1),
+            Wrapper::ImplicitList(0xA0),
+            Wrapper::ImplicitList(0xA1),
         ],
     );
     all_differ(
@@ -189,11 +184,11 @@ fn members_and_alternatives_differ(rt: HostRuntime) {
     all_differ(
         &rt,
         &[
-            OneOf4::<u8, u8, u8, u8, NoneOf>::First(1),
-            OneOf4::First(2),
-            OneOf4::Second(1),
-            OneOf4::Third(1),
-            OneOf4::Fourth(1),
+            Choice4::<u8, u8, u8, u8, NoneOf>::First(1),
+            Choice4::First(2),
+            Choice4::Second(1),
+            Choice4::Third(1),
+            Choice4::Fourth(1),
         ],
     );
 }

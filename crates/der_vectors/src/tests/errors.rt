@@ -2,40 +2,45 @@
 
 use picky_asn1_der::Asn1DerError;
 use std::io::{Error, ErrorKind};
-use std::test::Fail;
+use std::process::Abort;
+
+fn is_shown(rt: &(impl Abort + AllocGlobal), error: Asn1DerError, wanted: &str) {
+    let text = format!(in rt.alloc(); "{error}").expect(rt, "memory");
+    same!(*rt; text.as_str(), wanted);
+}
 
 #[test]
-fn an_error_is_shown_by_its_name(rt: HostRuntime) -> Result<(), Fail> {
-    for (error, wanted) in [
-        (Asn1DerError::TruncatedData, "TruncatedData"),
-        (Asn1DerError::InvalidData, "InvalidData"),
-        (Asn1DerError::UnsupportedValue, "UnsupportedValue"),
-        (Asn1DerError::UnsupportedType, "UnsupportedType"),
-        (Asn1DerError::InvalidSink, "InvalidSink"),
-        (Asn1DerError::custom("a \"b\" c"), "Message(\"a \"b\" c\")"),
-        (
-            Asn1DerError::Other(ErrorKind::BrokenPipe),
-            "Other(BrokenPipe)",
-        ),
-        (Asn1DerError::OutOfMemory, "OutOfMemory"),
-    ] {
-        let text = format!(in rt.alloc(); "{error}")?;
-        same!(rt; text.as_str(), wanted);
-    }
-    Ok(())
+fn an_error_is_shown_by_its_name(rt: HostRuntime) {
+    is_shown(&rt, Asn1DerError::TruncatedData, "TruncatedData");
+    is_shown(&rt, Asn1DerError::InvalidData, "InvalidData");
+    is_shown(&rt, Asn1DerError::UnsupportedValue, "UnsupportedValue");
+    is_shown(&rt, Asn1DerError::UnsupportedType, "UnsupportedType");
+    is_shown(&rt, Asn1DerError::InvalidSink, "InvalidSink");
+    is_shown(
+        &rt,
+        Asn1DerError::custom("a \"b\" c"),
+        "Message(\"a \"b\" c\")",
+    );
+    is_shown(
+        &rt,
+        Asn1DerError::Other(ErrorKind::BrokenPipe),
+        "Other(BrokenPipe)",
+    );
+    is_shown(&rt, Asn1DerError::OutOfMemory, "OutOfMemory");
+}
+
+fn becomes(rt: &impl Abort, kind: ErrorKind, error: Asn1DerError) {
+    same!(*rt; Asn1DerError::from(Error::from(kind)), error);
 }
 
 #[test]
 fn errors_of_devices_keep_what_they_tell(rt: HostRuntime) {
-    for (kind, error) in [
-        (ErrorKind::UnexpectedEof, Asn1DerError::TruncatedData),
-        (ErrorKind::WriteZero, Asn1DerError::InvalidSink),
-        (ErrorKind::OutOfMemory, Asn1DerError::OutOfMemory),
-        (
-            ErrorKind::Interrupted,
-            Asn1DerError::Other(ErrorKind::Interrupted),
-        ),
-    ] {
-        same!(rt; Asn1DerError::from(Error::from(kind)), error);
-    }
+    becomes(&rt, ErrorKind::UnexpectedEof, Asn1DerError::TruncatedData);
+    becomes(&rt, ErrorKind::WriteZero, Asn1DerError::InvalidSink);
+    becomes(&rt, ErrorKind::OutOfMemory, Asn1DerError::OutOfMemory);
+    becomes(
+        &rt,
+        ErrorKind::Interrupted,
+        Asn1DerError::Other(ErrorKind::Interrupted),
+    );
 }

@@ -1,21 +1,21 @@
 //! A struct of twenty members, a choice of twelve alternatives in a list, and an envelope around values of three types.
 //!
-//! The encodings are from pyasn1 0.6.3, by `pyasn1.codec.der.encoder.encode` of the same ASN.1 types. It leaves out the default and the
-//! absent members, and sorts the SET OF. A refused input is such an encoding with one change, which its test names.
+//! The encodings are from pyasn1 0.6.3, by `pyasn1.codec.der.encoder.encode` of the same ASN.1 types. It leaves out the
+//! default and the absent members, and sorts the SET OF. A refused input is such an encoding with one change, which its
+//! test names.
 
+use crate::tests::checks::{is_encoded, is_refused, text};
 use der_examples::{
     Bundle, Command, Marker, Named, NumberOrFlag, Point, Script, Setting, Signed, Step, Vessel,
 };
-use der_fixtures::bytes_of;
 use der_types::{BitString, ObjectIdentifier};
 use der_x509::AlgorithmIdentifier;
 use picky_asn1_der::Asn1DerError::{InvalidData, TruncatedData};
-use picky_asn1_der::asn1::{Asn1SetOf, ByteBuf, ExplicitContextTag, ImplicitContextTag, Retagged};
-use picky_asn1_der::{Asn1DerError, Asn1RawDer, Deserialize, from_bytes, to_vec};
-use std::alloc::{AllocError, Global};
-use std::fmt::Debug;
+use picky_asn1_der::asn1::{
+    Asn1SetOf, ByteBuf, ExplicitContextTag, ImplicitContextTag, ImplicitList,
+};
+use picky_asn1_der::{Asn1DerError, Asn1RawDer};
 use std::process::Abort;
-use std::test::Fail;
 
 const EVERY_MEMBER: &str =
     "30 81 97 0C 06 41 75 72 6F 72 61 02 04 00 8A 78 29 A0 06 0C 04 4C 4D 58 59 02 09 00 FF FF FF FF FF FF FF FF 01 01 FF 30 0A 02 01 03 02 02 01 F4 01 01 00 02 01 0C A1 06 0C 04 4E 6F 72 64 04 04 DE AD BE EF 30 07 02 01 01 02 02 01 2C 30 0F 02 01 00 02 01 7F 02 02 00 80 02 03 00 FF FF A2 0F 30 0D 02 05 00 FF FF FF FF 02 01 00 01 01 FF 30 07 02 02 00 C8 02 01 20 01 01 FF 02 01 07 0C 04 5A 6F C3 AB 30 06 02 01 04 02 01 09 02 02 03 84 04 02 00 FF A3 04 0C 02 6F 6B";
@@ -44,29 +44,6 @@ const BUNDLE: &str =
 const EMPTY_BUNDLE: &str =
     "30 34 30 0D 02 01 00 30 05 06 03 2B 65 70 03 01 00 30 15 30 09 02 01 00 02 01 00 01 01 00 30 05 06 03 2B 65 70 03 01 00 30 0C 30 00 30 05 06 03 2B 65 70 03 01 00";
 
-// The value has this encoding, and is read back from it.
-fn is_encoded<T: Deserialize + Debug>(
-    rt: &(impl Abort + AllocGlobal),
-    value: T,
-    encoding: &str,
-) -> Result<(), Fail> {
-    let bytes = bytes_of(rt.alloc(), encoding)?;
-    same!(*rt; to_vec(rt.alloc(), &value)?.as_slice(), bytes.as_slice(), encoding);
-    same!(*rt; from_bytes::<T>(rt.alloc(), &bytes), Ok(value), encoding);
-    Ok(())
-}
-
-// Reading these bytes as a value of the type fails with this error.
-fn is_refused<T: Deserialize>(
-    rt: &(impl Abort + AllocGlobal),
-    text: &str,
-    error: Asn1DerError,
-) -> Result<(), Fail> {
-    let read: Result<T, Asn1DerError> = from_bytes(rt.alloc(), &bytes_of(rt.alloc(), text)?);
-    same!(*rt; read.err(), Some(error), text);
-    Ok(())
-}
-
 const HOME: Point = Point {
     x: 3,
     y: 500,
@@ -91,38 +68,43 @@ const FAR: Point = Point {
     hidden: true,
 };
 
-fn with_every_member(alloc: Global) -> Result<Vessel, AllocError> {
-    let call_sign = String::from_str(alloc, "LMXY")?;
-    let owner = Setting::Text(String::from_str(alloc, "Nord")?);
-    let seal = Vec::from_slice(alloc, &[0xDE, 0xAD, 0xBE, 0xEF])?;
-    let remark = String::from_str(alloc, "ok")?;
-    Ok(Vessel {
-        name: String::from_str(alloc, "Aurora")?,
+// The members of a list, or the bytes of a string.
+fn list<T: Copy>(rt: &(impl Abort + AllocGlobal), members: &[T]) -> Vec<T> {
+    Vec::from_slice(rt.alloc(), members).expect(rt, "memory")
+}
+
+fn octets(rt: &(impl Abort + AllocGlobal), bytes: &[u8]) -> ByteBuf {
+    ByteBuf(list(rt, bytes))
+}
+
+fn with_every_member(rt: &(impl Abort + AllocGlobal)) -> Vessel {
+    Vessel {
+        name: text(rt, "Aurora"),
         number: 9_074_729,
-        call_sign: Some(ExplicitContextTag(call_sign)),
+        call_sign: Some(ExplicitContextTag(text(rt, "LMXY"))),
         tonnage: u64::MAX,
         is_military: true,
         home: HOME,
         decks: 12,
-        owner: Some(ExplicitContextTag(owner)),
-        seal: Some(ByteBuf(seal)),
-        engine: Setting::Numbers(Vec::from_slice(alloc, &[1, 300])?),
-        speeds: Vec::from_slice(alloc, &[0, 127, 128, 65535])?,
+        owner: Some(ExplicitContextTag(Setting::Text(text(rt, "Nord")))),
+        seal: Some(octets(rt, &[0xDE, 0xAD, 0xBE, 0xEF])),
+        engine: Setting::Numbers(list(rt, &[1, 300])),
+        speeds: list(rt, &[0, 127, 128, 65535]),
         berth: Some(ExplicitContextTag(BERTH)),
         size: (200, 32),
         is_moored: true,
         flag: NumberOrFlag::Number(7),
-        pilot: Some(String::from_str(alloc, "Zoë")?),
-        tugs: Some(Vec::from_slice(alloc, &[4, 9])?),
+        pilot: Some(text(rt, "Zoë")),
+        tugs: Some(list(rt, &[4, 9])),
         draught: 900,
-        chart: ByteBuf(Vec::from_slice(alloc, &[0x00, 0xFF])?),
-        remark: Some(ExplicitContextTag(remark)),
-    })
+        chart: octets(rt, &[0x00, 0xFF]),
+        remark: Some(ExplicitContextTag(text(rt, "ok"))),
+    }
 }
 
-fn with_no_optional_member(alloc: Global) -> Result<Vessel, AllocError> {
-    Ok(Vessel {
-        name: String::from_str(alloc, "Aurora")?,
+fn with_no_optional_member(rt: &(impl Abort + AllocGlobal)) -> Vessel {
+    Vessel {
+        name: text(rt, "Aurora"),
         number: 9_074_729,
         call_sign: None,
         tonnage: u64::MAX,
@@ -132,7 +114,7 @@ fn with_no_optional_member(alloc: Global) -> Result<Vessel, AllocError> {
         owner: None,
         seal: None,
         engine: Setting::Number(0),
-        speeds: Vec::new(alloc),
+        speeds: Vec::new(rt.alloc()),
         berth: None,
         size: (200, 32),
         is_moored: true,
@@ -140,145 +122,156 @@ fn with_no_optional_member(alloc: Global) -> Result<Vessel, AllocError> {
         pilot: None,
         tugs: None,
         draught: 900,
-        chart: ByteBuf(Vec::new(alloc)),
+        chart: octets(rt, &[]),
         remark: None,
-    })
+    }
+}
+
+fn is_no_vessel(rt: &(impl Abort + AllocGlobal), encoding: &str, error: Asn1DerError) {
+    is_refused::<Vessel>(rt, encoding, error);
 }
 
 #[test]
-fn a_vessel_has_twenty_members(rt: HostRuntime) -> Result<(), Fail> {
-    is_encoded(&rt, with_every_member(rt.alloc())?, EVERY_MEMBER)?;
-    is_encoded(
-        &rt,
-        with_no_optional_member(rt.alloc())?,
-        NO_OPTIONAL_MEMBER,
-    )?;
-    is_refused::<Vessel>(&rt, WRITTEN_DEFAULT, InvalidData)?;
-    is_refused::<Vessel>(&rt, TWO_CALL_SIGNS, InvalidData)?;
-    is_refused::<Vessel>(&rt, NO_CHART, TruncatedData)?;
-    is_refused::<Vessel>(&rt, NULL_AT_THE_END, InvalidData)
+fn a_vessel_has_twenty_members(rt: HostRuntime) {
+    is_encoded(&rt, with_every_member(&rt), EVERY_MEMBER);
+    is_encoded(&rt, with_no_optional_member(&rt), NO_OPTIONAL_MEMBER);
+    is_no_vessel(&rt, WRITTEN_DEFAULT, InvalidData);
+    is_no_vessel(&rt, TWO_CALL_SIGNS, InvalidData);
+    is_no_vessel(&rt, NO_CHART, TruncatedData);
+    is_no_vessel(&rt, NULL_AT_THE_END, InvalidData);
+}
+
+fn add(rt: &impl Abort, script: &mut Script, at: u32, command: Command) {
+    script.push(Step { at, command }).expect(rt, "memory");
 }
 
 // The first six alternatives.
-fn add_first(alloc: Global, script: &mut Script) -> Result<(), AllocError> {
-    let mut points = Vec::new(alloc);
-    points.push(ORIGIN)?;
-    points.push(FAR)?;
-    let text = String::from_str(alloc, "hi")?;
-    for (at, command) in [
-        (0, Command::Move(ExplicitContextTag(FAR))),
-        (100, Command::Wait(ImplicitContextTag(200))),
-        (200, Command::Follow(ExplicitContextTag(points))),
-        (300, Command::Lift(ImplicitContextTag(true))),
-        (400, Command::Say(ImplicitContextTag(text))),
-        (500, Command::Adjust(ExplicitContextTag(Setting::Number(5)))),
-    ] {
-        script.push(Step { at, command })?;
-    }
-    Ok(())
+fn add_first(rt: &(impl Abort + AllocGlobal), script: &mut Script) {
+    let points = vec![in rt.alloc(); ORIGIN, FAR].expect(rt, "memory");
+    let text = text(rt, "hi");
+    add(rt, script, 0, Command::Move(ExplicitContextTag(FAR)));
+    add(rt, script, 100, Command::Wait(ImplicitContextTag(200)));
+    add(rt, script, 200, Command::Follow(ExplicitContextTag(points)));
+    add(rt, script, 300, Command::Lift(ImplicitContextTag(true)));
+    add(rt, script, 400, Command::Say(ImplicitContextTag(text)));
+    add(
+        rt,
+        script,
+        500,
+        Command::Adjust(ExplicitContextTag(Setting::Number(5))),
+    );
 }
 
 // The last six alternatives.
-fn add_last(alloc: Global, script: &mut Script) -> Result<(), AllocError> {
-    let font = ByteBuf(Vec::from_slice(alloc, &[0xAA, 0xBB])?);
-    let speeds = Vec::from_slice(alloc, &[1, 1000])?;
-    let name = ByteBuf(Vec::from_slice(alloc, b"A")?);
+fn add_last(rt: &(impl Abort + AllocGlobal), script: &mut Script) {
+    let font = octets(rt, &[0xAA, 0xBB]);
+    let speeds = list(rt, &[1, 1000]);
+    let name = octets(rt, b"A");
     let label = Named { name, value: 7 };
-    let mut names = Vec::new(alloc);
-    names.push(ByteBuf(Vec::from_slice(alloc, &[2])?))?;
-    names.push(ByteBuf(Vec::from_slice(alloc, &[1, 0])?))?;
-    for (at, command) in [
-        (600, Command::Stop(ImplicitContextTag(()))),
-        (700, Command::Load(ImplicitContextTag(font))),
-        (800, Command::Speeds(Retagged(speeds))),
-        (900, Command::Repeat(ImplicitContextTag(1 << 32))),
-        (
-            1000,
-            Command::Mark(ExplicitContextTag(Marker { label, at: ORIGIN })),
-        ),
-        (1100, Command::Forget(ExplicitContextTag(Asn1SetOf(names)))),
-    ] {
-        script.push(Step { at, command })?;
-    }
-    Ok(())
+    let names = vec![in rt.alloc(); octets(rt, &[2]), octets(rt, &[1, 0])].expect(rt, "memory");
+    add(rt, script, 600, Command::Stop(ImplicitContextTag(())));
+    add(rt, script, 700, Command::Load(ImplicitContextTag(font)));
+    add(rt, script, 800, Command::Speeds(ImplicitList(speeds)));
+    add(
+        rt,
+        script,
+        900,
+        Command::Repeat(ImplicitContextTag(1 << 32)),
+    );
+    add(
+        rt,
+        script,
+        1000,
+        Command::Mark(ExplicitContextTag(Marker { label, at: ORIGIN })),
+    );
+    add(
+        rt,
+        script,
+        1100,
+        Command::Forget(ExplicitContextTag(Asn1SetOf(names))),
+    );
 }
 
 #[test]
-fn a_script_has_each_command(rt: HostRuntime) -> Result<(), Fail> {
+fn a_script_has_each_command(rt: HostRuntime) {
     let mut script = Vec::new(rt.alloc());
-    add_first(rt.alloc(), &mut script)?;
-    add_last(rt.alloc(), &mut script)?;
-    is_encoded(&rt, script, SCRIPT)?;
+    add_first(&rt, &mut script);
+    add_last(&rt, &mut script);
+    is_encoded(&rt, script, SCRIPT);
     // The tag [12], and the tag [8] without the bit of a constructed encoding.
-    is_refused::<Command>(&rt, "8C 00", InvalidData)?;
-    is_refused::<Command>(&rt, "88 07 02 01 01 02 02 03 E8", InvalidData)?;
+    is_refused::<Command>(&rt, "8C 00", InvalidData);
+    is_refused::<Command>(&rt, "88 07 02 01 01 02 02 03 E8", InvalidData);
     // A NULL with a content, and a step without its command.
-    is_refused::<Script>(&rt, "30 08 30 06 02 01 00 86 01 00", InvalidData)?;
-    is_refused::<Script>(&rt, "30 05 30 03 02 01 00", TruncatedData)
+    is_refused::<Script>(&rt, "30 08 30 06 02 01 00 86 01 00", InvalidData);
+    is_refused::<Script>(&rt, "30 05 30 03 02 01 00", TruncatedData);
 }
 
-fn ed25519(alloc: Global) -> Result<AlgorithmIdentifier, Fail> {
-    Ok(AlgorithmIdentifier {
-        algorithm: ObjectIdentifier::from_str(alloc, "1.3.101.112")?,
-        parameters: None,
-    })
+fn oid(rt: &(impl Abort + AllocGlobal), arcs: &str) -> ObjectIdentifier {
+    ObjectIdentifier::from_str(rt.alloc(), arcs).expect(rt, "an object identifier")
 }
 
-fn signed<T: Drop>(alloc: Global, content: T, signature: &[u8]) -> Result<Signed<T>, Fail> {
-    Ok(Signed {
+// A value with the algorithm Ed25519 and a signature of whole bytes.
+fn signed<T: Drop>(rt: &(impl Abort + AllocGlobal), content: T, signature: &[u8]) -> Signed<T> {
+    Signed {
         content,
-        algorithm: ed25519(alloc)?,
-        signature: BitString::from_bytes(alloc, signature, 0)?,
-    })
+        algorithm: AlgorithmIdentifier {
+            algorithm: oid(rt, "1.3.101.112"),
+            parameters: None,
+        },
+        signature: BitString::from_bytes(rt.alloc(), signature, 0).expect(rt, "a bit string"),
+    }
 }
 
 #[test]
-fn a_bundle_has_three_signed_values(rt: HostRuntime) -> Result<(), Fail> {
-    let alloc = rt.alloc();
+fn a_bundle_has_three_signed_values(rt: HostRuntime) {
     let sha256_with_rsa = AlgorithmIdentifier {
-        algorithm: ObjectIdentifier::from_str(alloc, "1.2.840.113549.1.1.11")?,
-        parameters: Some(Asn1RawDer(Vec::from_slice(alloc, &[0x05, 0x00])?)),
+        algorithm: oid(&rt, "1.2.840.113549.1.1.11"),
+        parameters: Some(Asn1RawDer(list(&rt, &[0x05, 0x00]))),
     };
+    let bits = BitString::from_bits(rt.alloc(), &[true, false, true, false]);
     let number = Signed {
         content: 128,
         algorithm: sha256_with_rsa,
-        signature: BitString::from_bits(alloc, &[true, false, true, false])?,
+        signature: bits.expect(&rt, "a bit string"),
     };
-    let mut script = Vec::new(alloc);
-    script.push(Step {
-        at: 100,
-        command: Command::Wait(ImplicitContextTag(200)),
-    })?;
-    script.push(Step {
-        at: 300,
-        command: Command::Lift(ImplicitContextTag(true)),
-    })?;
+    let mut script = Vec::new(rt.alloc());
+    add(
+        &rt,
+        &mut script,
+        100,
+        Command::Wait(ImplicitContextTag(200)),
+    );
+    add(
+        &rt,
+        &mut script,
+        300,
+        Command::Lift(ImplicitContextTag(true)),
+    );
     let bundle = Bundle {
         number,
-        point: signed(alloc, FAR, &[0x01, 0xFF])?,
-        commands: signed(alloc, script, &[])?,
+        point: signed(&rt, FAR, &[0x01, 0xFF]),
+        commands: signed(&rt, script, &[]),
     };
-    is_encoded(&rt, bundle, BUNDLE)
+    is_encoded(&rt, bundle, BUNDLE);
 }
 
 #[test]
-fn a_bundle_may_have_no_parameters(rt: HostRuntime) -> Result<(), Fail> {
-    let alloc = rt.alloc();
+fn a_bundle_may_have_no_parameters(rt: HostRuntime) {
     let bundle = Bundle {
-        number: signed(alloc, 0, &[])?,
-        point: signed(alloc, ORIGIN, &[])?,
-        commands: signed(alloc, Vec::new(alloc), &[])?,
+        number: signed(&rt, 0, &[]),
+        point: signed(&rt, ORIGIN, &[]),
+        commands: signed(&rt, Vec::new(rt.alloc()), &[]),
     };
-    is_encoded(&rt, bundle, EMPTY_BUNDLE)?;
+    is_encoded(&rt, bundle, EMPTY_BUNDLE);
     // A BOOLEAN instead of the number, and 8 unused bits.
     is_refused::<Signed<u32>>(
         &rt,
         "30 0D 01 01 00 30 05 06 03 2B 65 70 03 01 00",
         InvalidData,
-    )?;
+    );
     is_refused::<Signed<u32>>(
         &rt,
         "30 0D 02 01 00 30 05 06 03 2B 65 70 03 01 08",
         InvalidData,
-    )
+    );
 }

@@ -1,15 +1,37 @@
 //! Whole inputs, where they are refused, and how that prints.
 
+use crate::tests::checks::{bytes, same};
 use der_examples::NumberOrFlag;
 use picky_asn1_der::Asn1DerError::{InvalidData, TruncatedData, UnsupportedValue};
 use picky_asn1_der::asn1::ByteBuf;
 use picky_asn1_der::{Asn1DerError, DecodeError, Deserialize, Result as DerResult, from_der};
 use std::alloc::Global;
-use std::test::Fail;
+use std::process::Abort;
 
-// Where and with which error these bytes are refused.
-fn refused<T: Deserialize>(alloc: Global, bytes: &[u8]) -> Option<DecodeError> {
-    from_der::<T>(alloc, bytes).err()
+// Reading these bytes fails with this error at this position.
+fn is_refused<T: Deserialize>(
+    rt: &(impl Abort + AllocGlobal),
+    encoding: &str,
+    error: Asn1DerError,
+    position: usize,
+) {
+    let given = bytes(rt, encoding);
+    let refused = from_der::<T>(rt.alloc(), &given).err();
+    same(
+        rt,
+        encoding,
+        &refused,
+        &Some(DecodeError { error, position }),
+    );
+}
+
+fn is_no_number(
+    rt: &(impl Abort + AllocGlobal),
+    encoding: &str,
+    error: Asn1DerError,
+    position: usize,
+) {
+    is_refused::<u8>(rt, encoding, error, position);
 }
 
 #[test]
@@ -22,40 +44,25 @@ fn a_whole_input_is_one_value(rt: HostRuntime) {
 // for one that isn't canonical. Bytes after the value, and a choice whose tag is only looked at, are not read.
 #[test]
 fn a_refusal_says_where_it_came(rt: HostRuntime) {
-    let alloc = rt.alloc();
-    for (bytes, error, position) in [
-        ([].as_slice(), TruncatedData, 0),
-        ([0x04, 0x01, 0x07].as_slice(), InvalidData, 1),
-        ([0x02, 0x03, 0x01, 0x00].as_slice(), TruncatedData, 2),
-        ([0x02, 0x02, 0x00, 0x7F].as_slice(), InvalidData, 4),
-        ([0x02, 0x02, 0x01, 0x00].as_slice(), UnsupportedValue, 4),
-        ([0x02, 0x01, 0x07, 0x05, 0x00].as_slice(), InvalidData, 3),
-    ] {
-        let wanted = Some(DecodeError { error, position });
-        same!(rt; refused::<u8>(alloc, bytes), wanted, bytes);
-    }
-    let foreign = DecodeError {
-        error: InvalidData,
-        position: 2,
-    };
-    same!(rt; refused::<Vec<NumberOrFlag>>(alloc, &[0x30, 0x02, 0x05, 0x00]), Some(foreign));
-    let second = DecodeError {
-        error: InvalidData,
-        position: 6,
-    };
-    same!(rt; refused::<Vec<ByteBuf>>(alloc, &[0x30, 0x06, 0x04, 0x01, 0xAA, 0x02, 0x01, 0x05]), Some(second));
+    is_no_number(&rt, "", TruncatedData, 0);
+    is_no_number(&rt, "04 01 07", InvalidData, 1);
+    is_no_number(&rt, "02 03 01 00", TruncatedData, 2);
+    is_no_number(&rt, "02 02 00 7F", InvalidData, 4);
+    is_no_number(&rt, "02 02 01 00", UnsupportedValue, 4);
+    is_no_number(&rt, "02 01 07 05 00", InvalidData, 3);
+    is_refused::<Vec<NumberOrFlag>>(&rt, "30 02 05 00", InvalidData, 2);
+    is_refused::<Vec<ByteBuf>>(&rt, "30 06 04 01 AA 02 01 05", InvalidData, 6);
 }
 
 #[test]
-fn a_refusal_is_shown_with_its_place(rt: HostRuntime) -> Result<(), Fail> {
+fn a_refusal_is_shown_with_its_place(rt: HostRuntime) {
     let refusal = DecodeError {
         error: InvalidData,
         position: 8,
     };
-    let text = format!(in rt.alloc(); "{refusal}")?;
+    let text = format!(in rt.alloc(); "{refusal}").expect(&rt, "memory");
     same!(rt; text.as_str(), "InvalidData at byte 8");
     same!(rt; Asn1DerError::from(refusal), InvalidData);
-    Ok(())
 }
 
 // One number in a list, by `?` on what a vector returns that can't grow.

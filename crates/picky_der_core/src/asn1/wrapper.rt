@@ -23,7 +23,7 @@ pub enum Wrapper {
     Application(u8),
 
     /// This identifier byte, in place of a list's own tag.
-    Retagged(u8),
+    ImplicitList(u8),
 }
 
 impl Wrapper {
@@ -36,7 +36,7 @@ impl Wrapper {
             Wrapper::OctetContainer | Wrapper::BitContainer => true,
             Wrapper::Explicit(number) | Wrapper::Implicit(number) | Wrapper::Application(number) =>
                 { number <= Tag::MAX_NUMBER }
-            Wrapper::Retagged(tag) => {
+            Wrapper::ImplicitList(tag) => {
                 let tag = Tag::from(tag);
                 tag.number() <= Tag::MAX_NUMBER && tag.is_constructed()
             }
@@ -54,7 +54,7 @@ impl Wrapper {
             Wrapper::Explicit(number) => Tag::context_specific_constructed(number),
             Wrapper::Implicit(number) => Tag::context_specific_primitive(number),
             Wrapper::Application(number) => Tag::application_constructed(number),
-            Wrapper::Retagged(tag) => Tag::from(tag),
+            Wrapper::ImplicitList(tag) => Tag::from(tag),
         }
     }
 
@@ -65,12 +65,12 @@ impl Wrapper {
         self == Wrapper::BitContainer
     }
 
-    /// Whether a plain value keeps its header in it: not in an `Implicit` or a `Retagged`.
+    /// Whether a plain value keeps its header in it: not in an `Implicit` or an `ImplicitList`.
     pub fn keeps_header(self) -> bool
         ensures { result ≡ keeps_header self }
     {
         match self {
-            Wrapper::Implicit(_) | Wrapper::Retagged(_) => false,
+            Wrapper::Implicit(_) | Wrapper::ImplicitList(_) => false,
             Wrapper::OctetContainer
             | Wrapper::BitContainer
             | Wrapper::Explicit(_)

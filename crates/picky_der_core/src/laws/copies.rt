@@ -4,8 +4,8 @@ ghost use Rattle.picky_der_core.specs.Equality.{IsKept, IsCopied};
 
 use crate::asn1::{
     Asn1SequenceOf, Asn1SetOf, BitStringAsn1Container, ByteBuf, Bytes, ExplicitContextTag,
-    ImplicitContextTag, Newtype, OctetStringAsn1Container, Retagged, Tag, TagClass, TaggedBytes,
-    Wrapper,
+    ImplicitContextTag, ImplicitList, Newtype, OctetStringAsn1Container, Tag, TagClass,
+    TaggedBytes, Wrapper,
 };
 use crate::{Asn1DerError, Failure, SignedBits};
 
@@ -34,7 +34,7 @@ pub fn wrappers<T: Clone, const N: u8, const TAG: u8>()
         (λ held. held.0) T.is_clone }
     ensures implicit { IsCopied ⟦<ImplicitContextTag<T, N> as Clone>⟧.is_clone
         (λ held. held.0) T.is_clone }
-    ensures retagged { IsCopied ⟦<Retagged<T, TAG> as Clone>⟧.is_clone
+    ensures implicit_list { IsCopied ⟦<ImplicitList<T, TAG> as Clone>⟧.is_clone
         (λ held. held.0) T.is_clone }
 {}
 

@@ -6,8 +6,8 @@ ghost use Rattle.picky_der_core.specs.Equality.{IsEqualityOf, IsThatOf, comparis
 
 use crate::asn1::{
     Asn1SequenceOf, Asn1SetOf, BitStringAsn1Container, ByteBuf, Bytes, ExplicitContextTag,
-    ImplicitContextTag, Newtype, OctetStringAsn1Container, Retagged, Tag, TagClass, TaggedBytes,
-    Wrapper,
+    ImplicitContextTag, ImplicitList, Newtype, OctetStringAsn1Container, Tag, TagClass,
+    TaggedBytes, Wrapper,
 };
 use crate::{Asn1DerError, Failure, SignedBits};
 
@@ -33,7 +33,7 @@ pub fn wrappers<T: PartialEq, const N: u8, const TAG: u8>()
     ensures bits { IsThatOf ⟦<BitStringAsn1Container<T> as PartialEq>⟧.eq (λ held. held.0) T.eq }
     ensures explicit { IsThatOf ⟦<ExplicitContextTag<T, N> as PartialEq>⟧.eq (λ held. held.0) T.eq }
     ensures implicit { IsThatOf ⟦<ImplicitContextTag<T, N> as PartialEq>⟧.eq (λ held. held.0) T.eq }
-    ensures retagged { IsThatOf ⟦<Retagged<T, TAG> as PartialEq>⟧.eq (λ held. held.0) T.eq }
+    ensures implicit_list { IsThatOf ⟦<ImplicitList<T, TAG> as PartialEq>⟧.eq (λ held. held.0) T.eq }
 {}
 
 /// Tags are equal exactly if their bytes are the same. Classes are equal exactly if they are one class.

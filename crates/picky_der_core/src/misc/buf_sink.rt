@@ -115,7 +115,7 @@ impl Write for BufSink<'_> {
         ensures fault { IfErr result (λ e. (faults_of self.new ≡ suc (faults_of self.old))
             × (error_kind e ≡ OutOfMemory)) }
         ensures no_fault { OnOk result (faults_of self.new ≡ faults_of self.old) }
-        ensures goes_on { IsLater self.old self.new }
+        ensures continues { IsLater self.old self.new }
     {
         self.push(bytes)
     }

@@ -6,7 +6,7 @@ ghost use Rattle.picky_der_core.specs.Element.{length_octets, IsPrefix};
 ghost use Rattle.picky_der_core.specs.Writer.{AppendsTooFew};
 ghost use Rattle.picky_der_core.specs.WriterFaults.{WriterFails};
 ghost use Rattle.picky_der_core.specs.Lengths.{IsReadAs, IsRefusedAs, IsOfDevice, IsLongCount, IsNoLongCount};
-ghost use Rattle.picky_der_core.specs.Reader.{TellsFault};
+ghost use Rattle.picky_der_core.specs.Reader.{ReportsFault};
 ghost use Rattle.picky_der_core.specs.Refusal.{length_of};
 
 use super::{ReadExt, WriteExt};
@@ -24,7 +24,7 @@ impl Length {
     /// the long form. `UnsupportedValue` for a first byte past `88`. Any other error is the reader's.
     ///
     /// If the first byte announces no length, only this byte is consumed. Else all length bytes are consumed before they are
-    /// rejected.
+    /// refused.
     pub fn deserialized<R: ReadExt>(reader: &mut R) -> Result<usize>
         ensures ok { IfOk result (λ n. Consumes (R.remaining reader.old) (R.remaining reader.new)
             (length_octets n)) }
@@ -36,7 +36,7 @@ impl Length {
         ensures none { OnErr result (R.faults reader.new ≡ R.faults reader.old
             → IfSome (R.remaining reader.old)
             (λ bs. (n : ℕ) → n < 2 ^ 64 → IsPrefix (length_octets n) bs → ⊥)) }
-        ensures fault { IfErr result (TellsFault (R.faults reader.old) (R.faults reader.new)
+        ensures fault { IfErr result (ReportsFault (R.faults reader.old) (R.faults reader.new)
             (R.remaining reader.new)) }
         ensures device { IfErr result (λ e. R.faults reader.new ≡ R.faults reader.old
             → IsOfDevice e → ⊥) }
@@ -66,7 +66,7 @@ impl Length {
             (length_octets len)) }
         ensures fault { IfErr result (λ e. WriterFails W.WriteExt.own writer.old e writer.new) }
         ensures no_fault { OnOk result (W.faults writer.new ≡ W.faults writer.old) }
-        ensures goes_on { W.later writer.old writer.new }
+        ensures continues { W.later writer.old writer.new }
     {
         Ok(writer.write_exact(&Length::bytes(len))?)
     }

@@ -3,8 +3,8 @@ ghost use Rattle.std.specs.Prelude.{◌≡◌, ◌+◌, ◌<◌, ◌≤◌, ◌^
 ghost use Rattle.std.specs.Prelude.{OnOk, IfErr, OnErr};
 ghost use Rattle.std.specs.Io.KnownBytes.{Consumes, Keeps, IsAtEnd, ReadConsumes};
 ghost use Rattle.std.specs.Io.{ReadsAtMost, StartsWith};
-ghost use Rattle.picky_der_core.specs.Reader.{GivesByte, GivesNext, TakesFirst, CountsFault, FailsOnce};
-ghost use Rattle.picky_der_core.specs.Peeking.{in_front, left_in, shown_by, IsFirstIn, IsByteIfAny, count_of_any, position_behind};
+ghost use Rattle.picky_der_core.specs.Reader.{GivesByte, GivesNext, ConsumesFirst, CountsFault, FailsOnce};
+ghost use Rattle.picky_der_core.specs.Peeking.{prepend, left_in, shown_by, IsFirstIn, IsByteIfAny, count_of_any, position_after};
 
 use super::ReadExt;
 use std::io;
@@ -17,7 +17,7 @@ pub struct PeekableReader<R: ReadExt> {
     reader: R,
     peeked: Option<u8>,
     // Whether the peeked byte was read from the reader. If not, the reader still shows it.
-    drawn: bool,
+    fetched: bool,
     pos: usize,
 }
 
@@ -29,21 +29,21 @@ impl<R: ReadExt> Model for PeekableReader<R> {
 
     ghost coded = { peeking_code R.code };
 
-    ghost view = { λ p. record { reader = p.reader; peeked = p.peeked; drawn = p.drawn; pos = p.pos } };
+    ghost view = { λ p. record { reader = p.reader; peeked = p.peeked; fetched = p.fetched; pos = p.pos } };
 
     ghost invariant = { λ p. IsByteIfAny p.peeked × (p.pos < 2 ^ 64)
-        × IsShown p.drawn p.peeked (R.shown p.reader) (R.remaining p.reader) };
+        × IsShown p.fetched p.peeked (R.shown p.reader) (R.remaining p.reader) };
 }
 
 impl<R: ReadExt> PeekableReader<R> {
     /// Reads from the reader.
     pub fn new(reader: R) -> PeekableReader<R>
-        ensures { result ≡ record { reader = reader; peeked = None; drawn = false; pos = 0 } }
+        ensures { result ≡ record { reader = reader; peeked = None; fetched = false; pos = 0 } }
     {
         PeekableReader {
             reader,
             peeked: None,
-            drawn: false,
+            fetched: false,
             pos: 0,
         }
     }
@@ -69,10 +69,10 @@ impl<R: ReadExt> PeekableReader<R> {
         if self.peeked.is_none() {
             if let [first, ..] = self.reader.ahead() {
                 self.peeked = Some(*first);
-                self.drawn = false;
+                self.fetched = false;
             } else {
                 self.peeked = self.reader.read_next()?;
-                self.drawn = true;
+                self.fetched = true;
             }
         }
         Ok(self.peeked)
@@ -115,16 +115,16 @@ impl<R: ReadExt> PeekableReader<R> {
 
     /// Consumes the first `count` bytes of `ahead`, as `take_ahead` does. The position has room for them.
     pub fn take_few(&mut self, count: usize)
-        requires shown { count ≤ shown_by self.old.drawn (R.shown self.old.reader) }
+        requires shown { count ≤ shown_by self.old.fetched (R.shown self.old.reader) }
         requires room { self.old.pos + count < 2 ^ 64 }
-        ensures taken { TakesFirst (left_in R.remaining self.old)
+        ensures consumed { ConsumesFirst (left_in R.remaining self.old)
             (left_in R.remaining self.new) count }
         ensures unpeeked { count_of_any self.old.peeked ≤ count → self.new.peeked ≡ None }
-        ensures pos { self.new.pos ≡ position_behind self.old.pos count }
+        ensures pos { self.new.pos ≡ position_after self.old.pos count }
         ensures no_fault { R.faults self.new.reader ≡ R.faults self.old.reader }
         ensures same_references { R.references self.new.reader ≡ R.references self.old.reader }
     {
-        if self.drawn {
+        if self.fetched {
             return;
         }
         self.reader.take_ahead(count);
@@ -134,17 +134,17 @@ impl<R: ReadExt> PeekableReader<R> {
 
     /// Returns the inner reader. A byte that was peeked was consumed from it.
     pub fn into_inner(self) -> R
-        ensures input { left_in R.remaining self ≡ in_front self.peeked (R.remaining result) }
+        ensures input { left_in R.remaining self ≡ prepend self.peeked (R.remaining result) }
         ensures no_fault { R.faults result ≡ R.faults self.reader }
         ensures same_references { R.references result ≡ R.references self.reader }
     {
         let PeekableReader {
             mut reader,
             peeked,
-            drawn,
+            fetched,
             pos: _,
         } = self;
-        if peeked.is_some() && !drawn {
+        if peeked.is_some() && !fetched {
             reader.take_ahead(1);
         }
         reader
@@ -158,16 +158,16 @@ impl<R: ReadExt> PeekableReader<R> {
             (left_in R.remaining self.new) (b ∷ [])) }
         ensures none { IfNone result (self.new ≡ self.old) }
         ensures unpeeked { self.new.peeked ≡ None }
-        ensures pos { self.new.pos ≡ position_behind self.old.pos (count_of_any result) }
+        ensures pos { self.new.pos ≡ position_after self.old.pos (count_of_any result) }
         ensures no_fault { R.faults self.new.reader ≡ R.faults self.old.reader }
         ensures same_references { R.references self.new.reader ≡ R.references self.old.reader }
     {
         let byte = self.peeked?;
         self.peeked = None;
-        if !self.drawn {
+        if !self.fetched {
             self.reader.take_ahead(1);
         }
-        self.drawn = false;
+        self.fetched = false;
         self.pos = self.pos.saturating_add(1);
         Some(byte)
     }
@@ -187,7 +187,7 @@ impl<R: ReadExt> Read for PeekableReader<R> {
             (result ≡ Ok 1) × (buf.new ≡ b ∷ drop 1 buf.old)) }
         ensures unpeeked { 0 < length buf.old → OnOk result (self.new.peeked ≡ None) }
         ensures kept { OnErr result (self.new.peeked ≡ self.old.peeked) }
-        ensures pos { IfOk result (λ n. self.new.pos ≡ position_behind self.old.pos n) }
+        ensures pos { IfOk result (λ n. self.new.pos ≡ position_after self.old.pos n) }
         ensures same_pos { OnErr result (self.new.pos ≡ self.old.pos) }
         ensures fault { IfErr result (FailsOnce (R.faults self.old.reader)
             (R.faults self.new.reader) (left_in R.remaining self.new)) }
@@ -203,7 +203,7 @@ impl<R: ReadExt> ReadExt for PeekableReader<R> {
 
     ghost references = { λ p. R.references p.reader };
 
-    ghost shown = { λ p. shown_by p.drawn (R.shown p.reader) };
+    ghost shown = { λ p. shown_by p.fetched (R.shown p.reader) };
 
     fn read_next(&mut self) -> io::Result<Option<u8>>
         ensures byte { GivesNext (left_in R.remaining self.old)
@@ -214,7 +214,7 @@ impl<R: ReadExt> ReadExt for PeekableReader<R> {
         ensures unpeeked { OnOk result (self.new.peeked ≡ None) }
         ensures kept { OnErr result (self.new.peeked ≡ self.old.peeked) }
         ensures pos { IfOk result
-            (λ next. self.new.pos ≡ position_behind self.old.pos (count_of_any next)) }
+            (λ next. self.new.pos ≡ position_after self.old.pos (count_of_any next)) }
         ensures same_pos { OnErr result (self.new.pos ≡ self.old.pos) }
         ensures fault { IfErr result (FailsOnce (R.faults self.old.reader)
             (R.faults self.new.reader) (left_in R.remaining self.new)) }
@@ -241,7 +241,7 @@ impl<R: ReadExt> ReadExt for PeekableReader<R> {
             (result ≡ Ok 1) × (buf.new ≡ b ∷ drop 1 buf.old)) }
         ensures unpeeked { 0 < length buf.old → OnOk result (self.new.peeked ≡ None) }
         ensures kept { OnErr result (self.new.peeked ≡ self.old.peeked) }
-        ensures pos { IfOk result (λ n. self.new.pos ≡ position_behind self.old.pos n) }
+        ensures pos { IfOk result (λ n. self.new.pos ≡ position_after self.old.pos n) }
         ensures same_pos { OnErr result (self.new.pos ≡ self.old.pos) }
         ensures fault { IfErr result (FailsOnce (R.faults self.old.reader)
             (R.faults self.new.reader) (left_in R.remaining self.new)) }
@@ -264,25 +264,25 @@ impl<R: ReadExt> ReadExt for PeekableReader<R> {
     fn ahead(&self) -> &[u8]
         ensures front { IfSome (left_in R.remaining self.now)
             (λ bytes. StartsWith bytes result.now) }
-        ensures size { length result.now ≡ shown_by self.now.drawn (R.shown self.now.reader) }
+        ensures size { length result.now ≡ shown_by self.now.fetched (R.shown self.now.reader) }
         ensures known { IfNone (left_in R.remaining self.now) (result.now ≡ []) }
     {
-        if self.drawn {
+        if self.fetched {
             return &[];
         }
         self.reader.ahead()
     }
 
     fn take_ahead(&mut self, count: usize)
-        requires { count ≤ shown_by self.old.drawn (R.shown self.old.reader) }
-        ensures taken { TakesFirst (left_in R.remaining self.old)
+        requires { count ≤ shown_by self.old.fetched (R.shown self.old.reader) }
+        ensures consumed { ConsumesFirst (left_in R.remaining self.old)
             (left_in R.remaining self.new) count }
         ensures unpeeked { count_of_any self.old.peeked ≤ count → self.new.peeked ≡ None }
-        ensures pos { self.new.pos ≡ position_behind self.old.pos count }
+        ensures pos { self.new.pos ≡ position_after self.old.pos count }
         ensures no_fault { R.faults self.new.reader ≡ R.faults self.old.reader }
         ensures same_references { R.references self.new.reader ≡ R.references self.old.reader }
     {
-        if self.drawn {
+        if self.fetched {
             return;
         }
         self.reader.take_ahead(count);
@@ -298,7 +298,7 @@ impl<R: ReadExt> ReadExt for PeekableReader<R> {
             (λ b. result ≡ Ok b) }
         ensures unpeeked { OnOk result (self.new.peeked ≡ None) }
         ensures kept { OnErr result (self.new.peeked ≡ self.old.peeked) }
-        ensures pos { OnOk result (self.new.pos ≡ position_behind self.old.pos 1) }
+        ensures pos { OnOk result (self.new.pos ≡ position_after self.old.pos 1) }
         ensures same_pos { OnErr result (self.new.pos ≡ self.old.pos) }
         ensures fault { CountsFault (left_in R.remaining self.old) (left_in R.remaining self.new)
             (R.faults self.old.reader) (R.faults self.new.reader) result }

@@ -3,7 +3,7 @@ ghost use Rattle.std.specs.Prelude.{◌≡◌, ◌≤◌, ℕ, List, [], ◌∷�
 ghost use Rattle.std.specs.Io.KnownBytes.{ReadConsumes};
 ghost use Rattle.std.specs.Io.{ReadsAtMost, StartsWith};
 ghost use Rattle.picky_der_core.specs.Faults.{Fault};
-ghost use Rattle.picky_der_core.specs.Reader.{GivesByte, GivesNext, TakesFirst, CountsFault, FailsOnce};
+ghost use Rattle.picky_der_core.specs.Reader.{GivesByte, GivesNext, ConsumesFirst, CountsFault, FailsOnce};
 
 use std::io;
 use std::io::{Error, ErrorKind, Read};
@@ -49,7 +49,7 @@ pub trait ReadExt: Read {
     /// Consumes the first `count` bytes of `ahead`.
     fn take_ahead(&mut self, count: usize)
         requires { count ≤ shown self.old }
-        ensures taken { TakesFirst (Self.remaining self.old) (Self.remaining self.new) count }
+        ensures consumed { ConsumesFirst (Self.remaining self.old) (Self.remaining self.new) count }
         ensures no_fault { faults self.new ≡ faults self.old }
         ensures same_references { references self.new ≡ references self.old };
 

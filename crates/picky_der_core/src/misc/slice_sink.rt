@@ -90,7 +90,7 @@ impl Write for SliceSink<'_> {
             → faults_of self.new ≡ suc (faults_of self.old) }
         ensures no_fault { 0 < room_of self.old → faults_of self.new ≡ faults_of self.old }
         ensures no_bytes { length bytes.now ≡ 0 → faults_of self.new ≡ faults_of self.old }
-        ensures goes_on { IsLater self.old self.new }
+        ensures continues { IsLater self.old self.new }
     {
         let count = self.fill(bytes);
         if count == 0 && !bytes.is_empty() {
@@ -130,7 +130,7 @@ impl WriteExt for SliceSink<'_> {
         ensures fault { IfErr result (λ e. (faults_of self.new ≡ suc (faults_of self.old))
             × (error_kind e ≡ WriteZero)) }
         ensures no_fault { OnOk result (faults_of self.new ≡ faults_of self.old) }
-        ensures goes_on { IsLater self.old self.new }
+        ensures continues { IsLater self.old self.new }
     {
         let count = self.fill(bytes);
         if count < bytes.len() {

@@ -5,7 +5,7 @@ ghost use Rattle.std.specs.declared.io.ErrorKind.TheVariants.{WriteZero};
 ghost use Rattle.std.specs.Io.KnownBytes.{Appends, WriteAppends, ReadConsumes};
 ghost use Rattle.std.specs.Io.{WritesAtMost, ReadsAtMost};
 ghost use Rattle.std.proofs.Common.{refl};
-ghost use Rattle.picky_der_core.specs.Faults.{faults_told};
+ghost use Rattle.picky_der_core.specs.Faults.{faults_reported};
 ghost use Rattle.picky_der_core.specs.Writer.{AppendsTooFew};
 
 use super::{Faults, ReadExt, WriteExt};
@@ -81,7 +81,7 @@ impl<T: Read> Read for Watched<T> {
 }
 
 impl<T: Read> ReadExt for Watched<T> {
-    ghost faults = { λ w. faults_told T.remaining w.faults };
+    ghost faults = { λ w. faults_reported T.remaining w.faults };
 
     ghost references = { λ _. [] };
 

@@ -34,7 +34,7 @@ pub trait WriteExt: Write {
         ensures fault { IfErr result (λ e. (faults self.new ≡ suc (faults self.old))
             × answers (error_kind e)) }
         ensures no_fault { OnOk result (faults self.new ≡ faults self.old) }
-        ensures goes_on { later self.old self.new };
+        ensures continues { later self.old self.new };
 
     /// Writes the byte, and returns 1. After an error nothing was written.
     fn write_one(&mut self, byte: u8) -> io::Result<usize>
@@ -45,7 +45,7 @@ pub trait WriteExt: Write {
         ensures fault { IfErr result (λ e. (faults self.new ≡ suc (faults self.old))
             × answers (error_kind e)) }
         ensures no_fault { OnOk result (faults self.new ≡ faults self.old) }
-        ensures goes_on { later self.old self.new }
+        ensures continues { later self.old self.new }
     {
         self.write_exact(&[byte])
     }

@@ -7,20 +7,20 @@ ghost use Rattle.std.specs.Io.{StartsWith};
 ghost use Rattle.picky_der_core.specs.Peeking.{left_in, shown_by};
 ghost use Rattle.picky_der_core.specs.Primitive.{Primitive, PrimitiveShape};
 ghost use Rattle.picky_der_core.specs.Tag.{number_of, IsTagNumber};
-ghost use Rattle.picky_der_de.specs.Steps.{Takes, TakesBytes, Fails};
+ghost use Rattle.picky_der_de.specs.Steps.{Consumed, ConsumesBytes, Fails};
 ghost use Rattle.picky_der_de.specs.Elements.{ReadsRaw, RefusesRaw};
 ghost use Rattle.picky_der_de.specs.Ahead.{IsElementInFront};
 ghost use Rattle.picky_der_de.specs.Reading.{ReadsPrimitive, RefusesPrimitive};
 
 use super::Deserializer;
 use picky_der_core::asn1::Tag;
-use picky_der_core::misc::{PeekableReader, ReadExt};
+use picky_der_core::misc::{Length, PeekableReader, ReadExt};
 use picky_der_core::{Asn1DerError, Result};
 use std::alloc::{AllocError, Global};
 
 // The length at the front of these bytes, and the number of its bytes. `None` if none is there, or if it has more than three
 // bytes.
-fn length_in_front(bytes: &[u8]) -> Option<(usize, usize)>
+fn length_at_front(bytes: &[u8]) -> Option<(usize, usize)>
     ensures is { IfSome result (λ r. IsPrefix (length_octets r.0) bytes.now) }
     ensures size { IfSome result (λ r. r.1 ≡ length (length_octets r.0)) }
     ensures small { IfSome result (λ r. (r.0 < 65536) × (r.1 ≤ 3)) }
@@ -31,19 +31,19 @@ fn length_in_front(bytes: &[u8]) -> Option<(usize, usize)>
     if bytes[0] < 0x80 {
         return Some((usize::from(bytes[0]), 1));
     }
-    if bytes[0] == 0x81 && bytes.len() > 1 && bytes[1] >= 0x80 {
-        return Some((usize::from(bytes[1]), 2));
+    if bytes[0] == 0x81 && bytes.len() > 1 {
+        return Some((Length::shortest(1, usize::from(bytes[1])).ok()?, 2));
     }
-    if bytes[0] == 0x82 && bytes.len() > 2 && bytes[1] > 0x00 {
+    if bytes[0] == 0x82 && bytes.len() > 2 {
         let len = usize::from(bytes[1]) * 256 + usize::from(bytes[2]);
-        return Some((len, 3));
+        return Some((Length::shortest(2, len).ok()?, 3));
     }
     None
 }
 
 // For the element with this tag at the front of these bytes: the length of its content, and of its header. `None` if it isn't
 // there whole, or if its length has more than three bytes.
-fn headed_in_front(bytes: &[u8], tag: Tag) -> Option<(usize, usize)>
+fn headed_at_front(bytes: &[u8], tag: Tag) -> Option<(usize, usize)>
     ensures is { IfSome result (λ h. IsPrefix (tag ∷ length_octets h.0) bytes.now) }
     ensures size { IfSome result (λ h. h.1 ≡ length (tag ∷ length_octets h.0)) }
     ensures whole { IfSome result (λ h. h.1 + h.0 ≤ length bytes.now) }
@@ -51,7 +51,7 @@ fn headed_in_front(bytes: &[u8], tag: Tag) -> Option<(usize, usize)>
     if bytes.len() < 2 || bytes[0] != tag.inner() {
         return None;
     }
-    let (len, digits) = length_in_front(&bytes[1..])?;
+    let (len, digits) = length_at_front(&bytes[1..])?;
     if len + digits + 1 > bytes.len() {
         return None;
     }
@@ -60,7 +60,7 @@ fn headed_in_front(bytes: &[u8], tag: Tag) -> Option<(usize, usize)>
 
 // The content of the element with this tag at the front of these bytes. `None` if the element isn't there whole, or if its
 // length has more than one byte.
-pub(super) fn short_in_front(bytes: &[u8], tag: Tag) -> Option<&[u8]>
+pub(super) fn short_at_front(bytes: &[u8], tag: Tag) -> Option<&[u8]>
     ensures is { IfSome result (λ content. IsPrefix (tag ∷ (length content.now ∷ content.now)) bytes.now) }
     ensures short { IfSome result (λ content. length content.now < 128) }
     ensures bytes { IfSome result (λ content. AreBytes content.now) }
@@ -77,13 +77,13 @@ pub(super) fn short_in_front(bytes: &[u8], tag: Tag) -> Option<&[u8]>
 
 // The number of bytes of the element at the front of these bytes. `None` if none is there whole, or if its length has more than
 // three bytes.
-pub(super) fn element_in_front(bytes: &[u8]) -> Option<usize>
+pub(super) fn element_at_front(bytes: &[u8]) -> Option<usize>
     ensures is { IfSome result (λ count. IsElementInFront bytes.now count) }
 {
     if bytes.len() < 2 || Tag::from(bytes[0]).number() > Tag::MAX_NUMBER {
         return None;
     }
-    let (len, digits) = length_in_front(&bytes[1..])?;
+    let (len, digits) = length_at_front(&bytes[1..])?;
     let count = len + digits + 1;
     if count > bytes.len() {
         return None;
@@ -102,7 +102,7 @@ fn copied(alloc: Global, bytes: &[u8]) -> std::result::Result<Vec<u8>, AllocErro
 // The bytes that the reader shows before the innermost end.
 pub(super) fn near<R: ReadExt>(reader: &PeekableReader<R>, until_end: usize) -> &[u8]
     ensures front { IfSome (left_in R.remaining reader.now) (λ left. StartsWith left result.now) }
-    ensures shown { length result.now ≤ shown_by reader.now.drawn (R.shown reader.now.reader) }
+    ensures shown { length result.now ≤ shown_by reader.now.fetched (R.shown reader.now.reader) }
     ensures fits { length result.now ≤ until_end }
 {
     let ahead = reader.ahead();
@@ -113,12 +113,12 @@ impl<R: ReadExt> Deserializer<R> {
     // Consumes the header of an element with this tag that is ahead whole, and returns the length of the content.
     pub(crate) fn take_header_ahead(&mut self, tag: Tag) -> Option<usize>
         requires had_not_failed { self.old.failed ≡ None }
-        ensures taken { IfSome result (λ n. Takes self.old self.new (tag ∷ length_octets n)
+        ensures consumed { IfSome result (λ n. Consumed self.old self.new (tag ∷ length_octets n)
             × (n ≤ self.new.until_end)) }
         ensures implicit_tag { self.new.implicit_tag ≡ self.old.implicit_tag }
         ensures none { IfNone result (self.new ≡ self.old) }
     {
-        let (len, size) = headed_in_front(near(&self.reader, self.until_end), tag)?;
+        let (len, size) = headed_at_front(near(&self.reader, self.until_end), tag)?;
         self.reader.take_few(size);
         self.until_end -= size;
         Some(len)
@@ -137,8 +137,8 @@ impl<R: ReadExt> Deserializer<R> {
     pub(crate) fn copy_ahead(&mut self, count: usize) -> Result<Option<Vec<u8>>>
         requires had_not_failed { self.old.failed ≡ None }
         requires unpeeked { self.old.peeked ≡ None }
-        ensures taken { IfOk result (λ some. IfSome some
-            (λ bytes. TakesBytes self.old self.new count bytes.items)) }
+        ensures consumed { IfOk result (λ some. IfSome some
+            (λ bytes. ConsumesBytes self.old self.new count bytes.items)) }
         ensures none { IfOk result (λ some. IfNone some (self.new ≡ self.old)) }
         ensures implicit_tag { OnOk result (self.new.implicit_tag ≡ self.old.implicit_tag) }
         ensures err { IfErr result (λ e. (e ≡ Asn1DerError.OutOfMemory)
@@ -171,7 +171,7 @@ impl<R: ReadExt> Deserializer<R> {
             return Ok(None);
         }
         let near = near(&self.reader, self.until_end);
-        let Some((len, size)) = headed_in_front(near, tag) else {
+        let Some((len, size)) = headed_at_front(near, tag) else {
             return Ok(None);
         };
         let count = size + len;
@@ -197,7 +197,7 @@ impl<R: ReadExt> Deserializer<R> {
             return Ok(None);
         }
         let near = near(&self.reader, self.until_end);
-        let Some(count) = element_in_front(near) else {
+        let Some(count) = element_at_front(near) else {
             return Ok(None);
         };
         let Ok(bytes) = copied(self.alloc, &near[..count]) else {

@@ -2,7 +2,7 @@
 ghost use Rattle.std.specs.Prelude.{◌≡◌, ◌≤◌, ◌∷◌, ◌<◌, ◌^◌, None, IfOk, IfErr, OnOk};
 ghost use Rattle.picky_der_core.specs.Element.{length_octets};
 ghost use Rattle.picky_der_core.specs.Tag.{number_of, IsTagNumber};
-ghost use Rattle.picky_der_de.specs.Steps.{Takes, StopsShort, TakesNoMemory};
+ghost use Rattle.picky_der_de.specs.Steps.{Consumed, StopsShort, UsesNoMemory};
 ghost use Rattle.picky_der_de.specs.Headers.{ReadsDigits, RefusesLength, RefusesContentLength, RefusesHeader};
 ghost use Rattle.picky_der_de.specs.Headers.{BeginsContent, RefusesBegin};
 
@@ -21,7 +21,7 @@ impl<R: ReadExt> Deserializer<R> {
         ensures fits { IfOk result (λ n. n < 2 ^ 64) }
         ensures implicit_tag { OnOk result (self.new.implicit_tag ≡ self.old.implicit_tag) }
         ensures err { IfErr result (StopsShort self.old self.new count) }
-        ensures memory { IfErr result (TakesNoMemory self.old self.new) }
+        ensures memory { IfErr result (UsesNoMemory self.old self.new) }
     {
         let mut len = 0;
         for _i in 0..count {
@@ -34,11 +34,11 @@ impl<R: ReadExt> Deserializer<R> {
     fn read_length(&mut self) -> Result<usize>
         requires had_not_failed { self.old.failed ≡ None }
         requires unpeeked { self.old.peeked ≡ None }
-        ensures ok { IfOk result (λ n. Takes self.old self.new (length_octets n)) }
+        ensures ok { IfOk result (λ n. Consumed self.old self.new (length_octets n)) }
         ensures fits { IfOk result (λ n. n < 2 ^ 64) }
         ensures implicit_tag { OnOk result (self.new.implicit_tag ≡ self.old.implicit_tag) }
         ensures err { IfErr result (RefusesLength self.old self.new) }
-        ensures memory { IfErr result (TakesNoMemory self.old self.new) }
+        ensures memory { IfErr result (UsesNoMemory self.old self.new) }
     {
         let first = self.next_byte()?;
         if first < 0x80 {
@@ -59,11 +59,11 @@ impl<R: ReadExt> Deserializer<R> {
     pub(crate) fn read_content_length(&mut self) -> Result<usize>
         requires had_not_failed { self.old.failed ≡ None }
         requires unpeeked { self.old.peeked ≡ None }
-        ensures ok { IfOk result (λ n. Takes self.old self.new (length_octets n)
+        ensures ok { IfOk result (λ n. Consumed self.old self.new (length_octets n)
             × (n ≤ self.new.until_end)) }
         ensures implicit_tag { OnOk result (self.new.implicit_tag ≡ self.old.implicit_tag) }
         ensures err { IfErr result (RefusesContentLength self.old self.new) }
-        ensures memory { IfErr result (TakesNoMemory self.old self.new) }
+        ensures memory { IfErr result (UsesNoMemory self.old self.new) }
     {
         let len = self.read_length()?;
         if len > self.until_end {
@@ -77,29 +77,29 @@ impl<R: ReadExt> Deserializer<R> {
     pub(crate) fn read_header(&mut self, tag: Tag) -> Result<usize>
         requires number { IsTagNumber (number_of tag) }
         requires had_not_failed { self.old.failed ≡ None }
-        ensures ok { IfOk result (λ n. Takes self.old self.new (tag ∷ length_octets n)
+        ensures ok { IfOk result (λ n. Consumed self.old self.new (tag ∷ length_octets n)
             × (n ≤ self.new.until_end)) }
         ensures implicit_tag { OnOk result (self.new.implicit_tag ≡ self.old.implicit_tag) }
         ensures err { IfErr result (RefusesHeader tag self.old self.new) }
-        ensures memory { IfErr result (TakesNoMemory self.old self.new) }
+        ensures memory { IfErr result (UsesNoMemory self.old self.new) }
     {
         match self.take_header_ahead(tag) {
             Some(len) => Ok(len),
-            None => self.draw_header(tag),
+            None => self.fetch_header(tag),
         }
     }
 
     // The same, byte by byte.
     #[cold]
     #[inline(never)]
-    fn draw_header(&mut self, tag: Tag) -> Result<usize>
+    fn fetch_header(&mut self, tag: Tag) -> Result<usize>
         requires number { IsTagNumber (number_of tag) }
         requires had_not_failed { self.old.failed ≡ None }
-        ensures ok { IfOk result (λ n. Takes self.old self.new (tag ∷ length_octets n)
+        ensures ok { IfOk result (λ n. Consumed self.old self.new (tag ∷ length_octets n)
             × (n ≤ self.new.until_end)) }
         ensures implicit_tag { OnOk result (self.new.implicit_tag ≡ self.old.implicit_tag) }
         ensures err { IfErr result (RefusesHeader tag self.old self.new) }
-        ensures memory { IfErr result (TakesNoMemory self.old self.new) }
+        ensures memory { IfErr result (UsesNoMemory self.old self.new) }
     {
         let first = self.next_byte()?;
         if first != tag.inner() {
@@ -111,11 +111,11 @@ impl<R: ReadExt> Deserializer<R> {
     // What `begin` does in the other cases: it has failed, or is directly under an implicit tag, or its header isn't ahead whole.
     #[cold]
     #[inline(never)]
-    pub(super) fn draw_begin(&mut self, tag: Tag) -> Result<usize>
+    pub(super) fn fetch_begin(&mut self, tag: Tag) -> Result<usize>
         requires number { IsTagNumber (number_of tag) }
         ensures ok { IfOk result (BeginsContent tag self.old self.new) }
         ensures err { IfErr result (RefusesBegin tag self.old self.new) }
-        ensures memory { IfErr result (TakesNoMemory self.old self.new) }
+        ensures memory { IfErr result (UsesNoMemory self.old self.new) }
     {
         if let Some(error) = self.earlier() {
             return Err(error);
@@ -124,6 +124,6 @@ impl<R: ReadExt> Deserializer<R> {
             self.implicit_tag = None;
             return Ok(self.until_end);
         }
-        self.draw_header(tag)
+        self.fetch_header(tag)
     }
 }

@@ -4,7 +4,7 @@ ghost use Rattle.std.specs.Prelude.{◌≡◌, ◌+◌, ◌≤◌, ◌<◌, ◌�
 ghost use Rattle.std.specs.Prelude.{IsTrue, IfNone, IfSome, IfOk, IfErr, OnOk};
 ghost use Rattle.picky_der_core.specs.Tag.{number_of, IsTagNumber};
 ghost use Rattle.picky_der_core.specs.Wrapper.{HasTagNumber};
-ghost use Rattle.picky_der_de.specs.Steps.{Takes, TakesNoMemory};
+ghost use Rattle.picky_der_de.specs.Steps.{Consumed, UsesNoMemory};
 ghost use Rattle.picky_der_de.specs.Headers.{BeginsContent, RefusesBegin};
 ghost use Rattle.picky_der_de.specs.Ends.{innermost, with_inner_end, Closes, RefusesClose, OpensList, RefusesList, OpensLazily};
 ghost use Rattle.picky_der_de.specs.Order.{order_of, cut_at};
@@ -22,7 +22,7 @@ use std::marker::Model;
 
 // The end around an open one. It becomes the innermost end again when the open one is closed.
 #[derive(Drop)]
-pub(crate) struct Outer {
+pub(crate) struct EnclosingEnd {
     // How many bytes are consumed before it.
     position: usize,
     kind: End,
@@ -30,10 +30,10 @@ pub(crate) struct Outer {
     last_start: Option<usize>,
 }
 
-impl Model for Outer {
-    ghost use Rattle.picky_der_de.specs.Ends.{Outer as OuterEnd};
+impl Model for EnclosingEnd {
+    ghost use Rattle.picky_der_de.specs.Ends.{EnclosingEnd as EnclosingEndState};
 
-    ghost Value = { OuterEnd };
+    ghost Value = { EnclosingEndState };
 
     ghost view = { λ o. record { position = o.position; kind = o.kind; last_start = o.last_start } };
 }
@@ -51,13 +51,13 @@ fn implicit_tag(wrapper: Wrapper) -> Option<u8>
 
 impl<R: ReadExt> Deserializer<R> {
     // Opens an end `len` bytes from here, and returns the one around it.
-    pub(crate) fn open_end(&mut self, len: usize, kind: End) -> Outer
+    pub(crate) fn open_end(&mut self, len: usize, kind: End) -> EnclosingEnd
         requires { len ≤ self.old.until_end }
         ensures opened { self.new ≡ with_inner_end self.old len kind }
         ensures outer_end { result ≡ innermost self.old }
         ensures bounded { result.position ≤ self.new.limit }
     {
-        let outer = Outer {
+        let outer = EnclosingEnd {
             position: self.reader.pos() + self.until_end,
             kind: self.end,
             last_start: self.last_start.take(),
@@ -74,24 +74,15 @@ impl<R: ReadExt> Deserializer<R> {
         requires number { IsTagNumber (number_of tag) }
         ensures ok { IfOk result (BeginsContent tag self.old self.new) }
         ensures err { IfErr result (RefusesBegin tag self.old self.new) }
-        ensures memory { IfErr result (TakesNoMemory self.old self.new) }
-    {
-        match self.begin_ahead(tag) {
-            Some(len) => Ok(len),
-            None => self.draw_begin(tag),
-        }
-    }
-
-    // The same, if the header is ahead whole.
-    #[inline(always)]
-    fn begin_ahead(&mut self, tag: Tag) -> Option<usize>
-        ensures some { IfSome result (BeginsContent tag self.old self.new) }
-        ensures none { IfNone result (self.new ≡ self.old) }
+        ensures memory { IfErr result (UsesNoMemory self.old self.new) }
     {
         if !self.wants_header() {
-            return None;
+            return self.fetch_begin(tag);
         }
-        self.take_header_ahead(tag)
+        match self.take_header_ahead(tag) {
+            Some(len) => Ok(len),
+            None => self.fetch_begin(tag),
+        }
     }
 
     // Consumes the header of a sequence or set under this tag, and opens its end. Directly under an implicit tag the header
@@ -99,7 +90,7 @@ impl<R: ReadExt> Deserializer<R> {
     //
     // `InvalidData` for another tag. Any other error is that of a header or of an end, or the reader's I/O error.
     #[inline(always)]
-    pub(crate) fn open_list(&mut self, tag: Tag) -> Result<Outer>
+    pub(crate) fn open_list(&mut self, tag: Tag) -> Result<EnclosingEnd>
         requires number { IsTagNumber (number_of tag) }
         ensures ok { IfOk result (λ outer. OpensList tag self.old self.new outer) }
         ensures bounded { IfOk result (λ outer. outer.position ≤ self.new.limit) }
@@ -107,28 +98,16 @@ impl<R: ReadExt> Deserializer<R> {
     {
         let len = self.begin(tag)?;
         let outer = self.open_end(len, End::Soft);
-        self.order_members(tag);
+        self.last_start = (tag == Tag::SET).then_some(self.kept.len());
         Ok(outer)
-    }
-
-    // Prepares for the members of a list under this tag. Only the order of a set's members is tested.
-    fn order_members(&mut self, tag: Tag)
-        requires { self.old.sets.last ≡ None }
-        ensures { self.new ≡ record self.old {
-          sets = record self.old.sets { last = order_of tag };
-        } }
-    {
-        if tag == Tag::SET {
-            self.last_start = Some(self.kept.len());
-        }
     }
 
     // Opens a soft end `len` bytes from here, before which no order is tested. Directly under an implicit tag the contents
     // have their own header.
     //
-    // If these bytes reach past the innermost end, the input has failed: with `InvalidData` at a hard end, and else with
+    // If these bytes reach past the innermost end, the deserializer has failed: with `InvalidData` at a hard end, and else with
     // `TruncatedData`. If it had failed before, nothing changes.
-    pub(crate) fn open_lazily(&mut self, len: usize) -> Outer
+    pub(crate) fn open_lazily(&mut self, len: usize) -> EnclosingEnd
         ensures opened { OpensLazily len self.old self.new result }
         ensures bounded { result.position ≤ self.new.limit }
     {
@@ -139,7 +118,7 @@ impl<R: ReadExt> Deserializer<R> {
         if self.failed.is_none() {
             self.failed = Some(Failure::of(self.end.missing()));
         }
-        Outer {
+        EnclosingEnd {
             position: self.reader.pos() + self.until_end,
             kind: self.end,
             last_start: self.last_start,
@@ -147,7 +126,7 @@ impl<R: ReadExt> Deserializer<R> {
     }
 
     // Consumes the header of a wrapper, and opens its end. Directly under an implicit tag it has its own header too.
-    fn begin_wrapper(&mut self, wrapper: Wrapper) -> Result<Outer>
+    fn begin_wrapper(&mut self, wrapper: Wrapper) -> Result<EnclosingEnd>
         ensures ok { IfOk result (BeginsWrapper wrapper self.old self.new) }
         ensures bounded { IfOk result (λ outer. outer.position ≤ self.new.limit) }
         ensures err { IfErr result (RefusesOpening wrapper self.old self.new) }
@@ -166,7 +145,7 @@ impl<R: ReadExt> Deserializer<R> {
     // Consumes the byte that counts the unused bits of a bit string, which must be 00.
     fn take_unused_bits(&mut self) -> Result<()>
         requires had_not_failed { self.old.failed ≡ None }
-        ensures ok { OnOk result (Takes self.old self.new (0x00 ∷ [])) }
+        ensures ok { OnOk result (Consumed self.old self.new (0x00 ∷ [])) }
         ensures err { IfErr result (RefusesUnusedBits self.old self.new) }
     {
         if self.next_byte()? != 0x00 {
@@ -180,7 +159,7 @@ impl<R: ReadExt> Deserializer<R> {
     // `UnsupportedValue` for a tag number past 30, and for a tag in place of a list's own that isn't constructed: nothing is
     // consumed then. `InvalidData` for another tag, and for unused bits (X.690, 8.6.2). Any other error is that of a header or
     // of an end, or the reader's I/O error.
-    pub(crate) fn open_wrapper(&mut self, wrapper: Wrapper) -> Result<Outer>
+    pub(crate) fn open_wrapper(&mut self, wrapper: Wrapper) -> Result<EnclosingEnd>
         ensures ok { IfOk result (OpensWrapper wrapper self.old self.new) }
         ensures bounded { IfOk result (λ outer. outer.position ≤ self.new.limit) }
         ensures err { IfErr result (RefusesOpening wrapper self.old self.new) }
@@ -214,8 +193,8 @@ impl<R: ReadExt> Deserializer<R> {
     // Closes the innermost end, if it was reached. The end around it is the innermost one again.
     //
     // `InvalidData` if bytes are left before it: none of them is consumed.
-    pub(crate) fn close_end(&mut self, outer: Outer) -> Result<()>
-        requires within { self.old.taken + self.old.until_end ≤ outer.position }
+    pub(crate) fn close_end(&mut self, outer: EnclosingEnd) -> Result<()>
+        requires within { self.old.consumed + self.old.until_end ≤ outer.position }
         requires bounded { outer.position ≤ self.old.limit }
         ensures ok { OnOk result (Closes outer self.old self.new) }
         ensures err { IfErr result (RefusesClose self.old self.new) }
@@ -261,7 +240,7 @@ impl<R: ReadExt> Deserializer<R> {
         Ok(value)
     }
 
-    // Whether the innermost end is reached. The only error is the earlier one, if the input has failed.
+    // Whether the innermost end is reached. The only error is the earlier one, if the deserializer has failed.
     pub(crate) fn is_at_end(&self) -> Result<bool>
         ensures ok { IfOk result (λ here. (self.now.failed ≡ None)
             × (IsTrue here ↔ (self.now.until_end ≡ 0))) }

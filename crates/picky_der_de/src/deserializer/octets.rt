@@ -11,7 +11,7 @@ ghost use Rattle.picky_der_de.specs.contracts.deserializer.Deserializer.{the_row
 ghost use Rattle.picky_der_de.specs.TagNumbers.{RefusesNumber};
 
 use super::Deserializer;
-use super::ahead::{near, short_in_front};
+use super::ahead::{near, short_at_front};
 use crate::ShortContent;
 use picky_der_core::asn1::Tag;
 use picky_der_core::misc::ReadExt;
@@ -38,7 +38,7 @@ impl<R: ReadExt> Deserializer<R> {
                 Err(error) => return Err(error),
             }
         }
-        self.draw_tagged_bytes(tag)
+        self.fetch_tagged_bytes(tag)
     }
 
     /// Reads the content under this tag into a value in one step. The whole element has to be in memory before the innermost
@@ -56,7 +56,7 @@ impl<R: ReadExt> Deserializer<R> {
         if tag.number() > Tag::MAX_NUMBER || !self.wants_header() {
             return None;
         }
-        let content = short_in_front(near(&self.reader, self.until_end), tag)?;
+        let content = short_at_front(near(&self.reader, self.until_end), tag)?;
         let count = content.len() + 2;
         let value = C::of_short(self.alloc, content)?;
         self.reader.take_few(count);
@@ -67,7 +67,7 @@ impl<R: ReadExt> Deserializer<R> {
     // The same, the header byte by byte.
     #[cold]
     #[inline(never)]
-    fn draw_tagged_bytes(&mut self, tag: Tag) -> Result<Vec<u8>>
+    fn fetch_tagged_bytes(&mut self, tag: Tag) -> Result<Vec<u8>>
         ensures ok { IfOk result (λ content. ReadsPrimitive (PrimitiveShape.bytes tag) self.old self.new
             (Primitive.bytes tag content.items)) }
         ensures err { IfErr result (RefusesPrimitive (Primitive.bytes tag) (PrimitiveShape.bytes tag)
@@ -81,7 +81,7 @@ impl<R: ReadExt> Deserializer<R> {
             return Err(self.fail(Asn1DerError::UnsupportedValue));
         }
         let len = self.begin(tag)?;
-        self.draw_vec(len)
+        self.fetch_vec(len)
     }
 
     /// Reads an octet string (X.690, 8.7) into one vector. The errors are those of `deserialize_tagged_bytes`.

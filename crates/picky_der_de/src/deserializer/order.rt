@@ -7,7 +7,7 @@ ghost use Rattle.picky_der_de.specs.Steps.{Fails};
 ghost use Rattle.picky_der_de.specs.Order.{with_last, is_out_of_order, SeesMember, Follows, RefusesTest};
 
 use super::Deserializer;
-use super::ahead::element_in_front;
+use super::ahead::element_at_front;
 use crate::Deserialize;
 use picky_der_core::misc::ReadExt;
 use picky_der_core::{Asn1DerError, Result};
@@ -76,7 +76,7 @@ impl<R: ReadExt> Deserializer<R> {
             return Ok(None);
         };
         let ahead = self.reader.ahead();
-        let Some(count) = element_in_front(ahead) else {
+        let Some(count) = element_at_front(ahead) else {
             return Ok(None);
         };
         let member = &ahead[..count];
@@ -124,7 +124,7 @@ impl<R: ReadExt> Deserializer<R> {
         }
     }
 
-    // Reads a member whose encoding was compared, and rejects it if it is less than the one before it.
+    // Reads a member whose encoding was compared, and refuses it if it is less than the one before it.
     fn read_seen<T: Deserialize>(&mut self, less: bool) -> Result<T>
         requires had_not_failed { self.old.failed ≡ None }
         requires whole { self.old.implicit_tag ≡ None }

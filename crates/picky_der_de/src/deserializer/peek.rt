@@ -1,7 +1,7 @@
 //! The next tag, looked at and left.
 ghost use Rattle.std.specs.Prelude.{◌≡◌, None, IfNone, IfSome, IfOk, IfErr};
 ghost use Rattle.picky_der_de.specs.Steps.{IsJudged};
-ghost use Rattle.picky_der_de.specs.LookAhead.{HasEnded, TellsChoice, RefusesChoice, Identifies, RefusesIdentifier};
+ghost use Rattle.picky_der_de.specs.LookAhead.{HasEnded, IdentifiesChoice, RefusesChoice, Identifies, RefusesIdentifier};
 
 use super::Deserializer;
 use picky_der_core::asn1::Tag;
@@ -13,7 +13,7 @@ impl<R: ReadExt> Deserializer<R> {
     fn peek_next(&mut self) -> Result<Option<Tag>>
         requires had_not_failed { self.old.failed ≡ None }
         requires whole { self.old.implicit_tag ≡ None }
-        ensures tag { IfOk result (λ next. IfSome next (TellsChoice self.old self.new)) }
+        ensures tag { IfOk result (λ next. IfSome next (IdentifiesChoice self.old self.new)) }
         ensures ended { IfOk result (λ next. IfNone next (HasEnded self.old self.new)) }
         ensures err { IfErr result (RefusesChoice self.old self.new) }
         ensures at_end { IfErr result (λ e. IsJudged self.old self.new e → self.old.until_end ≡ 0) }
@@ -33,7 +33,7 @@ impl<R: ReadExt> Deserializer<R> {
     fn peek_tag(&mut self) -> Result<Tag>
         requires had_not_failed { self.old.failed ≡ None }
         requires whole { self.old.implicit_tag ≡ None }
-        ensures ok { IfOk result (TellsChoice self.old self.new) }
+        ensures ok { IfOk result (IdentifiesChoice self.old self.new) }
         ensures err { IfErr result (RefusesChoice self.old self.new) }
     {
         match self.peek_next() {
@@ -90,7 +90,7 @@ impl<R: ReadExt> Deserializer<R> {
         _name: &'static str,
         _variants: &'static [&'static str],
     ) -> Result<Tag>
-        ensures ok { IfOk result (TellsChoice self.old self.new) }
+        ensures ok { IfOk result (IdentifiesChoice self.old self.new) }
         ensures err { IfErr result (RefusesChoice self.old self.new) }
     {
         if let Some(error) = self.earlier() {

@@ -3,11 +3,11 @@ ghost use Rattle.std.specs.Prelude.{◌≡◌, ◌^◌, ◌-◌, None, IfNone, I
 ghost use Rattle.picky_der_core.specs.Primitive.{Primitive, PrimitiveShape};
 ghost use Rattle.picky_der_core.specs.Shape.{Shape};
 ghost use Rattle.picky_der_core.specs.Integer.{int_tree};
-ghost use Rattle.picky_der_de.specs.Steps.{TakesNoMemory};
+ghost use Rattle.picky_der_de.specs.Steps.{UsesNoMemory};
 ghost use Rattle.picky_der_de.specs.Reading.{Reads, ReadsInt, RefusesInt, ReadsJudged, RefusesJudged, ReadsPrimitive, RefusesPrimitive};
 
 use super::Deserializer;
-use super::ahead::{near, short_in_front};
+use super::ahead::{near, short_at_front};
 use crate::any_integer::AnyInteger;
 use crate::plain_kind::PlainKind;
 use crate::{Boolean, Null, UnsignedInteger};
@@ -25,7 +25,7 @@ impl<R: ReadExt> Deserializer<R> {
             (Primitive.boolean value)) }
         ensures err { IfErr result (RefusesPrimitive Primitive.boolean PrimitiveShape.boolean
             self.old self.new) }
-        ensures memory { IfErr result (TakesNoMemory self.old self.new) }
+        ensures memory { IfErr result (UsesNoMemory self.old self.new) }
     {
         self.read_plain::<Boolean, bool>()
     }
@@ -41,7 +41,7 @@ impl<R: ReadExt> Deserializer<R> {
             self.old self.new (Primitive.unsigned value)) }
         ensures err { IfErr result (RefusesPrimitive Primitive.unsigned (PrimitiveShape.unsigned (2 ^ 8 - 1))
             self.old self.new) }
-        ensures memory { IfErr result (TakesNoMemory self.old self.new) }
+        ensures memory { IfErr result (UsesNoMemory self.old self.new) }
     {
         self.read_plain::<UnsignedInteger, u8>()
     }
@@ -53,7 +53,7 @@ impl<R: ReadExt> Deserializer<R> {
             self.old self.new (Primitive.unsigned value)) }
         ensures err { IfErr result (RefusesPrimitive Primitive.unsigned (PrimitiveShape.unsigned (2 ^ 16 - 1))
             self.old self.new) }
-        ensures memory { IfErr result (TakesNoMemory self.old self.new) }
+        ensures memory { IfErr result (UsesNoMemory self.old self.new) }
     {
         self.read_plain::<UnsignedInteger, u16>()
     }
@@ -65,7 +65,7 @@ impl<R: ReadExt> Deserializer<R> {
             self.old self.new (Primitive.unsigned value)) }
         ensures err { IfErr result (RefusesPrimitive Primitive.unsigned (PrimitiveShape.unsigned (2 ^ 32 - 1))
             self.old self.new) }
-        ensures memory { IfErr result (TakesNoMemory self.old self.new) }
+        ensures memory { IfErr result (UsesNoMemory self.old self.new) }
     {
         self.read_plain::<UnsignedInteger, u32>()
     }
@@ -77,7 +77,7 @@ impl<R: ReadExt> Deserializer<R> {
             self.old self.new (Primitive.unsigned value)) }
         ensures err { IfErr result (RefusesPrimitive Primitive.unsigned (PrimitiveShape.unsigned (2 ^ 64 - 1))
             self.old self.new) }
-        ensures memory { IfErr result (TakesNoMemory self.old self.new) }
+        ensures memory { IfErr result (UsesNoMemory self.old self.new) }
     {
         self.read_plain::<UnsignedInteger, u64>()
     }
@@ -89,7 +89,7 @@ impl<R: ReadExt> Deserializer<R> {
             self.old self.new (Primitive.unsigned value)) }
         ensures err { IfErr result (RefusesPrimitive Primitive.unsigned (PrimitiveShape.unsigned (2 ^ 128 - 1))
             self.old self.new) }
-        ensures memory { IfErr result (TakesNoMemory self.old self.new) }
+        ensures memory { IfErr result (UsesNoMemory self.old self.new) }
     {
         self.read_plain::<UnsignedInteger, u128>()
     }
@@ -103,7 +103,7 @@ impl<R: ReadExt> Deserializer<R> {
         ensures meant { IfOk result (λ value. Reads (Shape.primitive (PrimitiveShape.bytes 0x02)) self.old self.new
             (int_tree N.fits (N.number value))) }
         ensures err { IfErr result (RefusesInt N.fits self.old self.new) }
-        ensures memory { IfErr result (TakesNoMemory self.old self.new) }
+        ensures memory { IfErr result (UsesNoMemory self.old self.new) }
     {
         self.read_plain::<AnyInteger, N>()
     }
@@ -118,7 +118,7 @@ impl<R: ReadExt> Deserializer<R> {
             Primitive.null) }
         ensures err { IfErr result (RefusesPrimitive (λ (_ : Unit {0}). Primitive.null)
             PrimitiveShape.null self.old self.new) }
-        ensures memory { IfErr result (TakesNoMemory self.old self.new) }
+        ensures memory { IfErr result (UsesNoMemory self.old self.new) }
     {
         self.read_plain::<Null, ()>()
     }
@@ -130,7 +130,7 @@ impl<R: ReadExt> Deserializer<R> {
             self.old self.new Primitive.null) }
         ensures err { IfErr result (RefusesPrimitive (λ (_ : Unit {0}). Primitive.null) PrimitiveShape.null
             self.old self.new) }
-        ensures memory { IfErr result (TakesNoMemory self.old self.new) }
+        ensures memory { IfErr result (UsesNoMemory self.old self.new) }
     {
         self.deserialize_unit()
     }
@@ -141,11 +141,11 @@ impl<R: ReadExt> Deserializer<R> {
         ensures ok { IfOk result (λ value. ReadsJudged K.shape K.judge self.old self.new
             (K.meaning (K.view value))) }
         ensures err { IfErr result (RefusesJudged K.meaning K.shape K.judge self.old self.new) }
-        ensures memory { IfErr result (TakesNoMemory self.old self.new) }
+        ensures memory { IfErr result (UsesNoMemory self.old self.new) }
     {
         match self.short_plain::<K, V>() {
             Some(value) => Ok(value),
-            None => self.draw_plain::<K, V>(),
+            None => self.fetch_plain::<K, V>(),
         }
     }
 
@@ -159,7 +159,7 @@ impl<R: ReadExt> Deserializer<R> {
         if !self.wants_header() {
             return None;
         }
-        let content = short_in_front(near(&self.reader, self.until_end), K::tag())?;
+        let content = short_at_front(near(&self.reader, self.until_end), K::TAG)?;
         let count = content.len() + 2;
         let Ok(value) = K::of_content(content) else {
             return None;
@@ -172,14 +172,14 @@ impl<R: ReadExt> Deserializer<R> {
     // Reads a value byte by byte.
     #[cold]
     #[inline(never)]
-    fn draw_plain<K: PlainKind<V>, V: Copy>(&mut self) -> Result<V>
+    fn fetch_plain<K: PlainKind<V>, V: Copy>(&mut self) -> Result<V>
         ensures ok { IfOk result (λ value. ReadsJudged K.shape K.judge self.old self.new
             (K.meaning (K.view value))) }
         ensures err { IfErr result (RefusesJudged K.meaning K.shape K.judge self.old self.new) }
-        ensures memory { IfErr result (TakesNoMemory self.old self.new) }
+        ensures memory { IfErr result (UsesNoMemory self.old self.new) }
     {
-        let len = self.begin(K::tag())?;
-        let content = self.draw_kept(len)?;
+        let len = self.begin(K::TAG)?;
+        let content = self.fetch_kept(len)?;
         match K::of_content(&content) {
             Ok(value) => Ok(value),
             Err(error) => Err(self.fail(error)),

@@ -1,7 +1,7 @@
 //! Elements that are consumed whole, whatever their tag (X.690, 8.1.1).
 ghost use Rattle.std.specs.Prelude.{◌≡◌, ◌∷◌, ℕ, List, IfOk, IfErr, OnOk};
 ghost use Rattle.picky_der_core.specs.Element.{length_octets};
-ghost use Rattle.picky_der_de.specs.Steps.{TakesNoMemory};
+ghost use Rattle.picky_der_de.specs.Steps.{UsesNoMemory};
 ghost use Rattle.picky_der_de.specs.Elements.{BeginsElement, ReadsRaw, RefusesRaw};
 
 use super::Deserializer;
@@ -27,7 +27,7 @@ impl<R: ReadExt> Deserializer<R> {
     fn begin_element(&mut self) -> Result<(Tag, usize)>
         ensures ok { IfOk result (λ h. BeginsElement self.old self.new h.0 h.1) }
         ensures err { IfErr result (RefusesRaw self.old self.new) }
-        ensures memory { IfErr result (TakesNoMemory self.old self.new) }
+        ensures memory { IfErr result (UsesNoMemory self.old self.new) }
     {
         if let Some(error) = self.earlier() {
             return Err(error);
@@ -52,7 +52,7 @@ impl<R: ReadExt> Deserializer<R> {
     {
         match self.copy_element_ahead() {
             Ok(Some(bytes)) => Ok(bytes),
-            Ok(None) => self.draw_raw(),
+            Ok(None) => self.fetch_raw(),
             Err(error) => Err(error),
         }
     }
@@ -60,7 +60,7 @@ impl<R: ReadExt> Deserializer<R> {
     // The same, byte by byte and piece by piece.
     #[cold]
     #[inline(never)]
-    fn draw_raw(&mut self) -> Result<Vec<u8>>
+    fn fetch_raw(&mut self) -> Result<Vec<u8>>
         ensures ok { IfOk result (λ bytes. ReadsRaw self.old self.new bytes.items) }
         ensures err { IfErr result (RefusesRaw self.old self.new) }
     {
@@ -70,7 +70,7 @@ impl<R: ReadExt> Deserializer<R> {
         };
         match header(self.alloc, tag, len) {
             Ok(mut bytes) => {
-                self.draw_behind(&mut bytes, len)?;
+                self.fetch_after(&mut bytes, len)?;
                 Ok(bytes)
             }
             Err(error) => Err(self.fail(error)),
@@ -82,7 +82,7 @@ impl<R: ReadExt> Deserializer<R> {
     pub fn deserialize_ignored_any(&mut self) -> Result<()>
         ensures ok { OnOk result ((bytes : List ℕ) × ReadsRaw self.old self.new bytes) }
         ensures err { IfErr result (RefusesRaw self.old self.new) }
-        ensures memory { IfErr result (TakesNoMemory self.old self.new) }
+        ensures memory { IfErr result (UsesNoMemory self.old self.new) }
     {
         let (_tag, len) = match self.begin_element() {
             Ok(header) => header,

@@ -3,7 +3,7 @@ ghost use Rattle.std.specs.Prelude.{IfOk, IfErr, encode_utf8, string_bytes};
 ghost use Rattle.std.specs.Borrow.{sem};
 ghost use Rattle.std.specs.Io.BufRead.{Rests};
 ghost use Rattle.picky_der_core.specs.Primitive.{Primitive, PrimitiveShape};
-ghost use Rattle.picky_der_de.specs.Steps.{TakesNoMemory};
+ghost use Rattle.picky_der_de.specs.Steps.{UsesNoMemory};
 ghost use Rattle.picky_der_de.specs.State.{State};
 ghost use Rattle.picky_der_de.specs.Lending.{LendsText};
 ghost use Rattle.picky_der_de.specs.contracts.deserializer.Deserializer.{the_row};
@@ -25,7 +25,7 @@ impl<R: ReadExt> Deserializer<R> {
             (Primitive.text (encode_utf8 value))) }
         ensures err { IfErr result (RefusesPrimitive (λ c. Primitive.text (encode_utf8 c))
             PrimitiveShape.character self.old self.new) }
-        ensures memory { IfErr result (TakesNoMemory self.old self.new) }
+        ensures memory { IfErr result (UsesNoMemory self.old self.new) }
     {
         self.read_plain::<Utf8String, char>()
     }
@@ -40,7 +40,7 @@ impl<R: ReadExt> Deserializer<R> {
         ensures err { IfErr result (RefusesPrimitive Primitive.text PrimitiveShape.text self.old self.new) }
     {
         let len = self.begin(Tag::UTF8_STRING)?;
-        let content = self.draw_vec(len)?;
+        let content = self.fetch_vec(len)?;
         match String::from_utf8(content) {
             Ok(text) => Ok(text),
             Err(_) => Err(self.fail(Asn1DerError::InvalidData)),

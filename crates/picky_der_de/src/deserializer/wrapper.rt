@@ -1,6 +1,6 @@
 //! Wrappers and application tags (X.690, 8.14), as a deserializer reads them. Values that may be missing.
 ghost use Rattle.std.specs.Prelude.{◌≡◌, Some, IfOk, IfErr, ◌<◌};
-ghost use Rattle.picky_der_core.specs.declared.asn1.wrapper.Wrapper.TheVariants.{Retagged, Application};
+ghost use Rattle.picky_der_core.specs.declared.asn1.wrapper.Wrapper.TheVariants.{ImplicitList, Application};
 ghost use Rattle.picky_der_core.specs.OpenWrappers.{wrapper_of, wrap_if, HasTagNumberIfAny};
 ghost use Rattle.picky_der_core.specs.declared.asn1.wrapper.Wrapper.{Wrapper as WrapperOf};
 ghost use Rattle.picky_der_core.specs.Shape.{Shape};
@@ -52,19 +52,19 @@ impl<R: ReadExt> Deserializer<R> {
     /// is consumed.
     ///
     /// Any other error is that of a header, of an end, or of the list.
-    pub fn deserialize_retagged<T: List + Deserialize>(&mut self, tag: Tag) -> Result<T>
+    pub fn deserialize_implicit_list<T: List + Deserialize>(&mut self, tag: Tag) -> Result<T>
         ensures ok { IfOk result (λ value. Reads
-            (Shape.wrapped (Retagged tag) T.shape) self.old self.new
-            (Tree.wrapped (Retagged tag) (T.meaning value))) }
-        ensures err { IfErr result (Refuses (λ (value : T). Tree.wrapped (Retagged tag)
-            (T.meaning value)) (Shape.wrapped (Retagged tag) T.shape) self.old self.new) }
+            (Shape.wrapped (ImplicitList tag) T.shape) self.old self.new
+            (Tree.wrapped (ImplicitList tag) (T.meaning value))) }
+        ensures err { IfErr result (Refuses (λ (value : T). Tree.wrapped (ImplicitList tag)
+            (T.meaning value)) (Shape.wrapped (ImplicitList tag) T.shape) self.old self.new) }
         ensures no_refusal { IfOk result (λ value. AreNotRefused
-            (opening_refusal (Retagged tag) self.old) self.old) }
+            (opening_refusal (ImplicitList tag) self.old) self.old) }
         ensures refused { IfErr result (RefusesWrapped T.meaning T.shape
-            (Retagged tag) self.old self.new) }
+            (ImplicitList tag) self.old self.new) }
         ensures unsupported { (IsConstructedTag tag → ⊥) → RefusesNumber self.old result self.new }
     {
-        self.read_wrapped(Wrapper::Retagged(tag.inner()))
+        self.read_wrapped(Wrapper::ImplicitList(tag.inner()))
     }
 
     /// Reads the value under the explicit application tag with this number (X.690, 8.14). Directly under an implicit tag the

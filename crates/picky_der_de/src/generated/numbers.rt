@@ -4,24 +4,25 @@ ghost use Rattle.std.specs.Prelude.{◌^◌, ◌-◌, IfOk, IfErr, refl};
 ghost use Rattle.picky_der_core.specs.Primitive.{Primitive, PrimitiveShape};
 ghost use Rattle.picky_der_core.specs.Shape.{Shape};
 ghost use Rattle.picky_der_core.specs.Integer.{fits_signed, int_tree, unsigned_tree};
-ghost use Rattle.picky_der_de.specs.Steps.{TakesNoMemory};
+ghost use Rattle.picky_der_de.specs.Steps.{UsesNoMemory};
 ghost use Rattle.picky_der_de.specs.Reading.{Reads, Refuses, ReadsPrimitive, RefusesPrimitive};
 ghost use Rattle.picky_der_de.specs.Reading.{ReadsInt, RefusesInt};
-ghost use Rattle.picky_der_de.specs.Known.{known_unsigned, known_int};
+ghost use Rattle.picky_der_de.specs.Facts.{unsigned_facts, int_facts};
 
-use crate::{Deserialize, Deserializer};
+use crate::{Begins, Deserialize, Deserializer, UnsignedInteger};
 use picky_der_core::Result;
+use picky_der_core::asn1::Tag;
 use picky_der_core::misc::ReadExt;
 
 impl Deserialize for u8 {
     ghost shape = { Shape.primitive (PrimitiveShape.unsigned (2 ^ 8 - 1)) };
 
-    ghost known = { known_unsigned (2 ^ 8 - 1) refl };
+    ghost facts = { unsigned_facts (2 ^ 8 - 1) refl };
 
-    ghost tied = { Prim.assumption };
+    ghost proved = { Prim.assumption };
 
     #[inline(always)]
-    #[tactic(auto, using(crate::proofs::NumberReads::reads_within))]
+    #[tactic(auto, using(crate::proofs::NumberReads::number))]
     fn deserialize<R: ReadExt>(de: &mut Deserializer<R>) -> Result<u8>
         ensures read { IfOk result (λ value. ReadsPrimitive (PrimitiveShape.unsigned (2 ^ 8 - 1))
             de.old de.new (Primitive.unsigned value)) }
@@ -32,21 +33,27 @@ impl Deserialize for u8 {
             (Shape.primitive (PrimitiveShape.unsigned (2 ^ 8 - 1))) de.old de.new) }
         ensures refused { IfErr result (RefusesPrimitive Primitive.unsigned (PrimitiveShape.unsigned (2 ^ 8 - 1))
             de.old de.new) }
-        ensures memory { IfErr result (TakesNoMemory de.old de.new) }
+        ensures memory { IfErr result (UsesNoMemory de.old de.new) }
     {
-        de.deserialize_u8()
+        de.read_plain::<UnsignedInteger, u8>()
+    }
+}
+
+impl Begins for u8 {
+    fn begins_with(tag: Tag) -> bool {
+        tag == Tag::INTEGER
     }
 }
 
 impl Deserialize for u16 {
     ghost shape = { Shape.primitive (PrimitiveShape.unsigned (2 ^ 16 - 1)) };
 
-    ghost known = { known_unsigned (2 ^ 16 - 1) refl };
+    ghost facts = { unsigned_facts (2 ^ 16 - 1) refl };
 
-    ghost tied = { Prim.assumption };
+    ghost proved = { Prim.assumption };
 
     #[inline(always)]
-    #[tactic(auto, using(crate::proofs::NumberReads::reads_within))]
+    #[tactic(auto, using(crate::proofs::NumberReads::number))]
     fn deserialize<R: ReadExt>(de: &mut Deserializer<R>) -> Result<u16>
         ensures read { IfOk result (λ value. ReadsPrimitive (PrimitiveShape.unsigned (2 ^ 16 - 1))
             de.old de.new (Primitive.unsigned value)) }
@@ -57,21 +64,27 @@ impl Deserialize for u16 {
             (Shape.primitive (PrimitiveShape.unsigned (2 ^ 16 - 1))) de.old de.new) }
         ensures refused { IfErr result (RefusesPrimitive Primitive.unsigned (PrimitiveShape.unsigned (2 ^ 16 - 1))
             de.old de.new) }
-        ensures memory { IfErr result (TakesNoMemory de.old de.new) }
+        ensures memory { IfErr result (UsesNoMemory de.old de.new) }
     {
-        de.deserialize_u16()
+        de.read_plain::<UnsignedInteger, u16>()
+    }
+}
+
+impl Begins for u16 {
+    fn begins_with(tag: Tag) -> bool {
+        tag == Tag::INTEGER
     }
 }
 
 impl Deserialize for u32 {
     ghost shape = { Shape.primitive (PrimitiveShape.unsigned (2 ^ 32 - 1)) };
 
-    ghost known = { known_unsigned (2 ^ 32 - 1) refl };
+    ghost facts = { unsigned_facts (2 ^ 32 - 1) refl };
 
-    ghost tied = { Prim.assumption };
+    ghost proved = { Prim.assumption };
 
     #[inline(always)]
-    #[tactic(auto, using(crate::proofs::NumberReads::reads_within))]
+    #[tactic(auto, using(crate::proofs::NumberReads::number))]
     fn deserialize<R: ReadExt>(de: &mut Deserializer<R>) -> Result<u32>
         ensures read { IfOk result (λ value. ReadsPrimitive (PrimitiveShape.unsigned (2 ^ 32 - 1))
             de.old de.new (Primitive.unsigned value)) }
@@ -82,21 +95,27 @@ impl Deserialize for u32 {
             (Shape.primitive (PrimitiveShape.unsigned (2 ^ 32 - 1))) de.old de.new) }
         ensures refused { IfErr result (RefusesPrimitive Primitive.unsigned (PrimitiveShape.unsigned (2 ^ 32 - 1))
             de.old de.new) }
-        ensures memory { IfErr result (TakesNoMemory de.old de.new) }
+        ensures memory { IfErr result (UsesNoMemory de.old de.new) }
     {
-        de.deserialize_u32()
+        de.read_plain::<UnsignedInteger, u32>()
+    }
+}
+
+impl Begins for u32 {
+    fn begins_with(tag: Tag) -> bool {
+        tag == Tag::INTEGER
     }
 }
 
 impl Deserialize for u64 {
     ghost shape = { Shape.primitive (PrimitiveShape.unsigned (2 ^ 64 - 1)) };
 
-    ghost known = { known_unsigned (2 ^ 64 - 1) refl };
+    ghost facts = { unsigned_facts (2 ^ 64 - 1) refl };
 
-    ghost tied = { Prim.assumption };
+    ghost proved = { Prim.assumption };
 
     #[inline(always)]
-    #[tactic(auto, using(crate::proofs::NumberReads::reads_within))]
+    #[tactic(auto, using(crate::proofs::NumberReads::number))]
     fn deserialize<R: ReadExt>(de: &mut Deserializer<R>) -> Result<u64>
         ensures read { IfOk result (λ value. ReadsPrimitive (PrimitiveShape.unsigned (2 ^ 64 - 1))
             de.old de.new (Primitive.unsigned value)) }
@@ -107,21 +126,27 @@ impl Deserialize for u64 {
             (Shape.primitive (PrimitiveShape.unsigned (2 ^ 64 - 1))) de.old de.new) }
         ensures refused { IfErr result (RefusesPrimitive Primitive.unsigned (PrimitiveShape.unsigned (2 ^ 64 - 1))
             de.old de.new) }
-        ensures memory { IfErr result (TakesNoMemory de.old de.new) }
+        ensures memory { IfErr result (UsesNoMemory de.old de.new) }
     {
-        de.deserialize_u64()
+        de.read_plain::<UnsignedInteger, u64>()
+    }
+}
+
+impl Begins for u64 {
+    fn begins_with(tag: Tag) -> bool {
+        tag == Tag::INTEGER
     }
 }
 
 impl Deserialize for u128 {
     ghost shape = { Shape.primitive (PrimitiveShape.unsigned (2 ^ 128 - 1)) };
 
-    ghost known = { known_unsigned (2 ^ 128 - 1) refl };
+    ghost facts = { unsigned_facts (2 ^ 128 - 1) refl };
 
-    ghost tied = { Prim.assumption };
+    ghost proved = { Prim.assumption };
 
     #[inline(always)]
-    #[tactic(auto, using(crate::proofs::NumberReads::reads_within))]
+    #[tactic(auto, using(crate::proofs::NumberReads::number))]
     fn deserialize<R: ReadExt>(de: &mut Deserializer<R>) -> Result<u128>
         ensures read { IfOk result (λ value. ReadsPrimitive (PrimitiveShape.unsigned (2 ^ 128 - 1))
             de.old de.new (Primitive.unsigned value)) }
@@ -132,21 +157,27 @@ impl Deserialize for u128 {
             (Shape.primitive (PrimitiveShape.unsigned (2 ^ 128 - 1))) de.old de.new) }
         ensures refused { IfErr result (RefusesPrimitive Primitive.unsigned (PrimitiveShape.unsigned (2 ^ 128 - 1))
             de.old de.new) }
-        ensures memory { IfErr result (TakesNoMemory de.old de.new) }
+        ensures memory { IfErr result (UsesNoMemory de.old de.new) }
     {
-        de.deserialize_u128()
+        de.read_plain::<UnsignedInteger, u128>()
+    }
+}
+
+impl Begins for u128 {
+    fn begins_with(tag: Tag) -> bool {
+        tag == Tag::INTEGER
     }
 }
 
 impl Deserialize for usize {
     ghost shape = { Shape.primitive (PrimitiveShape.unsigned (2 ^ 64 - 1)) };
 
-    ghost known = { known_unsigned (2 ^ 64 - 1) refl };
+    ghost facts = { unsigned_facts (2 ^ 64 - 1) refl };
 
-    ghost tied = { Prim.assumption };
+    ghost proved = { Prim.assumption };
 
     #[inline(always)]
-    #[tactic(auto, using(crate::proofs::NumberReads::reads_within))]
+    #[tactic(auto, using(crate::proofs::NumberReads::number))]
     fn deserialize<R: ReadExt>(de: &mut Deserializer<R>) -> Result<usize>
         ensures read { IfOk result (λ value. ReadsPrimitive (PrimitiveShape.unsigned (2 ^ 64 - 1))
             de.old de.new (Primitive.unsigned value)) }
@@ -157,18 +188,24 @@ impl Deserialize for usize {
             (Shape.primitive (PrimitiveShape.unsigned (2 ^ 64 - 1))) de.old de.new) }
         ensures refused { IfErr result (RefusesPrimitive Primitive.unsigned (PrimitiveShape.unsigned (2 ^ 64 - 1))
             de.old de.new) }
-        ensures memory { IfErr result (TakesNoMemory de.old de.new) }
+        ensures memory { IfErr result (UsesNoMemory de.old de.new) }
     {
-        Ok(de.deserialize_u64()? as usize)
+        de.read_plain::<UnsignedInteger, usize>()
+    }
+}
+
+impl Begins for usize {
+    fn begins_with(tag: Tag) -> bool {
+        tag == Tag::INTEGER
     }
 }
 
 impl Deserialize for i8 {
     ghost shape = { Shape.primitive (PrimitiveShape.bytes 0x02) };
 
-    ghost known = { known_int (fits_signed 8) };
+    ghost facts = { int_facts (fits_signed 8) };
 
-    ghost tied = { Prim.assumption };
+    ghost proved = { Prim.assumption };
 
     fn deserialize<R: ReadExt>(de: &mut Deserializer<R>) -> Result<i8>
         ensures ok { IfOk result (λ value. Reads (Shape.primitive (PrimitiveShape.bytes 0x02))
@@ -178,18 +215,24 @@ impl Deserialize for i8 {
             de.old de.new) }
         ensures read { IfOk result (ReadsInt (fits_signed 8) de.old de.new) }
         ensures refused { IfErr result (RefusesInt (fits_signed 8) de.old de.new) }
-        ensures memory { IfErr result (TakesNoMemory de.old de.new) }
+        ensures memory { IfErr result (UsesNoMemory de.old de.new) }
     {
         de.deserialize_int()
+    }
+}
+
+impl Begins for i8 {
+    fn begins_with(tag: Tag) -> bool {
+        tag == Tag::INTEGER
     }
 }
 
 impl Deserialize for i16 {
     ghost shape = { Shape.primitive (PrimitiveShape.bytes 0x02) };
 
-    ghost known = { known_int (fits_signed 16) };
+    ghost facts = { int_facts (fits_signed 16) };
 
-    ghost tied = { Prim.assumption };
+    ghost proved = { Prim.assumption };
 
     fn deserialize<R: ReadExt>(de: &mut Deserializer<R>) -> Result<i16>
         ensures ok { IfOk result (λ value. Reads (Shape.primitive (PrimitiveShape.bytes 0x02))
@@ -199,18 +242,24 @@ impl Deserialize for i16 {
             de.old de.new) }
         ensures read { IfOk result (ReadsInt (fits_signed 16) de.old de.new) }
         ensures refused { IfErr result (RefusesInt (fits_signed 16) de.old de.new) }
-        ensures memory { IfErr result (TakesNoMemory de.old de.new) }
+        ensures memory { IfErr result (UsesNoMemory de.old de.new) }
     {
         de.deserialize_int()
+    }
+}
+
+impl Begins for i16 {
+    fn begins_with(tag: Tag) -> bool {
+        tag == Tag::INTEGER
     }
 }
 
 impl Deserialize for i32 {
     ghost shape = { Shape.primitive (PrimitiveShape.bytes 0x02) };
 
-    ghost known = { known_int (fits_signed 32) };
+    ghost facts = { int_facts (fits_signed 32) };
 
-    ghost tied = { Prim.assumption };
+    ghost proved = { Prim.assumption };
 
     fn deserialize<R: ReadExt>(de: &mut Deserializer<R>) -> Result<i32>
         ensures ok { IfOk result (λ value. Reads (Shape.primitive (PrimitiveShape.bytes 0x02))
@@ -220,18 +269,24 @@ impl Deserialize for i32 {
             de.old de.new) }
         ensures read { IfOk result (ReadsInt (fits_signed 32) de.old de.new) }
         ensures refused { IfErr result (RefusesInt (fits_signed 32) de.old de.new) }
-        ensures memory { IfErr result (TakesNoMemory de.old de.new) }
+        ensures memory { IfErr result (UsesNoMemory de.old de.new) }
     {
         de.deserialize_int()
+    }
+}
+
+impl Begins for i32 {
+    fn begins_with(tag: Tag) -> bool {
+        tag == Tag::INTEGER
     }
 }
 
 impl Deserialize for i64 {
     ghost shape = { Shape.primitive (PrimitiveShape.bytes 0x02) };
 
-    ghost known = { known_int (fits_signed 64) };
+    ghost facts = { int_facts (fits_signed 64) };
 
-    ghost tied = { Prim.assumption };
+    ghost proved = { Prim.assumption };
 
     fn deserialize<R: ReadExt>(de: &mut Deserializer<R>) -> Result<i64>
         ensures ok { IfOk result (λ value. Reads (Shape.primitive (PrimitiveShape.bytes 0x02))
@@ -241,18 +296,24 @@ impl Deserialize for i64 {
             de.old de.new) }
         ensures read { IfOk result (ReadsInt (fits_signed 64) de.old de.new) }
         ensures refused { IfErr result (RefusesInt (fits_signed 64) de.old de.new) }
-        ensures memory { IfErr result (TakesNoMemory de.old de.new) }
+        ensures memory { IfErr result (UsesNoMemory de.old de.new) }
     {
         de.deserialize_int()
+    }
+}
+
+impl Begins for i64 {
+    fn begins_with(tag: Tag) -> bool {
+        tag == Tag::INTEGER
     }
 }
 
 impl Deserialize for i128 {
     ghost shape = { Shape.primitive (PrimitiveShape.bytes 0x02) };
 
-    ghost known = { known_int (fits_signed 128) };
+    ghost facts = { int_facts (fits_signed 128) };
 
-    ghost tied = { Prim.assumption };
+    ghost proved = { Prim.assumption };
 
     fn deserialize<R: ReadExt>(de: &mut Deserializer<R>) -> Result<i128>
         ensures ok { IfOk result (λ value. Reads (Shape.primitive (PrimitiveShape.bytes 0x02))
@@ -262,8 +323,14 @@ impl Deserialize for i128 {
             de.old de.new) }
         ensures read { IfOk result (ReadsInt (fits_signed 128) de.old de.new) }
         ensures refused { IfErr result (RefusesInt (fits_signed 128) de.old de.new) }
-        ensures memory { IfErr result (TakesNoMemory de.old de.new) }
+        ensures memory { IfErr result (UsesNoMemory de.old de.new) }
     {
         de.deserialize_int()
+    }
+}
+
+impl Begins for i128 {
+    fn begins_with(tag: Tag) -> bool {
+        tag == Tag::INTEGER
     }
 }

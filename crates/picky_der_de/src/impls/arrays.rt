@@ -5,7 +5,7 @@ ghost use Rattle.picky_der_core.specs.Shape.{Shape};
 ghost use Rattle.picky_der_ser.specs.Meaning.{list_meaning, array_meaning};
 ghost use Rattle.picky_der_de.specs.Reading.{Reads, Refuses};
 ghost use Rattle.picky_der_de.specs.ArrayLaws.{array_of};
-ghost use Rattle.picky_der_de.specs.KnownContainers.{known_array};
+ghost use Rattle.picky_der_de.specs.ContainerFacts.{array_facts};
 
 use crate::{Deserialize, Deserializer};
 use picky_der_core::Result;
@@ -71,9 +71,9 @@ impl<T: Deserialize + Copy + Default, const N: usize> Fill for [T; N] {
 impl<T: Deserialize + Copy + Default, const N: usize> Deserialize for [T; N] {
     ghost shape = { array_of N T.shape };
 
-    ghost known = { known_array T.known T.meaning T.eq N (λ it. it) };
+    ghost facts = { array_facts T.facts T.meaning T.eq N (λ it. it) };
 
-    ghost tied = { Prim.assumption };
+    ghost proved = { Prim.assumption };
 
     fn deserialize<R: ReadExt>(de: &mut Deserializer<R>) -> Result<[T; N]> {
         read_filled(de)

@@ -1,4 +1,4 @@
-//! With which first bytes the values of the library's types begin.
+//! With which first bytes the values of the library's types begin, except numbers and tuples.
 ghost use Rattle.std.specs.Prelude.{◌↔◌, ◌+◌, ◌≤◌, IsTrue};
 ghost use Rattle.picky_der_core.specs.Tag.{number_of};
 ghost use Rattle.picky_der_core.specs.Shape.{contains, tag_with_number};
@@ -6,7 +6,7 @@ ghost use Rattle.picky_der_core.specs.Shape.{contains, tag_with_number};
 use crate::{Begins, Deserialize};
 use picky_der_core::asn1::{
     Asn1SequenceOf, Asn1SetOf, BitStringAsn1Container, ByteBuf, ExplicitContextTag,
-    ImplicitContextTag, OctetStringAsn1Container, Retagged, Tag, TaggedBytes,
+    ImplicitContextTag, ImplicitList, OctetStringAsn1Container, Tag, TaggedBytes,
 };
 use picky_der_ser::List;
 
@@ -29,72 +29,6 @@ fn is_numbered(tag: Tag, first: u8, number: u8) -> bool
 impl Begins for bool {
     fn begins_with(tag: Tag) -> bool {
         tag == Tag::BOOLEAN
-    }
-}
-
-impl Begins for u8 {
-    fn begins_with(tag: Tag) -> bool {
-        tag == Tag::INTEGER
-    }
-}
-
-impl Begins for u16 {
-    fn begins_with(tag: Tag) -> bool {
-        tag == Tag::INTEGER
-    }
-}
-
-impl Begins for u32 {
-    fn begins_with(tag: Tag) -> bool {
-        tag == Tag::INTEGER
-    }
-}
-
-impl Begins for u64 {
-    fn begins_with(tag: Tag) -> bool {
-        tag == Tag::INTEGER
-    }
-}
-
-impl Begins for u128 {
-    fn begins_with(tag: Tag) -> bool {
-        tag == Tag::INTEGER
-    }
-}
-
-impl Begins for usize {
-    fn begins_with(tag: Tag) -> bool {
-        tag == Tag::INTEGER
-    }
-}
-
-impl Begins for i8 {
-    fn begins_with(tag: Tag) -> bool {
-        tag == Tag::INTEGER
-    }
-}
-
-impl Begins for i16 {
-    fn begins_with(tag: Tag) -> bool {
-        tag == Tag::INTEGER
-    }
-}
-
-impl Begins for i32 {
-    fn begins_with(tag: Tag) -> bool {
-        tag == Tag::INTEGER
-    }
-}
-
-impl Begins for i64 {
-    fn begins_with(tag: Tag) -> bool {
-        tag == Tag::INTEGER
-    }
-}
-
-impl Begins for i128 {
-    fn begins_with(tag: Tag) -> bool {
-        tag == Tag::INTEGER
     }
 }
 
@@ -182,7 +116,7 @@ impl<T: Deserialize, const N: u8> Begins for ImplicitContextTag<T, N> {
     }
 }
 
-impl<T: List + Deserialize, const TAG: u8> Begins for Retagged<T, TAG> {
+impl<T: List + Deserialize, const TAG: u8> Begins for ImplicitList<T, TAG> {
     fn begins_with(tag: Tag) -> bool {
         is_tag(tag, TAG)
     }

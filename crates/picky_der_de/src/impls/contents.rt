@@ -6,12 +6,12 @@ ghost use Rattle.picky_der_core.specs.Tree.{Tree};
 ghost use Rattle.picky_der_core.specs.Shape.{Shape};
 ghost use Rattle.picky_der_de.specs.Reading.{Reads, Refuses, RefusesPrimitive, ReadsPrimitive};
 ghost use Rattle.picky_der_de.specs.TagNumbers.{RefusesNumber};
-ghost use Rattle.picky_der_de.specs.Known.{known_bytes, known_character, known_text, known_null};
+ghost use Rattle.picky_der_de.specs.Facts.{bytes_facts, character_facts, text_facts, null_facts};
 ghost use Rattle.std.proofs.Common.{String, Global};
-ghost use Rattle.picky_der_de.specs.Steps.{TakesNoMemory};
-ghost use Rattle.picky_der_de.specs.KnownContainers.{known_option};
+ghost use Rattle.picky_der_de.specs.Steps.{UsesNoMemory};
+ghost use Rattle.picky_der_de.specs.ContainerFacts.{option_facts};
 
-use crate::{Deserialize, Deserializer, Null};
+use crate::{Deserialize, Deserializer, Null, Utf8String};
 use picky_der_core::Result;
 use picky_der_core::asn1::{ByteBuf, Tag, TaggedBytes};
 use picky_der_core::misc::ReadExt;
@@ -20,9 +20,9 @@ use picky_der_ser::Serialize;
 impl Deserialize for ByteBuf {
     ghost shape = { Shape.primitive (PrimitiveShape.bytes 0x04) };
 
-    ghost known = { known_bytes 0x04 (λ it. it.0.items) };
+    ghost facts = { bytes_facts 0x04 (λ it. it.0.items) };
 
-    ghost tied = { Prim.assumption };
+    ghost proved = { Prim.assumption };
 
     #[inline(always)]
     fn deserialize<R: ReadExt>(de: &mut Deserializer<R>) -> Result<ByteBuf>
@@ -40,9 +40,9 @@ impl Deserialize for ByteBuf {
 impl<const TAG: u8> Deserialize for TaggedBytes<TAG> {
     ghost shape = { Shape.primitive (PrimitiveShape.bytes TAG) };
 
-    ghost known = { known_bytes TAG (λ it. it.0.items) };
+    ghost facts = { bytes_facts TAG (λ it. it.0.items) };
 
-    ghost tied = { Prim.assumption };
+    ghost proved = { Prim.assumption };
 
     #[inline(always)]
     fn deserialize<R: ReadExt>(de: &mut Deserializer<R>) -> Result<TaggedBytes<TAG>>
@@ -61,27 +61,27 @@ impl<const TAG: u8> Deserialize for TaggedBytes<TAG> {
 impl Deserialize for char {
     ghost shape = { Shape.primitive PrimitiveShape.character };
 
-    ghost known = { known_character };
+    ghost facts = { character_facts };
 
-    ghost tied = { Prim.assumption };
+    ghost proved = { Prim.assumption };
 
     fn deserialize<R: ReadExt>(de: &mut Deserializer<R>) -> Result<char>
         ensures read { IfOk result (λ value. ReadsPrimitive PrimitiveShape.character
             de.old de.new (Primitive.text (encode_utf8 value))) }
         ensures refused { IfErr result (RefusesPrimitive (λ c. Primitive.text (encode_utf8 c)) PrimitiveShape.character
             de.old de.new) }
-        ensures memory { IfErr result (TakesNoMemory de.old de.new) }
+        ensures memory { IfErr result (UsesNoMemory de.old de.new) }
     {
-        de.deserialize_char()
+        de.read_plain::<Utf8String, char>()
     }
 }
 
 impl Deserialize for String {
     ghost shape = { Shape.primitive PrimitiveShape.text };
 
-    ghost known = { known_text string_bytes };
+    ghost facts = { text_facts string_bytes };
 
-    ghost tied = { Prim.assumption };
+    ghost proved = { Prim.assumption };
 
     fn deserialize<R: ReadExt>(de: &mut Deserializer<R>) -> Result<String>
         ensures read { IfOk result (λ value. ReadsPrimitive PrimitiveShape.text
@@ -99,16 +99,16 @@ impl Deserialize for String {
 impl Deserialize for () {
     ghost shape = { Shape.primitive PrimitiveShape.null };
 
-    ghost known = { known_null };
+    ghost facts = { null_facts };
 
-    ghost tied = { Prim.assumption };
+    ghost proved = { Prim.assumption };
 
     fn deserialize<R: ReadExt>(de: &mut Deserializer<R>) -> Result<()>
         ensures read { OnOk result
             (ReadsPrimitive PrimitiveShape.null de.old de.new Primitive.null) }
         ensures refused { IfErr result (RefusesPrimitive (λ (_ : Unit {0}). Primitive.null) PrimitiveShape.null
             de.old de.new) }
-        ensures memory { IfErr result (TakesNoMemory de.old de.new) }
+        ensures memory { IfErr result (UsesNoMemory de.old de.new) }
     {
         de.read_plain::<Null, ()>()
     }
@@ -117,9 +117,9 @@ impl Deserialize for () {
 impl<T: Deserialize> Deserialize for Option<T> {
     ghost shape = { Shape.optional T.shape };
 
-    ghost known = { known_option T.known T.meaning T.eq };
+    ghost facts = { option_facts T.facts T.meaning T.eq };
 
-    ghost tied = { Prim.assumption };
+    ghost proved = { Prim.assumption };
 
     fn deserialize<R: ReadExt>(de: &mut Deserializer<R>) -> Result<Option<T>> {
         de.deserialize_option()

@@ -4,7 +4,7 @@ ghost use Rattle.picky_der_core.specs.Tree.{ListKind, Tree, trees};
 ghost use Rattle.picky_der_core.specs.Shape.{Shape};
 ghost use Rattle.picky_der_de.specs.Reading.{Reads, Refuses};
 ghost use Rattle.picky_der_de.specs.Members.{RefusesUnordered};
-ghost use Rattle.picky_der_de.specs.KnownContainers.{known_list};
+ghost use Rattle.picky_der_de.specs.ContainerFacts.{list_facts};
 
 use crate::{Deserialize, Deserializer};
 use picky_der_core::Result;
@@ -15,9 +15,9 @@ use picky_der_ser::Serialize;
 impl<T: Deserialize> Deserialize for Vec<T> {
     ghost shape = { Shape.list_of ListKind.sequence T.shape };
 
-    ghost known = { known_list T.known T.meaning T.eq ListKind.sequence (λ it. it.items) };
+    ghost facts = { list_facts T.facts T.meaning T.eq ListKind.sequence (λ it. it.items) };
 
-    ghost tied = { Prim.assumption };
+    ghost proved = { Prim.assumption };
 
     fn deserialize<R: ReadExt>(de: &mut Deserializer<R>) -> Result<Vec<T>> {
         de.read_list(Tag::SEQUENCE)
@@ -27,9 +27,9 @@ impl<T: Deserialize> Deserialize for Vec<T> {
 impl<T: Deserialize> Deserialize for Asn1SequenceOf<T> {
     ghost shape = { Shape.list_of ListKind.sequence T.shape };
 
-    ghost known = { known_list T.known T.meaning T.eq ListKind.sequence (λ it. it.0.items) };
+    ghost facts = { list_facts T.facts T.meaning T.eq ListKind.sequence (λ it. it.0.items) };
 
-    ghost tied = { Prim.assumption };
+    ghost proved = { Prim.assumption };
 
     fn deserialize<R: ReadExt>(de: &mut Deserializer<R>) -> Result<Asn1SequenceOf<T>> {
         Ok(Asn1SequenceOf(de.read_list(Tag::SEQUENCE)?))
@@ -39,9 +39,9 @@ impl<T: Deserialize> Deserialize for Asn1SequenceOf<T> {
 impl<T: Deserialize> Deserialize for Asn1SetOf<T> {
     ghost shape = { Shape.list_of ListKind.set T.shape };
 
-    ghost known = { known_list T.known T.meaning T.eq ListKind.set (λ it. it.0.items) };
+    ghost facts = { list_facts T.facts T.meaning T.eq ListKind.set (λ it. it.0.items) };
 
-    ghost tied = { Prim.assumption };
+    ghost proved = { Prim.assumption };
 
     // The first member whose encoding is less than that of the one before it is `InvalidData`, and no byte after it is
     // consumed (X.690, 11.6).

@@ -19,7 +19,7 @@ impl Serialize for u8 {
         ensures meant { WritesPlain W.WriteExt.own (unsigned_tree (2 ^ 8 - 1) self.now)
             ser.old result ser.new }
     {
-        ser.serialize_u8(*self)
+        ser.serialize_u128(u128::from(*self))
     }
 }
 
@@ -32,7 +32,7 @@ impl Serialize for u16 {
         ensures meant { WritesPlain W.WriteExt.own (unsigned_tree (2 ^ 16 - 1) self.now)
             ser.old result ser.new }
     {
-        ser.serialize_u16(*self)
+        ser.serialize_u128(u128::from(*self))
     }
 }
 
@@ -45,7 +45,7 @@ impl Serialize for u32 {
         ensures meant { WritesPlain W.WriteExt.own (unsigned_tree (2 ^ 32 - 1) self.now)
             ser.old result ser.new }
     {
-        ser.serialize_u32(*self)
+        ser.serialize_u128(u128::from(*self))
     }
 }
 
@@ -58,7 +58,7 @@ impl Serialize for u64 {
         ensures meant { WritesPlain W.WriteExt.own (unsigned_tree (2 ^ 64 - 1) self.now)
             ser.old result ser.new }
     {
-        ser.serialize_u64(*self)
+        ser.serialize_u128(u128::from(*self))
     }
 }
 

@@ -4,7 +4,7 @@ ghost use Rattle.std.specs.Prelude.{[], ◌∷◌};
 ghost use Rattle.picky_der_core.specs.Tree.{ListKind, Tree, trees};
 ghost use Rattle.picky_der_ser.specs.Calls.{WritesWhole};
 
-use super::lent::{Eight, Five, Four, One, Seven, Six, Three, Two};
+use super::member_refs::{Refs1, Refs2, Refs3, Refs4, Refs5, Refs6, Refs7, Refs8};
 use crate::{List, Serialize, SerializeMembers, Serializer};
 use picky_der_core::Result;
 use picky_der_core::misc::WriteExt;
@@ -16,7 +16,7 @@ impl<A: Serialize> Serialize for (A,) {
         ensures whole { WritesWhole W.WriteExt.own (Tree.list ListKind.sequence
             (trees (A.meaning self.now.0 ∷ []))) ser.old result ser.new }
     {
-        One(&self.0, &()).serialize_sequence(ser)
+        Refs1(&self.0, &()).serialize_sequence(ser)
     }
 }
 
@@ -31,7 +31,7 @@ impl<A: Serialize, B: Serialize> Serialize for (A, B) {
         ensures whole { WritesWhole W.WriteExt.own (Tree.list ListKind.sequence
             (trees (A.meaning self.now.0 ∷ B.meaning self.now.1 ∷ []))) ser.old result ser.new }
     {
-        Two(&self.0, &self.1, &()).serialize_sequence(ser)
+        Refs2(&self.0, &self.1, &()).serialize_sequence(ser)
     }
 }
 
@@ -46,7 +46,7 @@ impl<A: Serialize, B: Serialize, C: Serialize> Serialize for (A, B, C) {
         ensures whole { WritesWhole W.WriteExt.own (Tree.list ListKind.sequence
             (trees (A.meaning self.now.0 ∷ B.meaning self.now.1 ∷ C.meaning self.now.2 ∷ []))) ser.old result ser.new }
     {
-        Three(&self.0, &self.1, &self.2, &()).serialize_sequence(ser)
+        Refs3(&self.0, &self.1, &self.2, &()).serialize_sequence(ser)
     }
 }
 
@@ -61,7 +61,7 @@ impl<A: Serialize, B: Serialize, C: Serialize, D: Serialize> Serialize for (A, B
         ensures whole { WritesWhole W.WriteExt.own (Tree.list ListKind.sequence
             (trees (A.meaning self.now.0 ∷ B.meaning self.now.1 ∷ C.meaning self.now.2 ∷ D.meaning self.now.3 ∷ []))) ser.old result ser.new }
     {
-        Four(&self.0, &self.1, &self.2, &self.3, &()).serialize_sequence(ser)
+        Refs4(&self.0, &self.1, &self.2, &self.3, &()).serialize_sequence(ser)
     }
 }
 
@@ -77,7 +77,7 @@ impl<A: Serialize, B: Serialize, C: Serialize, D: Serialize, E: Serialize> Seria
         ensures whole { WritesWhole W.WriteExt.own (Tree.list ListKind.sequence
             (trees (A.meaning self.now.0 ∷ B.meaning self.now.1 ∷ C.meaning self.now.2 ∷ D.meaning self.now.3 ∷ E.meaning self.now.4 ∷ []))) ser.old result ser.new }
     {
-        Five(&self.0, &self.1, &self.2, &self.3, &self.4, &()).serialize_sequence(ser)
+        Refs5(&self.0, &self.1, &self.2, &self.3, &self.4, &()).serialize_sequence(ser)
     }
 }
 
@@ -94,7 +94,7 @@ impl<A: Serialize, B: Serialize, C: Serialize, D: Serialize, E: Serialize, F: Se
         ensures whole { WritesWhole W.WriteExt.own (Tree.list ListKind.sequence
             (trees (A.meaning self.now.0 ∷ B.meaning self.now.1 ∷ C.meaning self.now.2 ∷ D.meaning self.now.3 ∷ E.meaning self.now.4 ∷ F.meaning self.now.5 ∷ []))) ser.old result ser.new }
     {
-        Six(&self.0, &self.1, &self.2, &self.3, &self.4, &self.5, &()).serialize_sequence(ser)
+        Refs6(&self.0, &self.1, &self.2, &self.3, &self.4, &self.5, &()).serialize_sequence(ser)
     }
 }
 
@@ -118,7 +118,7 @@ impl<
         ensures whole { WritesWhole W.WriteExt.own (Tree.list ListKind.sequence
             (trees (A.meaning self.now.0 ∷ B.meaning self.now.1 ∷ C.meaning self.now.2 ∷ D.meaning self.now.3 ∷ E.meaning self.now.4 ∷ F.meaning self.now.5 ∷ G.meaning self.now.6 ∷ []))) ser.old result ser.new }
     {
-        Seven(
+        Refs7(
             &self.0,
             &self.1,
             &self.2,
@@ -160,7 +160,7 @@ impl<
         ensures whole { WritesWhole W.WriteExt.own (Tree.list ListKind.sequence
             (trees (A.meaning self.now.0 ∷ B.meaning self.now.1 ∷ C.meaning self.now.2 ∷ D.meaning self.now.3 ∷ E.meaning self.now.4 ∷ F.meaning self.now.5 ∷ G.meaning self.now.6 ∷ H.meaning self.now.7 ∷ []))) ser.old result ser.new }
     {
-        Eight(
+        Refs8(
             &self.0,
             &self.1,
             &self.2,
@@ -205,8 +205,8 @@ impl<
         ensures whole { WritesWhole W.WriteExt.own (Tree.list ListKind.sequence
             (trees (A.meaning self.now.0 ∷ B.meaning self.now.1 ∷ C.meaning self.now.2 ∷ D.meaning self.now.3 ∷ E.meaning self.now.4 ∷ F.meaning self.now.5 ∷ G.meaning self.now.6 ∷ H.meaning self.now.7 ∷ I.meaning self.now.8 ∷ []))) ser.old result ser.new }
     {
-        let others = One(&self.8, &());
-        Eight(
+        let others = Refs1(&self.8, &());
+        Refs8(
             &self.0, &self.1, &self.2, &self.3, &self.4, &self.5, &self.6, &self.7, &others,
         )
         .serialize_sequence(ser)
@@ -245,8 +245,8 @@ impl<
         ensures whole { WritesWhole W.WriteExt.own (Tree.list ListKind.sequence
             (trees (A.meaning self.now.0 ∷ B.meaning self.now.1 ∷ C.meaning self.now.2 ∷ D.meaning self.now.3 ∷ E.meaning self.now.4 ∷ F.meaning self.now.5 ∷ G.meaning self.now.6 ∷ H.meaning self.now.7 ∷ I.meaning self.now.8 ∷ J.meaning self.now.9 ∷ []))) ser.old result ser.new }
     {
-        let others = Two(&self.8, &self.9, &());
-        Eight(
+        let others = Refs2(&self.8, &self.9, &());
+        Refs8(
             &self.0, &self.1, &self.2, &self.3, &self.4, &self.5, &self.6, &self.7, &others,
         )
         .serialize_sequence(ser)
@@ -287,8 +287,8 @@ impl<
         ensures whole { WritesWhole W.WriteExt.own (Tree.list ListKind.sequence
             (trees (A.meaning self.now.0 ∷ B.meaning self.now.1 ∷ C.meaning self.now.2 ∷ D.meaning self.now.3 ∷ E.meaning self.now.4 ∷ F.meaning self.now.5 ∷ G.meaning self.now.6 ∷ H.meaning self.now.7 ∷ I.meaning self.now.8 ∷ J.meaning self.now.9 ∷ K.meaning self.now.10 ∷ []))) ser.old result ser.new }
     {
-        let others = Three(&self.8, &self.9, &self.10, &());
-        Eight(
+        let others = Refs3(&self.8, &self.9, &self.10, &());
+        Refs8(
             &self.0, &self.1, &self.2, &self.3, &self.4, &self.5, &self.6, &self.7, &others,
         )
         .serialize_sequence(ser)
@@ -331,8 +331,8 @@ impl<
         ensures whole { WritesWhole W.WriteExt.own (Tree.list ListKind.sequence
             (trees (A.meaning self.now.0 ∷ B.meaning self.now.1 ∷ C.meaning self.now.2 ∷ D.meaning self.now.3 ∷ E.meaning self.now.4 ∷ F.meaning self.now.5 ∷ G.meaning self.now.6 ∷ H.meaning self.now.7 ∷ I.meaning self.now.8 ∷ J.meaning self.now.9 ∷ K.meaning self.now.10 ∷ L.meaning self.now.11 ∷ []))) ser.old result ser.new }
     {
-        let others = Four(&self.8, &self.9, &self.10, &self.11, &());
-        Eight(
+        let others = Refs4(&self.8, &self.9, &self.10, &self.11, &());
+        Refs8(
             &self.0, &self.1, &self.2, &self.3, &self.4, &self.5, &self.6, &self.7, &others,
         )
         .serialize_sequence(ser)
@@ -377,8 +377,8 @@ impl<
         ensures whole { WritesWhole W.WriteExt.own (Tree.list ListKind.sequence
             (trees (A.meaning self.now.0 ∷ B.meaning self.now.1.0 ∷ C.meaning self.now.1.1.0 ∷ D.meaning self.now.1.1.1.0 ∷ E.meaning self.now.1.1.1.1.0 ∷ F.meaning self.now.1.1.1.1.1.0 ∷ G.meaning self.now.1.1.1.1.1.1.0 ∷ H.meaning self.now.1.1.1.1.1.1.1.0 ∷ I.meaning self.now.1.1.1.1.1.1.1.1.0 ∷ J.meaning self.now.1.1.1.1.1.1.1.1.1.0 ∷ K.meaning self.now.1.1.1.1.1.1.1.1.1.1.0 ∷ L.meaning self.now.1.1.1.1.1.1.1.1.1.1.1.0 ∷ M.meaning self.now.1.1.1.1.1.1.1.1.1.1.1.1.0 ∷ []))) ser.old result ser.new }
     {
-        let others = Five(&self.8, &self.9, &self.10, &self.11, &self.12, &());
-        Eight(
+        let others = Refs5(&self.8, &self.9, &self.10, &self.11, &self.12, &());
+        Refs8(
             &self.0, &self.1, &self.2, &self.3, &self.4, &self.5, &self.6, &self.7, &others,
         )
         .serialize_sequence(ser)
@@ -425,7 +425,7 @@ impl<
         ensures whole { WritesWhole W.WriteExt.own (Tree.list ListKind.sequence
             (trees (A.meaning self.now.0 ∷ B.meaning self.now.1.0 ∷ C.meaning self.now.1.1.0 ∷ D.meaning self.now.1.1.1.0 ∷ E.meaning self.now.1.1.1.1.0 ∷ F.meaning self.now.1.1.1.1.1.0 ∷ G.meaning self.now.1.1.1.1.1.1.0 ∷ H.meaning self.now.1.1.1.1.1.1.1.0 ∷ I.meaning self.now.1.1.1.1.1.1.1.1.0 ∷ J.meaning self.now.1.1.1.1.1.1.1.1.1.0 ∷ K.meaning self.now.1.1.1.1.1.1.1.1.1.1.0 ∷ L.meaning self.now.1.1.1.1.1.1.1.1.1.1.1.0 ∷ M.meaning self.now.1.1.1.1.1.1.1.1.1.1.1.1.0 ∷ N.meaning self.now.1.1.1.1.1.1.1.1.1.1.1.1.1.0 ∷ []))) ser.old result ser.new }
     {
-        let others = Six(
+        let others = Refs6(
             &self.8,
             &self.9,
             &self.10,
@@ -434,7 +434,7 @@ impl<
             &self.13,
             &(),
         );
-        Eight(
+        Refs8(
             &self.0, &self.1, &self.2, &self.3, &self.4, &self.5, &self.6, &self.7, &others,
         )
         .serialize_sequence(ser)
@@ -483,7 +483,7 @@ impl<
         ensures whole { WritesWhole W.WriteExt.own (Tree.list ListKind.sequence
             (trees (A.meaning self.now.0 ∷ B.meaning self.now.1.0 ∷ C.meaning self.now.1.1.0 ∷ D.meaning self.now.1.1.1.0 ∷ E.meaning self.now.1.1.1.1.0 ∷ F.meaning self.now.1.1.1.1.1.0 ∷ G.meaning self.now.1.1.1.1.1.1.0 ∷ H.meaning self.now.1.1.1.1.1.1.1.0 ∷ I.meaning self.now.1.1.1.1.1.1.1.1.0 ∷ J.meaning self.now.1.1.1.1.1.1.1.1.1.0 ∷ K.meaning self.now.1.1.1.1.1.1.1.1.1.1.0 ∷ L.meaning self.now.1.1.1.1.1.1.1.1.1.1.1.0 ∷ M.meaning self.now.1.1.1.1.1.1.1.1.1.1.1.1.0 ∷ N.meaning self.now.1.1.1.1.1.1.1.1.1.1.1.1.1.0 ∷ O.meaning self.now.1.1.1.1.1.1.1.1.1.1.1.1.1.1.0 ∷ []))) ser.old result ser.new }
     {
-        let others = Seven(
+        let others = Refs7(
             &self.8,
             &self.9,
             &self.10,
@@ -493,7 +493,7 @@ impl<
             &self.14,
             &(),
         );
-        Eight(
+        Refs8(
             &self.0, &self.1, &self.2, &self.3, &self.4, &self.5, &self.6, &self.7, &others,
         )
         .serialize_sequence(ser)
@@ -544,7 +544,7 @@ impl<
         ensures whole { WritesWhole W.WriteExt.own (Tree.list ListKind.sequence
             (trees (A.meaning self.now.0 ∷ B.meaning self.now.1.0 ∷ C.meaning self.now.1.1.0 ∷ D.meaning self.now.1.1.1.0 ∷ E.meaning self.now.1.1.1.1.0 ∷ F.meaning self.now.1.1.1.1.1.0 ∷ G.meaning self.now.1.1.1.1.1.1.0 ∷ H.meaning self.now.1.1.1.1.1.1.1.0 ∷ I.meaning self.now.1.1.1.1.1.1.1.1.0 ∷ J.meaning self.now.1.1.1.1.1.1.1.1.1.0 ∷ K.meaning self.now.1.1.1.1.1.1.1.1.1.1.0 ∷ L.meaning self.now.1.1.1.1.1.1.1.1.1.1.1.0 ∷ M.meaning self.now.1.1.1.1.1.1.1.1.1.1.1.1.0 ∷ N.meaning self.now.1.1.1.1.1.1.1.1.1.1.1.1.1.0 ∷ O.meaning self.now.1.1.1.1.1.1.1.1.1.1.1.1.1.1.0 ∷ P.meaning self.now.1.1.1.1.1.1.1.1.1.1.1.1.1.1.1.0 ∷ []))) ser.old result ser.new }
     {
-        let others = Eight(
+        let others = Refs8(
             &self.8,
             &self.9,
             &self.10,
@@ -555,7 +555,7 @@ impl<
             &self.15,
             &(),
         );
-        Eight(
+        Refs8(
             &self.0, &self.1, &self.2, &self.3, &self.4, &self.5, &self.6, &self.7, &others,
         )
         .serialize_sequence(ser)

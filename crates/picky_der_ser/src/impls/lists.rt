@@ -25,7 +25,7 @@ fn write_items<T: Serialize, W: WriteExt>(
     ensures untouched { IfErr result (λ e. UntouchedUnlessFailed W.WriteExt.own
         ser.old.sink e ser.new.sink) }
     ensures counted { IsOnceAtMost (W.faults ser.old.sink) (W.faults ser.new.sink) }
-    ensures goes_on { W.later ser.old.sink ser.new.sink }
+    ensures continues { W.later ser.old.sink ser.new.sink }
 {
     let mut seq = Sequence::serialize_lazy(ser, tag);
     for item in items {

@@ -1,12 +1,12 @@
 //! Containers and context tags, as they are written.
-ghost use Rattle.picky_der_core.specs.declared.asn1.wrapper.Wrapper.TheVariants.{OctetContainer, BitContainer, Explicit, Implicit, Retagged};
+ghost use Rattle.picky_der_core.specs.declared.asn1.wrapper.Wrapper.TheVariants.{OctetContainer, BitContainer, Explicit, Implicit, ImplicitList};
 ghost use Rattle.picky_der_core.specs.Tree.{Tree};
 
 use crate::{List, Serialize, Serializer};
 use picky_der_core::Result;
 use picky_der_core::asn1::{
-    BitStringAsn1Container, ExplicitContextTag, ImplicitContextTag, Newtype,
-    OctetStringAsn1Container, Retagged, Tag,
+    BitStringAsn1Container, ExplicitContextTag, ImplicitContextTag, ImplicitList, Newtype,
+    OctetStringAsn1Container, Tag,
 };
 use picky_der_core::misc::WriteExt;
 
@@ -42,10 +42,10 @@ impl<T: Serialize, const N: u8> Serialize for ImplicitContextTag<T, N> {
     }
 }
 
-impl<T: List, const TAG: u8> Serialize for Retagged<T, TAG> {
-    ghost meaning = { λ x. Tree.wrapped (Retagged TAG) (T.meaning x.0) };
+impl<T: List, const TAG: u8> Serialize for ImplicitList<T, TAG> {
+    ghost meaning = { λ x. Tree.wrapped (ImplicitList TAG) (T.meaning x.0) };
 
     fn serialize<W: WriteExt>(&self, ser: &mut Serializer<W>) -> Result<usize> {
-        ser.serialize_retagged(Tag::from(TAG), &self.0)
+        ser.serialize_implicit_list(Tag::from(TAG), &self.0)
     }
 }

@@ -28,7 +28,7 @@ impl<W: WriteExt> Serializer<W> {
         ensures past { 30 < number → self.old.failed ≡ None
             → (result ≡ Err Asn1DerError.UnsupportedValue) × (self.new.sink ≡ self.old.sink) }
         ensures counted { IsOnceAtMost (W.faults self.old.sink) (W.faults self.new.sink) }
-        ensures goes_on { W.later self.old.sink self.new.sink }
+        ensures continues { W.later self.old.sink self.new.sink }
     {
         if let Some(error) = self.earlier() {
             return Err(error);

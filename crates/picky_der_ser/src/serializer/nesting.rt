@@ -24,7 +24,7 @@ impl<W: WriteExt> Serializer<W> {
     }
 
     // Writes the headers of the level that was opened last, and this content, to the sink.
-    pub(crate) fn put_behind_headers(&mut self, content: &[u8]) -> Result<usize>
+    pub(crate) fn put_after_headers(&mut self, content: &[u8]) -> Result<usize>
         requires opened { IsSome self.old.pending }
         requires empty { IfSome self.old.pending (λ l. l.content ≡ []) }
         requires outside { self.old.inside ≡ [] }
@@ -40,7 +40,7 @@ impl<W: WriteExt> Serializer<W> {
             self.new.sink) }
         ensures counted { IsOnceAtMost (W.faults self.old.sink) (W.faults self.new.sink) }
         ensures no_fault { OnOk result (W.faults self.new.sink ≡ W.faults self.old.sink) }
-        ensures goes_on { W.later self.old.sink self.new.sink }
+        ensures continues { W.later self.old.sink self.new.sink }
     {
         let Ok(()) = self.levels.add_headers(content.len()) else {
             return Err(Asn1DerError::OutOfMemory);
@@ -66,7 +66,7 @@ impl<W: WriteExt> Serializer<W> {
             self.new.sink) }
         ensures counted { IsOnceAtMost (W.faults self.old.sink) (W.faults self.new.sink) }
         ensures no_fault { OnOk result (W.faults self.new.sink ≡ W.faults self.old.sink) }
-        ensures goes_on { W.later self.old.sink self.new.sink }
+        ensures continues { W.later self.old.sink self.new.sink }
     {
         let held = self.levels.content().len();
         let Ok(()) = self.levels.add_headers(held) else {
@@ -80,22 +80,9 @@ impl<W: WriteExt> Serializer<W> {
 
     // Writes the level that was opened last, in its wrappers, with the members of a set in order. If an allocation for this
     // order fails, nothing of the set is written.
-    pub(crate) fn close(&mut self) -> Result<usize>
-        requires { IfNone self.old.failed (IsSome self.old.pending) }
-        ensures { EndsLevel W.WriteExt.own self.old result self.new }
-    {
-        if self.failed.is_none() {
-            if let Some(count) = self.levels.merge_short() {
-                return Ok(count);
-            }
-        }
-        self.close_slowly()
-    }
-
-    // The same for all cases.
     #[cold]
     #[inline(never)]
-    fn close_slowly(&mut self) -> Result<usize>
+    pub(crate) fn close(&mut self) -> Result<usize>
         requires { IfNone self.old.failed (IsSome self.old.pending) }
         ensures { EndsLevel W.WriteExt.own self.old result self.new }
     {
@@ -115,28 +102,10 @@ impl<W: WriteExt> Serializer<W> {
         }
     }
 
-    // From here on a member of the level that was opened last is written. Mostly nothing has to be prepared.
-    fn enter(&mut self) -> Result<()>
-        requires { IfNone self.old.failed (IsSome self.old.pending) }
-        ensures ok { OnOk result (IfSome self.old.pending
-            (λ l. self.new ≡ record self.old {
-              around = [];
-              inside = at_next_member l ∷ self.old.inside;
-              pending = None;
-            })) }
-        ensures had_not_failed { OnOk result (self.old.failed ≡ None) }
-        ensures err { IfErr result (λ e. RefusesToEnter W.WriteExt.own self.old e self.new) }
-    {
-        if self.failed.is_none() && self.levels.enter_short() {
-            return Ok(());
-        }
-        self.enter_slowly()
-    }
-
-    // The same for all cases.
+    // From here on a member of the level that was opened last is written.
     #[cold]
     #[inline(never)]
-    fn enter_slowly(&mut self) -> Result<()>
+    fn enter(&mut self) -> Result<()>
         requires { IfNone self.old.failed (IsSome self.old.pending) }
         ensures ok { OnOk result (IfSome self.old.pending
             (λ l. self.new ≡ record self.old {
@@ -166,7 +135,9 @@ impl<W: WriteExt> Serializer<W> {
         ensures err { IfErr result (λ e. RefusesToAdd W.WriteExt.own
             (T.meaning value.now) self.old e self.new) }
     {
-        self.enter()?;
+        if self.failed.is_some() || !self.levels.enter_short() {
+            self.enter()?;
+        }
         value.serialize(self)?;
         self.levels.leave();
         Ok(())

@@ -29,7 +29,7 @@ impl<W: WriteExt> Serializer<W> {
         ensures failed { IfErr result (λ e. RefusesWrite W.WriteExt.own
             (T.meaning value.now) self.old e self.new) }
         ensures counted { IsOnceAtMost (W.faults self.old.sink) (W.faults self.new.sink) }
-        ensures goes_on { W.later self.old.sink self.new.sink }
+        ensures continues { W.later self.old.sink self.new.sink }
     {
         value.serialize(self)
     }

@@ -92,7 +92,7 @@ impl<W: WriteExt> Serializer<W> {
         ensures { WritesPlain W.WriteExt.own (tree_of header content.now) self.old result self.new }
     {
         self.open(header);
-        let outcome = self.put_behind_headers(content);
+        let outcome = self.put_after_headers(content);
         self.settle(outcome)
     }
 

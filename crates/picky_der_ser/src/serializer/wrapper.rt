@@ -1,6 +1,6 @@
 //! Wrappers, as a serializer opens them.
 ghost use Rattle.std.specs.Prelude.{◌≡◌, [], ◌∷◌, ◌++◌, None, Err, IsTrue, IfOk, IfErr, OnOk};
-ghost use Rattle.picky_der_core.specs.declared.asn1.wrapper.Wrapper.TheVariants.{Retagged};
+ghost use Rattle.picky_der_core.specs.declared.asn1.wrapper.Wrapper.TheVariants.{ImplicitList};
 ghost use Rattle.picky_der_core.specs.OpenWrappers.{wrapper_of, wrap_if, HasTagNumberIfAny};
 ghost use Rattle.picky_der_core.specs.WriterFaults.{IsOnceAtMost};
 ghost use Rattle.picky_der_core.specs.Tag.{IsConstructedTag};
@@ -49,7 +49,7 @@ impl<W: WriteExt> Serializer<W> {
         ensures past { (HasTagNumber wrapper → ⊥) → self.old.failed ≡ None
             → (result ≡ Err Asn1DerError.UnsupportedValue) × (self.new.sink ≡ self.old.sink) }
         ensures counted { IsOnceAtMost (W.faults self.old.sink) (W.faults self.new.sink) }
-        ensures goes_on { W.later self.old.sink self.new.sink }
+        ensures continues { W.later self.old.sink self.new.sink }
     {
         self.wrap(wrapper)?;
         value.serialize(self)
@@ -72,7 +72,7 @@ impl<W: WriteExt> Serializer<W> {
         ensures past { (HasTagNumberIfAny (wrapper_of kind) → ⊥) → self.old.failed ≡ None
             → (result ≡ Err Asn1DerError.UnsupportedValue) × (self.new.sink ≡ self.old.sink) }
         ensures counted { IsOnceAtMost (W.faults self.old.sink) (W.faults self.new.sink) }
-        ensures goes_on { W.later self.old.sink self.new.sink }
+        ensures continues { W.later self.old.sink self.new.sink }
     {
         match kind.wrapper() {
             Some(wrapper) => self.write_wrapped(wrapper, value),
@@ -84,16 +84,16 @@ impl<W: WriteExt> Serializer<W> {
     ///
     /// `UnsupportedValue` for a tag that isn't constructed, and for a tag number past 30: this is tested before the value, and
     /// nothing is written or allocated then. Any other error is the list's.
-    pub fn serialize_retagged<T: List>(&mut self, tag: Tag, value: &T) -> Result<usize>
+    pub fn serialize_implicit_list<T: List>(&mut self, tag: Tag, value: &T) -> Result<usize>
         ensures wrote { IfOk result (λ n. Writes W.WriteExt.own
-            (Tree.wrapped (Retagged tag) (T.meaning value.now)) self.old n self.new) }
+            (Tree.wrapped (ImplicitList tag) (T.meaning value.now)) self.old n self.new) }
         ensures failed { IfErr result (λ e. RefusesWrite W.WriteExt.own
-            (Tree.wrapped (Retagged tag) (T.meaning value.now)) self.old e self.new) }
+            (Tree.wrapped (ImplicitList tag) (T.meaning value.now)) self.old e self.new) }
         ensures past { (IsConstructedTag tag → ⊥) → self.old.failed ≡ None
             → (result ≡ Err Asn1DerError.UnsupportedValue) × (self.new.sink ≡ self.old.sink) }
         ensures counted { IsOnceAtMost (W.faults self.old.sink) (W.faults self.new.sink) }
-        ensures goes_on { W.later self.old.sink self.new.sink }
+        ensures continues { W.later self.old.sink self.new.sink }
     {
-        self.write_wrapped(Wrapper::Retagged(tag.inner()), value)
+        self.write_wrapped(Wrapper::ImplicitList(tag.inner()), value)
     }
 }

@@ -2,7 +2,7 @@ use Rattle.std.proofs.Common.{ℕ, ◌<◌, ◌==◌, false, rules, ◌≡◌, �
 use Rattle.std.proofs.lemmas.Bool.Decides.{Decides-eqb, not_from_Decides}
 use Rattle.std.proofs.lemmas.Result.{err_from_is_err_and}
 use Rattle.der_program_base.proofs.RunSteps.{run_starts, byte_read, line_answered, line_push, ends, ends_answered}
-use Rattle.der_program_base.proofs.RunStops.{fault_told, reader_stops, byte_stops, line_stops, last_stops, limit_stops}
+use Rattle.der_program_base.proofs.RunStops.{fault_reported, reader_stops, byte_stops, line_stops, last_stops, limit_stops}
 use Rattle.der_program_base.proofs.lines.answer_lines.Goals as goal
 use Rattle.der_program_base.proofs.lines.answer_lines.Goals.{then-byte-eq10+in_ok-answer_line-2, else-byte-eq10+else-is_err, then-not-is_empty+in_ok-answer_line, else-not-is_empty}
 
@@ -19,7 +19,7 @@ loop-read-init g c = record {
   reads = refl;
   writes = refl;
   same_references = refl;
-  goes_on = search rules;
+  continues = search rules;
 }
 
 pub returns-in_err-byte-clause-stops : goal.returns-in_err-byte-clause-stops
@@ -32,7 +32,7 @@ returns-in_err-byte-clause-stops g c =
 pub returns-in_err-byte-clause-reads : goal.returns-in_err-byte-clause-reads
 returns-in_err-byte-clause-reads g c =
     let p = err_from_is_err_and c.from_residual.result c.from_residual.ensures.1 in
-    rw p.1 (fault_told c.loop-read.invariant.reads c.in_err-byte.ensures.fault p.2)
+    rw p.1 (fault_reported c.loop-read.invariant.reads c.in_err-byte.ensures.fault p.2)
 
 pub returns-in_err-answer_line-2-clause-stops : goal.returns-in_err-answer_line-2-clause-stops
 returns-in_err-answer_line-2-clause-stops g c =
@@ -89,7 +89,7 @@ loop-read-preserved g c =
             reads = consumed.no_fault ∙ i.reads;
             writes = rw w.output-is (done.no_fault ∙ i.writes);
             same_references = consumed.same_references ∙ i.same_references;
-            goes_on = rw w.output-is (search (rules, i.goes_on, done.goes_on));
+            continues = rw w.output-is (search (rules, i.continues, done.continues));
           }
       | else-byte-eq10+else-is_err w ↦
           let pushed : is_ok w.push.result ≡ true = w.is_err.ensures.negation ∙ ap not w.if-is_err.false in
@@ -98,6 +98,6 @@ loop-read-preserved g c =
             reads = consumed.no_fault ∙ i.reads;
             writes = rw w.output-is i.writes;
             same_references = consumed.same_references ∙ i.same_references;
-            goes_on = rw w.output-is i.goes_on;
+            continues = rw w.output-is i.continues;
           }
     ]

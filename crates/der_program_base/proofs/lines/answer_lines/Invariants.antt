@@ -8,5 +8,5 @@ invariant-loop-read g l = record {
   reads : g.R.ReadExt.faults l.input ≡ g.R.ReadExt.faults l.initial.input;
   writes : g.W.WriteExt.faults l.output ≡ g.W.WriteExt.faults l.initial.output;
   same_references : g.R.ReadExt.references l.input ≡ g.R.ReadExt.references l.initial.input;
-  goes_on : g.W.WriteExt.later l.initial.output l.output;
+  continues : g.W.WriteExt.later l.initial.output l.output;
 }

@@ -6,7 +6,7 @@ abbrev pub invariant-loop-offset : goal.invariant-loop-offset
 invariant-loop-offset g l = record {
   comes : Comes l.form l.options l.bytes l.ends l.offset l.is_der (g.W.WriteExt.written l.initial.output) (g.W.WriteExt.written l.output);
   faults : g.W.WriteExt.faults l.output ≡ g.W.WriteExt.faults l.initial.output;
-  goes_on : g.W.WriteExt.later l.initial.output l.output;
+  continues : g.W.WriteExt.later l.initial.output l.output;
 }
 
 abbrev pub decreases-loop-offset : goal.decreases-loop-offset

@@ -1,7 +1,7 @@
 use Rattle.std.proofs.Common.{◌<◌, ◌^◌, [], length, arith, subst}
 use Rattle.std.specs.Prelude.{slice_range}
 use Rattle.der_show.specs.Outlines.{Breaks, IsFound, IsBefore}
-use Rattle.der_show.proofs.Walking.{walk_begins, open_range, walk_refused, found_within, goes_further, walk_goes_on, walk_ends, before_goes_on}
+use Rattle.der_show.proofs.Walking.{walk_begins, open_range, walk_refused, found_within, goes_further, walk_continues, walk_ends, before_continues}
 use Rattle.der_show.proofs.outline.is_der.Goals as goal
 
 pub loop-offset-init : goal.loop-offset-init
@@ -38,8 +38,8 @@ loop-offset-preserved c =
     let i = c.loop-offset.invariant in
     rw (c.in_ok-offset-in-Element.ensures.ends, c.in_ok-offset-in-Element.ensures.offset) (
       _,
-      walk_goes_on c.args.bytes.now c.loop-offset.ends c.loop-offset.offset i.0 h i.1 c.loop-offset-test.true found,
-      before_goes_on c.args.bytes.now c.loop-offset.ends c.loop-offset.offset i.0 h i.2 found,
+      walk_continues c.args.bytes.now c.loop-offset.ends c.loop-offset.offset i.0 h i.1 c.loop-offset-test.true found,
+      before_continues c.args.bytes.now c.loop-offset.ends c.loop-offset.offset i.0 h i.2 found,
     )
 
 pub loop-offset-smaller : goal.loop-offset-smaller

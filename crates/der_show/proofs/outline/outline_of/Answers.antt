@@ -1,7 +1,7 @@
 use Rattle.std.proofs.Common.{◌<◌, ◌^◌, length, arith, subst}
 use Rattle.std.specs.Prelude.{slice_range}
 use Rattle.der_show.specs.Outlines.{Breaks, IsFound, IsBefore}
-use Rattle.der_show.proofs.Walking.{walk_begins, open_range, walk_refused, found_within, goes_further, walk_goes_on, walk_ends, before_goes_on}
+use Rattle.der_show.proofs.Walking.{walk_begins, open_range, walk_refused, found_within, goes_further, walk_continues, walk_ends, before_continues}
 use Rattle.der_show.proofs.outline.outline_of.Goals as goal
 
 pub loop-offset-init : goal.loop-offset-init
@@ -35,8 +35,8 @@ loop-offset-preserved c =
     let found = subst (λ k. IsFound (slice_range c.args.bytes.now c.loop-offset.offset k) c.in-Element.header) c.innermost-end.ensures (rw c.in-Element.is at c.in_ok-header.ensures) in
     rw (c.in_ok-offset.ensures.ends, c.in_ok-offset.ensures.offset, c.in_ok-push.ensures.items, c.depth.ensures)
     (record {
-      walks = walk_goes_on c.args.bytes.now c.loop-offset.ends c.loop-offset.offset c.loop-offset.elements.items c.in-Element.header c.loop-offset.invariant.walks c.loop-offset-test.true found;
-      before = before_goes_on c.args.bytes.now c.loop-offset.ends c.loop-offset.offset c.loop-offset.elements.items c.in-Element.header c.loop-offset.invariant.before found;
+      walks = walk_continues c.args.bytes.now c.loop-offset.ends c.loop-offset.offset c.loop-offset.elements.items c.in-Element.header c.loop-offset.invariant.walks c.loop-offset-test.true found;
+      before = before_continues c.args.bytes.now c.loop-offset.ends c.loop-offset.offset c.loop-offset.elements.items c.in-Element.header c.loop-offset.invariant.before found;
     })
 
 pub loop-offset-smaller : goal.loop-offset-smaller

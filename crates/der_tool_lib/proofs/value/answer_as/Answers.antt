@@ -6,12 +6,12 @@ use Rattle.der_tool_lib.proofs.NamedAnswers.{writable_read, answers_read, answer
 use Rattle.der_tool_lib.proofs.value.answer_as.Goals as goal
 
 pub hexadecimal-requires : goal.hexadecimal-requires
-hexadecimal-requires g c = writable_read _ _ c.new_from_bytes-de.ensures c.in-Ok.ensures.ok (g.met.T.Named.same_meaning _ c.in-Ok.ensures.ok.of_shape) c.taken-taken.ensures.taken c.taken-taken.type_inv
+hexadecimal-requires g c = writable_read _ _ c.new_from_bytes-de.ensures c.in-Ok.ensures.ok (g.met.T.Named.same_meaning _ c.in-Ok.ensures.ok.of_shape) c.taken-taken.ensures.consumed c.taken-taken.type_inv
 
 pub returns-in_ok-hexadecimal-in-Ok-clause-ok : goal.returns-in_ok-hexadecimal-in-Ok-clause-ok
 returns-in_ok-hexadecimal-in-Ok-clause-ok g c =
     MatchResult-weaker c.read_text.result c.read_text.ensures.ok
-    (λ text h. answers_read _ c.new_from_bytes-de.ensures c.in-Ok.ensures.ok (g.met.T.Named.same_meaning _ c.in-Ok.ensures.ok.of_shape) c.taken-taken.ensures.taken (c.deref.ensures ∙ c.in_ok-hexadecimal-in-Ok.ensures.ok) h)
+    (λ text h. answers_read _ c.new_from_bytes-de.ensures c.in-Ok.ensures.ok (g.met.T.Named.same_meaning _ c.in-Ok.ensures.ok.of_shape) c.taken-taken.ensures.consumed (c.deref.ensures ∙ c.in_ok-hexadecimal-in-Ok.ensures.ok) h)
     (λ e h. tt)
 
 pub returns-in-Err-2-clause-ok : goal.returns-in-Err-2-clause-ok

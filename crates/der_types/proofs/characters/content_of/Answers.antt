@@ -22,14 +22,14 @@ loop-character-preserved g c =
     let width = c.WIDTH-width.result in
     let character = c.in-Some.character in
     let items = c.loop-character.content.items in
-    let behind = chars (chars_rest c.next.new.self) in
+    let after = chars (chars_rest c.next.new.self) in
     let parts = c.in-Some.ensures.steps.0 in
     let step = chars_past_char _ _ character held.text parts in
     let yes : p character ≡ true = sym c.is_character.ensures ∙ c.if-not-is_character.false in
     record {
       text = IsUtf8-past_char _ _ character held.text parts;
-      content = ap (λ bs. bs ++ string_content width behind) c.in_ok-push_character.ensures ∙ append_assoc items (character_bytes width character) (string_content width behind) ∙ ap (λ cs. items ++ string_content width cs) (sym step) ∙ held.content;
-      decides = held.decides ∙ ap (list_all p) step ∙ ap (λ b. b && list_all p behind) yes;
+      content = ap (λ bs. bs ++ string_content width after) c.in_ok-push_character.ensures ∙ append_assoc items (character_bytes width character) (string_content width after) ∙ ap (λ cs. items ++ string_content width cs) (sym step) ∙ held.content;
+      decides = held.decides ∙ ap (list_all p) step ∙ ap (λ b. b && list_all p after) yes;
     }
 
 pub returns-clause-some : goal.returns-clause-some

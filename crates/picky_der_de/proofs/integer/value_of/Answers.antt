@@ -1,6 +1,6 @@
 use Rattle.std.proofs.Common.{arith}
 use Rattle.std.proofs.lemmas.Int.Digits.{number_more}
-use Rattle.picky_der_de.proofs.Numbers.{more_bytes, more_bytes_fit}
+use Rattle.picky_der_de.proofs.PlainReads.{more_bytes, more_bytes_fit}
 use Rattle.picky_der_de.proofs.integer.value_of.Goals as goal
 
 pub overflow_mul-number : goal.overflow_mul-number

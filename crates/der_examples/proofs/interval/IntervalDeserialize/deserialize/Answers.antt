@@ -1,6 +1,6 @@
 use Rattle.std.proofs.Common.{rules, refl, ◌∙◌}
 use Rattle.picky_der_de.proofs.PassedOn.{refusal_passed_on, reads_at}
-use Rattle.picky_der_de.proofs.Rests.{unread_first, rest_unopened, rest_refused, rest_head, rest_next, rest_left, row_last, row_read, row_reads}
+use Rattle.picky_der_de.proofs.Rests.{unread_first, rest_unopened, rest_refused, rest_head, rest_next, rest_left, members_last, members_read, reads_members}
 use Rattle.der_examples.specs.declared.interval.Interval.{Interval}
 use Rattle.der_examples.proofs.interval.IntervalDeserialize.deserialize.Goals as goal
 
@@ -24,5 +24,5 @@ returns-in_err-end-clause-err g c =
 
 pub returns-clause-ok : goal.returns-clause-ok
 returns-clause-ok g c =
-    let row = row_read c.in_ok-first.ensures.ok (row_last c.in_ok-last.ensures.ok) in
-    reads_at (row_reads c.in_ok-members.ensures.ok row c.in_ok-end.ensures.ok (c.in_ok-last.ensures.outer ∙ c.in_ok-first.ensures.outer)) (search rules)
+    let row = members_read c.in_ok-first.ensures.ok (members_last c.in_ok-last.ensures.ok) in
+    reads_at (reads_members c.in_ok-members.ensures.ok row c.in_ok-end.ensures.ok (c.in_ok-last.ensures.outer ∙ c.in_ok-first.ensures.outer)) (search rules)

@@ -2,7 +2,7 @@ use Rattle.std.proofs.Common.{◌≡◌, ◌++◌, ◌∷◌, map, sym, ap, ◌�
 use Rattle.std.proofs.lemmas.Grind.{common_steps, put_two}
 use Rattle.der_types.specs.Arcs.{arcs_left}
 use Rattle.der_types.specs.Dotted.{dotted_or_marked, fitted}
-use Rattle.der_types.proofs.DottedLemmas.{dotted_or_marked-cons, behind_points-append}
+use Rattle.der_types.proofs.DottedLemmas.{dotted_or_marked-cons, after_points-append}
 use Rattle.der_types.proofs.arcs.ArcsDisplay.fmt.Goals as goal
 
 pub returns-clause-writes : goal.returns-clause-writes
@@ -14,4 +14,4 @@ returns-clause-writes g c = λ plain ok.
     put_two _ _ _ _ _ _ _ one (c.loop-arc.invariant.written one.plain) (sym (ap dotted_or_marked all ∙ dotted_or_marked-cons c.in-Some.first yielded))
 
 pub loop-arc-preserved : goal.loop-arc-preserved
-loop-arc-preserved g c = grind (arith, common_steps, behind_points-append)
+loop-arc-preserved g c = grind (arith, common_steps, after_points-append)

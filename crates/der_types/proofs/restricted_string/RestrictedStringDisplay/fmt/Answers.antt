@@ -12,7 +12,7 @@ loop-code-preserved g c =
     let held = c.loop-code.invariant in
     let p = g.S.CharacterSet.is_character in
     let width = c.WIDTH-width.result in
-    let others = characters width c.in-Some.behind.now in
+    let others = characters width c.in-Some.after.now in
     let all : characters width c.loop-code.rest.now ≡ c.in-Some.code ∷ others = c.in-Some.ensures.first in
     let tests = both (p c.in-Some.code) (list_all p others) (rw all at held.characters) in
     let took = g.W.Write.write_str_gives in
@@ -20,7 +20,7 @@ loop-code-preserved g c =
     record {
       characters = tests.1;
       plain = λ start. (c.in_ok-write_char.ensures.writes (held.plain start) (refl {a = true})).plain;
-      goes_on = λ start h behind.
+      continues = λ start h after.
           let one = c.in_ok-write_char.ensures.writes (held.plain start) (refl {a = true}) in
-          held.goes_on start h (has_written_of_eq took _ _ _ _ text (has_written_append took _ _ _ _ _ one behind));
+          held.continues start h (has_written_of_eq took _ _ _ _ text (has_written_append took _ _ _ _ _ one after));
     }

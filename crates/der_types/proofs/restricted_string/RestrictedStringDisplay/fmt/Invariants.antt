@@ -12,7 +12,7 @@ decreases-loop-code g l = length l.rest
 pub record Shows (AreCharacters IsPlain Goes : Type 0) : Type 0 where
   pub characters : AreCharacters
   pub plain : IsPlain
-  pub goes_on : Goes
+  pub continues : Goes
 
 abbrev pub invariant-loop-code : goal.invariant-loop-code
 invariant-loop-code g l = Shows

@@ -22,5 +22,5 @@ returns-clause-wrapper c wrapper.BitContainer wrapper.BitContainer = (λ h. refl
 returns-clause-wrapper c (wrapper.Explicit n) (wrapper.Explicit k) = numbered wrapper.Explicit n k (unsigned_Decides n k) (λ e. cc)
 returns-clause-wrapper c (wrapper.Implicit n) (wrapper.Implicit k) = numbered wrapper.Implicit n k (unsigned_Decides n k) (λ e. cc)
 returns-clause-wrapper c (wrapper.Application n) (wrapper.Application k) = numbered wrapper.Application n k (unsigned_Decides n k) (λ e. cc)
-returns-clause-wrapper c (wrapper.Retagged n) (wrapper.Retagged k) = numbered wrapper.Retagged n k (unsigned_Decides n k) (λ e. cc)
+returns-clause-wrapper c (wrapper.ImplicitList n) (wrapper.ImplicitList k) = numbered wrapper.ImplicitList n k (unsigned_Decides n k) (λ e. cc)
 returns-clause-wrapper c _ _ = (λ h. absurd (true≢false (sym h)), λ e. cc)

@@ -1,13 +1,13 @@
 use Rattle.std.proofs.Common.{rules}
 use Rattle.std.proofs.lemmas.Result.{err_from_is_err_and}
-use Rattle.picky_der_de.specs.Known.{is_known}
+use Rattle.picky_der_de.specs.Facts.{is_lawful}
 use Rattle.picky_der_de.proofs.Choices.{reads_this, reads_other, refuses_this, refuses_other}
 use Rattle.picky_der_de.proofs.alternatives.OneOfAlternatives.deserialize_alternative.Goals as goal
 
 pub returns-in_err-deserialize-clause-err : goal.returns-in_err-deserialize-clause-err
 returns-in_err-deserialize-clause-err g c =
     let p = err_from_is_err_and c.from_residual.result c.from_residual.ensures.1 in
-    rw (p.1, p.2) (refuses_this (is_known g.A.Deserialize.known g.met.A.Deserialize.tied).begun (g.B.Alternatives.known.holds g.met.B.Alternatives.owed).begun (c.begins_with.ensures.0 c.if-begins_with.true) c.in_err-deserialize.ensures.err)
+    rw (p.1, p.2) (refuses_this (is_lawful g.A.Deserialize.facts g.met.A.Deserialize.proved).begun (g.B.Alternatives.facts.follows g.met.B.Alternatives.premise).begun (c.begins_with.ensures.0 c.if-begins_with.true) c.in_err-deserialize.ensures.err)
 
 pub returns-then-begins_with-clause-ok : goal.returns-then-begins_with-clause-ok
 returns-then-begins_with-clause-ok g c = reads_this c.in_ok-deserialize.ensures.ok
@@ -16,7 +16,7 @@ pub returns-in_err-deserialize_alternative-clause-err :
     goal.returns-in_err-deserialize_alternative-clause-err
 returns-in_err-deserialize_alternative-clause-err g c =
     let p = err_from_is_err_and c.from_residual-in_err-deserialize_alternative.result c.from_residual-in_err-deserialize_alternative.ensures.1 in
-    rw (p.1, p.2) (refuses_other (is_known g.A.Deserialize.known g.met.A.Deserialize.tied).begun (g.B.Alternatives.known.holds g.met.B.Alternatives.owed).begun (λ h. let x = c.begins_with.ensures.1 h in search rules) c.in_err-deserialize_alternative.ensures.err)
+    rw (p.1, p.2) (refuses_other (is_lawful g.A.Deserialize.facts g.met.A.Deserialize.proved).begun (g.B.Alternatives.facts.follows g.met.B.Alternatives.premise).begun (λ h. let x = c.begins_with.ensures.1 h in search rules) c.in_err-deserialize_alternative.ensures.err)
 
 pub returns-clause-ok : goal.returns-clause-ok
 returns-clause-ok g c = reads_other c.in_ok-deserialize_alternative.ensures.ok

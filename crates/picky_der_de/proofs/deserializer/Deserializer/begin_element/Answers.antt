@@ -4,7 +4,7 @@ use Rattle.picky_der_core.specs.Failure.{failure_of}
 use Rattle.picky_der_core.specs.Tag.{number_of}
 use Rattle.picky_der_de.specs.Steps.{Fails, IsJudged, IsMissing}
 use Rattle.picky_der_de.specs.Elements.{without_implicit_tag}
-use Rattle.picky_der_de.proofs.Contents.{kept_input, failed_same, unmoved_taken, unmoved_peeked}
+use Rattle.picky_der_de.proofs.Contents.{kept_input, failed_same, unmoved_consumed, unmoved_peeked}
 use Rattle.picky_der_de.proofs.Elements.{raw_missing, raw_long_form, raw_no_length}
 use Rattle.picky_der_de.proofs.deserializer.Deserializer.begin_element.Goals as goal
 
@@ -18,8 +18,8 @@ returns-in_err-next_byte-clause-err g c =
     let unmoved : new ≡ record old { failed = Some (failure_of error); faults = new.faults; input = new.input } = rw (← c.self.view_is) e.unmoved in
     let fails : Fails old new error = rw (← c.self.view_is) e.err in
     let missing : IsJudged c.args.self.now new error → IsMissing old error = rw (← c.self.view_is) (λ j. e.missing j.had_not_failed j.faults) in
-    let taken = unmoved_taken old new _ unmoved in
-    rw (p.1, p.2) (raw_missing fails missing (kept_input fails.took taken) taken (unmoved_peeked old new _ unmoved))
+    let consumed = unmoved_consumed old new _ unmoved in
+    rw (p.1, p.2) (raw_missing fails missing (kept_input fails.took consumed) consumed (unmoved_peeked old new _ unmoved))
 
 pub returns-then-number-gt-MAX_NUMBER-clause-err : goal.returns-then-number-gt-MAX_NUMBER-clause-err
 returns-then-number-gt-MAX_NUMBER-clause-err g c =

@@ -2,7 +2,7 @@ use Rattle.std.proofs.Common.{◌<◌, ◌^◌, subst}
 use Rattle.std.proofs.lemmas.Result.{err_from_is_err_and}
 use Rattle.picky_der_de.specs.Headers.{RefusesHeader}
 use Rattle.picky_der_de.proofs.Contents.{failed_same}
-use Rattle.picky_der_de.proofs.Openings.{opening_past, opening_header}
+use Rattle.picky_der_de.proofs.WrapperReads.{opening_past, opening_header}
 use Rattle.picky_der_de.proofs.deserializer.Deserializer.begin_wrapper.Goals as goal
 
 pub returns-then-not-has_tag_number-clause-err : goal.returns-then-not-has_tag_number-clause-err

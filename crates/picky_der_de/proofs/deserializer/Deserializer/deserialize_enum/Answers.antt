@@ -1,7 +1,7 @@
 use Rattle.std.proofs.Common.{◌∙◌, sym, ap}
 use Rattle.picky_der_de.specs.State.{State}
 use Rattle.picky_der_de.proofs.Contents.{failed_same}
-use Rattle.picky_der_de.proofs.LookAhead.{choice_under_implicit}
+use Rattle.picky_der_de.proofs.Peeked.{choice_under_implicit}
 use Rattle.picky_der_de.proofs.deserializer.Deserializer.deserialize_enum.Goals as goal
 
 pub returns-in-Some-implicit_tag-clause-err : goal.returns-in-Some-implicit_tag-clause-err

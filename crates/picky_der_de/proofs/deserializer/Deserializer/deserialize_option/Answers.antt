@@ -1,5 +1,5 @@
 use Rattle.std.proofs.lemmas.Result.{err_from_is_err_and}
-use Rattle.picky_der_de.proofs.Options.{reads_optional, refuses_optional}
+use Rattle.picky_der_de.proofs.Choices.{reads_optional, refuses_optional}
 use Rattle.picky_der_de.proofs.deserializer.Deserializer.deserialize_option.Goals as goal
 
 pub returns-clause-ok : goal.returns-clause-ok

@@ -29,4 +29,4 @@ pub returns-clause-err : goal.returns-clause-err
 returns-clause-err g c =
     let f = c.fail.ensures in
     let k = c.in_ok-content.ensures in
-    refuses_content text_kind c.in_ok-len.ensures.ok k.ok.0 k.ok.1 f.fails (text_bad c.in_ok-content.content.items (λ u. let q : false ≡ true = c.in-Err.ensures.succeeds u in cc) ∙ ap (λ e. Some e) (sym f.error)) (failed_same c.draw_vec.new.self f.error f.same)
+    refuses_content text_kind c.in_ok-len.ensures.ok k.ok.0 k.ok.1 f.fails (text_bad c.in_ok-content.content.items (λ u. let q : false ≡ true = c.in-Err.ensures.succeeds u in cc) ∙ ap (λ e. Some e) (sym f.error)) (failed_same c.fetch_vec.new.self f.error f.same)

@@ -8,4 +8,4 @@ returns-clause-err g c =
       | then-number-le-MAX_NUMBER+in-Ok-None w ↦ search rules
       | else-number-le-MAX_NUMBER w ↦ w.self-is
     ] in
-    rw (← same) c.draw_tagged_bytes.ensures.err
+    rw (← same) c.fetch_tagged_bytes.ensures.err

@@ -1,7 +1,7 @@
 use Rattle.std.proofs.Common.{◌∙◌, sym, ap}
 use Rattle.std.proofs.lemmas.Result.{MatchResult-weaker}
 use Rattle.picky_der_de.specs.State.{State}
-use Rattle.picky_der_de.proofs.LookAhead.{identifier_unread}
+use Rattle.picky_der_de.proofs.Peeked.{identifier_unread}
 use Rattle.picky_der_de.proofs.deserializer.Deserializer.identify_next.Goals as goal
 
 pub returns-in-None-clause-err : goal.returns-in-None-clause-err

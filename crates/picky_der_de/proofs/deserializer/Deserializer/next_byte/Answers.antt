@@ -1,5 +1,5 @@
 use Rattle.std.proofs.Common.{◌≡◌, None, Some, arith, rules}
-use Rattle.picky_der_de.proofs.ReaderFaults.{StopsAt, read_fails, read_missing, unpeeked_at_error, unpeeked_at_end, ended_before, fault, end}
+use Rattle.picky_der_de.proofs.Refusals.{StopsAt, read_fails, read_missing, unpeeked_at_error, unpeeked_at_end, ended_before, fault, end}
 use Rattle.picky_der_de.proofs.deserializer.Deserializer.next_byte.Goals as goal
 
 failed : (g : _) (c : goal.After-fault g) → StopsAt c.args.self.now c.fault.new.self c.fault.result

@@ -1,7 +1,7 @@
 use Rattle.std.proofs.Common.{◌≡◌, sym, ◌∙◌, ap}
 use Rattle.std.proofs.lemmas.Result.{err_from_is_err_and}
 use Rattle.picky_der_de.specs.State.{State}
-use Rattle.picky_der_de.proofs.Openings.{opening_unused, opens_at_once, opens_behind_count}
+use Rattle.picky_der_de.proofs.WrapperReads.{opening_unused, opens_at_once, opens_after_count}
 use Rattle.picky_der_de.proofs.deserializer.Deserializer.open_wrapper.Goals as goal
 use Rattle.picky_der_de.proofs.deserializer.Deserializer.open_wrapper.Goals.{then-counts_unused_bits+in_ok-take_unused_bits, else-counts_unused_bits}
 
@@ -18,6 +18,6 @@ returns-clause-ok g c =
     let marked = λ (before : State) (same : c.if-counts_unused_bits.self ≡ before).
     ap (λ (s : State). record s { implicit_tag = n.result }) (c.self.view_is ∙ same) ∙ ap (λ tag. record before { implicit_tag = tag }) n.ensures in
     elim c.if-counts_unused_bits.branch [
-      | then-counts_unused_bits+in_ok-take_unused_bits w ↦ opens_behind_count h (counts ∙ w.if-counts_unused_bits.true) w.in_ok-take_unused_bits.ensures.ok (marked w.take_unused_bits.new.self w.self-is)
+      | then-counts_unused_bits+in_ok-take_unused_bits w ↦ opens_after_count h (counts ∙ w.if-counts_unused_bits.true) w.in_ok-take_unused_bits.ensures.ok (marked w.take_unused_bits.new.self w.self-is)
       | else-counts_unused_bits w ↦ opens_at_once h (counts ∙ w.if-counts_unused_bits.false) (marked c.begin_wrapper.new.self w.self-is)
     ]

@@ -1,8 +1,8 @@
 use Rattle.std.proofs.Common.{◌∙◌, sym, ap, arith, rules}
 use Rattle.picky_der_core.specs.ReaderLaws.{not_more}
 use Rattle.picky_der_de.specs.State.{State}
-use Rattle.picky_der_de.proofs.ReaderFaults.{StopsAt, fault}
-use Rattle.picky_der_de.proofs.LookAhead.{choice_unread}
+use Rattle.picky_der_de.proofs.Refusals.{StopsAt, fault}
+use Rattle.picky_der_de.proofs.Peeked.{choice_unread}
 use Rattle.picky_der_de.proofs.deserializer.Deserializer.peek_next.Goals as goal
 
 failed : (g : _) (c : goal.After-fault g) → StopsAt c.args.self.now c.fault.new.self c.fault.result

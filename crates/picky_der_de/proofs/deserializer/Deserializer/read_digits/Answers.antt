@@ -1,8 +1,8 @@
 use Rattle.std.proofs.Common.{◌≡◌, ◌+◌, ◌*◌, ◌<◌, ◌∙◌, sym, ap, arith, refl}
 use Rattle.std.proofs.lemmas.Result.{err_from_is_err_and}
-use Rattle.picky_der_de.proofs.Numbers.{more_bytes, more_bytes_fit}
+use Rattle.picky_der_de.proofs.PlainReads.{more_bytes, more_bytes_fit}
 use Rattle.picky_der_de.proofs.Contents.{stops_short}
-use Rattle.picky_der_de.proofs.Lengths.{digits_none, digits_more}
+use Rattle.picky_der_de.proofs.Headers.{digits_none, digits_more}
 use Rattle.picky_der_de.proofs.deserializer.Deserializer.read_digits.Goals as goal
 
 pub loop-i-init : goal.loop-i-init
@@ -28,6 +28,6 @@ loop-i-preserved g c =
 pub returns-in_err-next_byte-clause-err : goal.returns-in_err-next_byte-clause-err
 returns-in_err-next_byte-clause-err g c =
     let p = err_from_is_err_and c.from_residual.result c.from_residual.ensures.1 in
-    let i = c.loop-i.invariant.0.takes in
+    let i = c.loop-i.invariant.0.consumes in
     let e = c.in_err-next_byte.ensures in
-    rw (p.1, p.2) (stops_short i.takes i.count c.loop-i-test.true e.err e.missing e.unmoved)
+    rw (p.1, p.2) (stops_short i.consumes i.count c.loop-i-test.true e.err e.missing e.unmoved)

@@ -1,5 +1,5 @@
 use Rattle.picky_der_de.proofs.Contents.{failed_same}
-use Rattle.picky_der_de.proofs.SeenMembers.{seen_refused, seen_reads, seen_less}
+use Rattle.picky_der_de.proofs.SetOrder.{seen_refused, seen_reads, seen_less}
 use Rattle.picky_der_de.specs.Order.{SeesMember}
 use Rattle.std.proofs.Common.{subst}
 use Rattle.picky_der_de.proofs.deserializer.Deserializer.read_seen.Goals as goal

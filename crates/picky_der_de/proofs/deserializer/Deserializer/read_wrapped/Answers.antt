@@ -4,7 +4,7 @@ use Rattle.picky_der_core.specs.declared.error.Asn1DerError.{Asn1DerError}
 use Rattle.picky_der_core.specs.declared.error.Asn1DerError.TheVariants.{UnsupportedValue}
 use Rattle.picky_der_de.specs.State.{State}
 use Rattle.picky_der_de.specs.TagNumbers.{RefusesNumber}
-use Rattle.picky_der_de.specs.Wrappers.{in_value, behind_value}
+use Rattle.picky_der_de.specs.Wrappers.{in_value, after_value}
 use Rattle.picky_der_de.proofs.WrapperReads.{reads_wrapped}
 use Rattle.picky_der_de.proofs.deserializer.Deserializer.read_wrapped.Goals as goal
 
@@ -28,7 +28,7 @@ returns-in_err-value-clause-err g c =
 pub returns-in_err-close_end-clause-err : goal.returns-in_err-close_end-clause-err
 returns-in_err-close_end-clause-err g c =
     let p = err_from_is_err_and c.from_residual-in_err-close_end.result c.from_residual-in_err-close_end.ensures.1 in
-    rw (p.1, p.2) (behind_value c.open_wrapper.new.self c.deserialize.new.de c.in_ok-outer.outer (g.T.Serialize.meaning c.in_ok-value.value) c.in_ok-outer.ensures.ok c.in_ok-value.ensures.ok c.in_err-close_end.ensures.err)
+    rw (p.1, p.2) (after_value c.open_wrapper.new.self c.deserialize.new.de c.in_ok-outer.outer (g.T.Serialize.meaning c.in_ok-value.value) c.in_ok-outer.ensures.ok c.in_ok-value.ensures.ok c.in_err-close_end.ensures.err)
 
 pub returns-clause-ok : goal.returns-clause-ok
 returns-clause-ok g c = reads_wrapped c.in_ok-outer.ensures.ok c.in_ok-value.ensures.ok c.in_ok-close_end.ensures.ok refl

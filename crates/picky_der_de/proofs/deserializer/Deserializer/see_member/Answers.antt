@@ -1,14 +1,14 @@
 use Rattle.std.proofs.Common.{take, refl}
-use Rattle.picky_der_de.proofs.Seen.{known_next, element_next, cut_member, order_seen}
+use Rattle.picky_der_de.proofs.SetOrder.{known_next, element_next, cut_member, order_seen}
 use Rattle.picky_der_de.proofs.deserializer.Deserializer.see_member.Goals as goal
 
 pub returns-then-is_before-clause-seen : goal.returns-then-is_before-clause-seen
 returns-then-is_before-clause-seen g c =
-    let e = c.in-Some-element_in_front.ensures.is in
+    let e = c.in-Some-element_at_front.ensures.is in
     let a = c.ahead-ahead.ensures in
-    let k = known_next _ c.ahead-ahead.result.now c.in-Some-element_in_front.count a.front a.known e in
+    let k = known_next _ c.ahead-ahead.result.now c.in-Some-element_at_front.count a.front a.known e in
     rw (← c.self.view_is) (record {
-      member = take c.in-Some-element_in_front.count c.ahead-ahead.result.now;
+      member = take c.in-Some-element_at_front.count c.ahead-ahead.result.now;
       element = element_next e;
       left = k.left;
       known = k.known;
@@ -18,11 +18,11 @@ returns-then-is_before-clause-seen g c =
 
 pub returns-in-Ok-clause-seen : goal.returns-in-Ok-clause-seen
 returns-in-Ok-clause-seen g c =
-    let e = c.in-Some-element_in_front.ensures.is in
+    let e = c.in-Some-element_at_front.ensures.is in
     let a = c.ahead-ahead.ensures in
-    let k = known_next _ c.ahead-ahead.result.now c.in-Some-element_in_front.count a.front a.known e in
+    let k = known_next _ c.ahead-ahead.result.now c.in-Some-element_at_front.count a.front a.known e in
     rw (← c.self.view_is) (record {
-      member = take c.in-Some-element_in_front.count c.ahead-ahead.result.now;
+      member = take c.in-Some-element_at_front.count c.ahead-ahead.result.now;
       element = element_next e;
       left = k.left;
       known = k.known;

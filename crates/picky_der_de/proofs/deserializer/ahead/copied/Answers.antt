@@ -1,5 +1,5 @@
 use Rattle.std.proofs.Common.{arith}
-use Rattle.picky_der_de.proofs.Numbers.{bytes_by_index}
+use Rattle.picky_der_de.proofs.PlainReads.{bytes_by_index}
 use Rattle.picky_der_de.proofs.deserializer.ahead.copied.Goals as goal
 
 pub returns-clause-bytes : goal.returns-clause-bytes

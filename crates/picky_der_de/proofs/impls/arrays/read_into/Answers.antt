@@ -2,8 +2,8 @@ use Rattle.std.proofs.Common.{rules, ◌∙◌, ◌<◌, length, take, refl, sub
 use Rattle.std.proofs.lemmas.List.{take_more_set, take_all, length-set, length-take-le}
 use Rattle.std.proofs.lemmas.Result.{IfErr-weaker, on_ok_weaker}
 use Rattle.picky_der_de.proofs.PassedOn.{refusal_passed_on, reads_at, refuses_at}
-use Rattle.picky_der_de.proofs.Rests.{row_reads}
-use Rattle.picky_der_de.proofs.ArrayReads.{ReadsFirst, first_none, first_more, first_all, first_refused, first_left, array_unopened, array_refused}
+use Rattle.picky_der_de.proofs.Rests.{reads_members}
+use Rattle.picky_der_de.proofs.ListReads.{ReadsFirst, first_none, first_more, first_all, first_refused, first_left, array_unopened, array_refused}
 use Rattle.picky_der_de.proofs.impls.arrays.read_into.Goals as goal
 
 pub returns-in_err-members-clause-err : goal.returns-in_err-members-clause-err
@@ -45,11 +45,11 @@ returns-clause-ok g c =
     let all = take_all c.loop-at.at c.loop-at.slots (omega (arith, i.same_length, c.loop-at-test.false)) in
     let first = subst (ReadsFirst g.T.Serialize.meaning g.T.Deserialize.shape c.in_ok-members.members.de.now c.loop-at.members.de.now) all i.first in
     let row = first_all g.T.Serialize.meaning g.T.Deserialize.shape (length c.args.slots.now) c.loop-at.slots i.same_length first in
-    on_ok_weaker c.end.result (λ k. reads_at (row_reads c.in_ok-members.ensures.ok row k i.outer) (search rules)) c.end.ensures.ok
+    on_ok_weaker c.end.result (λ k. reads_at (reads_members c.in_ok-members.ensures.ok row k i.outer) (search rules)) c.end.ensures.ok
 
 pub returns-clause-err : goal.returns-clause-err
 returns-clause-err g c =
     let i = c.loop-at.invariant in
     let all = take_all c.loop-at.at c.loop-at.slots (omega (arith, i.same_length, c.loop-at-test.false)) in
     let first = subst (ReadsFirst g.T.Serialize.meaning g.T.Deserialize.shape c.in_ok-members.members.de.now c.loop-at.members.de.now) all i.first in
-    IfErr-weaker c.end.result _ _ (λ e k. refuses_at (array_refused g.T.Serialize.meaning (length c.args.slots.now) g.T.Deserialize.shape c.in_ok-members.ensures.ok (first_left (length c.args.slots.now) c.loop-at.slots i.same_length first k.fails (k.left first.takes.not_failed).0)) (search rules)) c.end.ensures.err
+    IfErr-weaker c.end.result _ _ (λ e k. refuses_at (array_refused g.T.Serialize.meaning (length c.args.slots.now) g.T.Deserialize.shape c.in_ok-members.ensures.ok (first_left (length c.args.slots.now) c.loop-at.slots i.same_length first k.fails (k.left first.consumes.not_failed).0)) (search rules)) c.end.ensures.err

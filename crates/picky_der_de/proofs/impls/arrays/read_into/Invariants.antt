@@ -1,5 +1,5 @@
 use Rattle.std.proofs.Common.{◌≡◌, ◌≤◌, length, take}
-use Rattle.picky_der_de.proofs.ArrayReads.{ReadsFirst}
+use Rattle.picky_der_de.proofs.ListReads.{ReadsFirst}
 use Rattle.picky_der_de.proofs.impls.arrays.read_into.Given as goal
 
 abbrev pub invariant-loop-at : goal.invariant-loop-at

@@ -1,6 +1,6 @@
 use Rattle.std.proofs.Common.{◌∙◌, arith}
 use Rattle.std.proofs.lemmas.Result.{MatchResult-weaker}
-use Rattle.picky_der_de.proofs.Numbers.{bytes_by_index, content_of_number, content_of_digit}
+use Rattle.picky_der_de.proofs.PlainReads.{bytes_by_index, content_of_number, content_of_digit}
 use Rattle.picky_der_de.proofs.integer.UnsignedIntegerPlainKind.of_content.Goals as goal
 
 pub returns-clause-ok : goal.returns-clause-ok

@@ -1,5 +1,5 @@
 use Rattle.std.proofs.lemmas.Result.{err_from_is_err_and}
-use Rattle.picky_der_de.proofs.LookAhead.{identifier_again}
+use Rattle.picky_der_de.proofs.Peeked.{identifier_again}
 use Rattle.picky_der_de.proofs.sequence.Sequence.next_tag.Goals as goal
 
 pub returns-in_err-is_at_end-clause-err : goal.returns-in_err-is_at_end-clause-err

@@ -4,7 +4,7 @@ use Rattle.picky_der_core.specs.declared.error.Asn1DerError.{Asn1DerError}
 use Rattle.picky_der_core.specs.Failure.{failure_of}
 use Rattle.picky_der_core.specs.EncodingLaws.{length-der}
 use Rattle.picky_der_de.specs.State.{State}
-use Rattle.picky_der_de.proofs.MemberReads.{takes_member, member_again}
+use Rattle.picky_der_de.proofs.MemberReads.{consumes_member, member_again}
 use Rattle.picky_der_de.proofs.ListReads.{all_refused, all_next, all_for_memory, some_none, some_more, some_all}
 use Rattle.picky_der_de.proofs.sequence.Sequence.remaining.Goals as goal
 
@@ -30,7 +30,7 @@ returns-in_err-value-clause-err g c =
 pub loop-values-smaller : goal.loop-values-smaller
 loop-values-smaller g c =
     let r = c.in_ok-value.ensures.ok in
-    omega (arith, (takes_member r).until_end, length-der (g.T.Serialize.meaning c.in_ok-value.value) r.reads.readable)
+    omega (arith, (consumes_member r).until_end, length-der (g.T.Serialize.meaning c.in_ok-value.value) r.reads.readable)
 
 pub loop-values-preserved : goal.loop-values-preserved
 loop-values-preserved g c =

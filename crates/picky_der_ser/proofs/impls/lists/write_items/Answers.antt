@@ -49,5 +49,5 @@ returns g c =
       failed = grind (arith, list_failed, a);
       untouched = grind (arith, list_untouched, a);
       counted = grind (arith, a);
-      goes_on = grind (arith, a);
+      continues = grind (arith, a);
     }

@@ -243,5 +243,5 @@ deserialize_spec {M} 𝓤 𝓛 𝓜 𝓡 wired X n R LX fits LR CX gD dD gS dS g
     entered 𝓤 𝓛.H (triple_of 𝓛 (ended E).signature (f.spec X (number n) R gD dD gS dS gE dE gC dC gZ dZ gR dR gI dI 𝓛 𝓜.mem 𝓡.returns)) 𝓣.C 𝓣.Λ (#self (args E)) (here E) (code.unfolded 𝓤 𝓛.H 𝓜 𝓡 wired (X, (number n, (R, tt))) dD dS dE dC dZ dR dI)
     (meets E 𝓛 𝓜.mem 𝓡.returns 𝓣 (λ fit. read_filled_met 𝓤 𝓛 𝓜 𝓡 (code.calls-picky_der_de::impls::arrays::read_filled 𝓡.env wired) (A E) R LA LR (gA E) (dA E) gR dR gI dI (no_drop E)
     (let met = impl_met.bound 𝓡.env (code.calls-picky_der_de::impls::arrays::ArrayFill::unread 𝓡.env wired) (code.calls-picky_der_de::impls::arrays::ArrayFill::fill 𝓡.env wired) X n LX fits CX fit gD dD gS dS gE dE gC dC gZ dZ M 𝓤 𝓛 𝓜 𝓡
-    record { deserialize = mD.deserialize; tied = mD.tied } record { serialize = mS.serialize } record { eq = mE.eq; laws = mE.laws } record { clone = mC.clone } record { default = mZ.default } in record { unread = met.unread; fill = met.fill })
+    record { deserialize = mD.deserialize; proved = mD.proved } record { serialize = mS.serialize } record { eq = mE.eq; laws = mE.laws } record { clone = mC.clone } record { default = mZ.default } in record { unread = met.unread; fill = met.fill })
     mR mI (glues "picky_der_de::Destruct++none::drop" 𝓡.env (code.calls-picky_der_de::Destruct++none::drop 𝓡.env wired) (A E) LA M 𝓤 𝓛 𝓜 𝓡)))

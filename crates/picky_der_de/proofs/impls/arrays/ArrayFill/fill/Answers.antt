@@ -1,6 +1,6 @@
 use Rattle.std.specs.Prelude.{length}
 use Rattle.std.proofs.lemmas.Result.{MatchResult-weaker}
-use Rattle.picky_der_de.proofs.ArrayReads.{array_refuses}
+use Rattle.picky_der_de.proofs.ListReads.{array_refuses}
 use Rattle.picky_der_de.proofs.impls.arrays.ArrayFill.fill.Goals as goal
 
 pub returns-clause-err : goal.returns-clause-err

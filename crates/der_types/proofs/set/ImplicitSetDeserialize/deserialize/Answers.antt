@@ -1,0 +1,10 @@
+use Rattle.std.proofs.lemmas.Result.{err_from_is_err_and}
+use Rattle.picky_der_core.specs.declared.asn1.wrapper.Wrapper.TheVariants.{ImplicitList}
+use Rattle.picky_der_core.specs.Tree.{Tree}
+use Rattle.picky_der_de.proofs.PlainReads.{refuses_of}
+use Rattle.der_types.proofs.set.ImplicitSetDeserialize.deserialize.Goals as goal
+
+pub returns-in_err-members-clause-err : goal.returns-in_err-members-clause-err
+returns-in_err-members-clause-err g c =
+    let p = err_from_is_err_and c.from_residual.result c.from_residual.ensures.1 in
+    rw (p.1, p.2) (refuses_of {meaning = λ v. Tree.wrapped (ImplicitList g.row.TAG) (g.T.Serialize.meaning v)} (λ w. w.0) (rw c.from.ensures at c.in_err-members.ensures.err))

@@ -1,7 +1,0 @@
-use Rattle.std.proofs.Common.{refl}
-use Rattle.picky_der_de.proofs.PassedOn.{refusal_passed_on}
-use Rattle.picky_der_de.proofs.PlainReads.{refuses_of}
-use Rattle.picky_der_de.proofs.alike.deserialize_as.Goals as goal
-
-pub returns-in_err-deserialize-clause-err : goal.returns-in_err-deserialize-clause-err
-returns-in_err-deserialize-clause-err g c = refusal_passed_on _ c.from_residual.ensures.1 refl (refuses_of g.T.Alike.parts c.in_err-deserialize.ensures.err)

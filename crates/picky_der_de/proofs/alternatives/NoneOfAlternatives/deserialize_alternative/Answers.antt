@@ -1,5 +1,0 @@
-use Rattle.std.proofs.Common.{rules}
-use Rattle.picky_der_de.proofs.alternatives.NoneOfAlternatives.deserialize_alternative.Goals as goal
-
-pub returns-clause-err : goal.returns-clause-err
-returns-clause-err c = search rules
