@@ -25,6 +25,7 @@ mod strings;
 mod text;
 mod type_name;
 mod value;
+mod walk;
 
 pub use content::content_rule;
 pub use element::Element;
@@ -38,3 +39,4 @@ pub use options::{LineForm, ShowOptions, Source};
 pub use outline::{Complaint, Front, Outline, complaint_of, front_of, outline_of};
 pub use reason::{Cause, Reason, reason_of};
 pub use rule::Rule;
+pub use walk::{Next, Place, next_element};
