@@ -46,6 +46,8 @@ _LISTED = frozenset(("INTEGER", "BIT STRING", "ENUMERATED"))
 def types_of_rows(table: dict[str, list[dict[str, Any]]]) -> Iterator[LibraryType]:
     """The types of the table of der_types that a name alone is."""
     for row in table["kind"]:
+        if "asn1" not in row:
+            continue
         clause = f"X.680, {row['clause']}.1"
         yield LibraryType(row["asn1"], row["tag"], row["name"], Core[row["core"]], row.get("home", ""), row["term"], clause=clause)
     for row in table["content"]:
