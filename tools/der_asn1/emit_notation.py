@@ -94,10 +94,10 @@ def notation_file(types: list[Declaration], homes: dict[str, str], crate: str) -
         "ghost use Rattle.std.specs.Prelude.{◌≡◌};",
         f"ghost use Rattle.{crate}.specs.Notation as notation;",
         "",
-        *imports({*names, "Notated"}, homes),
+        *imports({*names, "Exact"}, homes),
         "",
         "/// Each type has the notation that its module gives it. `specs/Notation.antt` has that notation as a term, below its text.",
         "pub fn types()",
-        *(f"    ensures {snake(it)} {{ ⟦<{it} as Notated>⟧.notation ≡ notation.{it} }}" for it in sorted(names, key=natural)),
+        *(f"    ensures {snake(it)} {{ ⟦<{it} as Exact>⟧.values.notation ≡ notation.{it} }}" for it in sorted(names, key=natural)),
         "{}",
     ]

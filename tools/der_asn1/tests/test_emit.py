@@ -84,8 +84,9 @@ class AsByHand(unittest.TestCase):
         for before, after in replaced:
             text = text.replace(before, after)
         hand = items(by_hand(path))
+        notated = () if f"impl Exact for {name} {{" in by_hand(path) else ("impl Notated", "impl Exact")
         for item in items(text):
-            if item.split(" {")[0] not in more and not item.startswith("impl Notated"):
+            if item.split(" {")[0] not in more and not item.startswith(notated):
                 self.assertIn(item, hand)
 
     def without(self, name):
@@ -131,7 +132,7 @@ class AsByHand(unittest.TestCase):
         hand = items(by_hand("der_examples/src/personnel_record.rt"))
         text = as_by_hand(crate, "PersonnelMembers")
         for item in items(text.replace("<C>", "<Asn1Set<ChildInformation>>")):
-            if not item.startswith(("impl Begins", "impl Notated")):
+            if not item.startswith(("impl Begins", "impl Notated", "impl Exact")):
                 self.assertIn(item, hand)
         aliases = crate.files()["src/types.rt"]
         self.assertIn("pub type Personnel = ImplicitSet<PersonnelMembers, 0x60>;\n", aliases)
@@ -163,7 +164,7 @@ class AsByHand(unittest.TestCase):
         text = as_by_hand(crate_of(body, "Command"), "Command")
         hand = items(by_hand("der_examples/src/script.rt"))
         for item in items(text):
-            if not item.startswith(("impl Choice", "impl Serialize", "impl Notated")):
+            if not item.startswith(("impl Choice", "impl Serialize", "impl Notated", "impl Exact")):
                 self.assertIn(item, hand)
         self.assertIn("      | Forget x ↦ Later (Later (Fourth x))\n", text)
         self.assertIn("            Later(Later(Fourth(forget))) => Command::Forget(forget),\n", text)
@@ -220,7 +221,7 @@ class Imports(unittest.TestCase):
         found = text[text.index("use der_types") : text.index("use picky_asn1_der::{")]
         self.assertEqual(
             [
-                "use der_types::{Integer, Notated, NotatedMembers};",
+                "use der_types::{Exact, ExactMembers, Integer, Notated, NotatedMembers};",
                 "use picky_asn1_der::asn1::{ExplicitContextTag2, ExplicitContextTag10, Tag};",
                 "use picky_asn1_der::de::Begins;",
                 "use picky_asn1_der::misc::{ReadExt, WriteExt};",
@@ -236,7 +237,7 @@ class Imports(unittest.TestCase):
         self.assertIn("use picky_asn1_der::OneOf::{Other, This};\n", text)
         self.assertNotIn("use crate", text)
         self.assertIn("ghost use Rattle.std.specs.Prelude.{refl};\n", text)
-        self.assertEqual(2, text.count("{\n    ghost use Rattle.der_examples.specs.declared.types.C.TheVariants as variants;\n"))
+        self.assertEqual(3, text.count("{\n    ghost use Rattle.der_examples.specs.declared.types.C.TheVariants as variants;\n"))
 
     def test_terms_that_are_many(self):
         lines = term_imports("Rattle.a", [f"name_of_a_term_{it}" for it in range(12)])
