@@ -13,7 +13,8 @@ use crate::{
 };
 use der_types::Exact;
 
-/// Each type has the notation that its module gives it. `specs/Notation.antt` has that notation as a term, below its text.
+/// Each type has exactly the values of the notation that its module gives it. `specs/Notation.antt` has that notation as a term, below
+/// its text.
 pub fn types()
     ensures aes_ccm_ic_vlen { ⟦<AesCcmIcVlen as Exact>⟧.values.notation ≡ notation.AesCcmIcVlen }
     ensures aes_gcm_ic_vlen { ⟦<AesGcmIcVlen as Exact>⟧.values.notation ≡ notation.AesGcmIcVlen }

@@ -24,7 +24,8 @@ use crate::{
 };
 use der_types::Exact;
 
-/// Each type has the notation that its module gives it. `specs/Notation.antt` has that notation as a term, below its text.
+/// Each type has exactly the values of the notation that its module gives it. `specs/Notation.antt` has that notation as a term, below
+/// its text.
 pub fn types()
     ensures attribute { ⟦<Attribute as Exact>⟧.values.notation ≡ notation.Attribute }
     ensures attribute_certificate_v1 { ⟦<AttributeCertificateV1 as Exact>⟧.values.notation ≡ notation.AttributeCertificateV1 }

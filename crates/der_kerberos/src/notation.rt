@@ -16,7 +16,8 @@ use crate::{
 };
 use der_types::Exact;
 
-/// Each type has the notation that its module gives it. `specs/Notation.antt` has that notation as a term, below its text.
+/// Each type has exactly the values of the notation that its module gives it. `specs/Notation.antt` has that notation as a term, below
+/// its text.
 pub fn types()
     ensures ad_and_or { ⟦<AdAndOr as Exact>⟧.values.notation ≡ notation.AdAndOr }
     ensures ad_if_relevant { ⟦<AdIfRelevant as Exact>⟧.values.notation ≡ notation.AdIfRelevant }

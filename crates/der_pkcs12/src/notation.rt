@@ -10,7 +10,8 @@ use crate::{
 };
 use der_types::Exact;
 
-/// Each type has the notation that its module gives it. `specs/Notation.antt` has that notation as a term, below its text.
+/// Each type has exactly the values of the notation that its module gives it. `specs/Notation.antt` has that notation as a term, below
+/// its text.
 pub fn types()
     ensures authenticated_safe { ⟦<AuthenticatedSafe as Exact>⟧.values.notation ≡ notation.AuthenticatedSafe }
     ensures cert_bag { ⟦<CertBag as Exact>⟧.values.notation ≡ notation.CertBag }

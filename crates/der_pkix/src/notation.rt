@@ -25,7 +25,8 @@ use crate::{
 };
 use der_types::Exact;
 
-/// Each type has the notation that its module gives it. `specs/Notation.antt` has that notation as a term, below its text.
+/// Each type has exactly the values of the notation that its module gives it. `specs/Notation.antt` has that notation as a term, below
+/// its text.
 pub fn types()
     ensures aa_controls { ⟦<AaControls as Exact>⟧.values.notation ≡ notation.AaControls }
     ensures ac_clear_attrs { ⟦<AcClearAttrs as Exact>⟧.values.notation ≡ notation.AcClearAttrs }

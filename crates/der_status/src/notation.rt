@@ -13,7 +13,8 @@ use crate::{
 };
 use der_types::Exact;
 
-/// Each type has the notation that its module gives it. `specs/Notation.antt` has that notation as a term, below its text.
+/// Each type has exactly the values of the notation that its module gives it. `specs/Notation.antt` has that notation as a term, below
+/// its text.
 pub fn types()
     ensures acceptable_responses { ⟦<AcceptableResponses as Exact>⟧.values.notation ≡ notation.AcceptableResponses }
     ensures accuracy { ⟦<Accuracy as Exact>⟧.values.notation ≡ notation.Accuracy }

@@ -6,7 +6,7 @@ use Rattle.picky_der_core.specs.Primitive.{Primitive}
 use Rattle.picky_der_core.specs.Tree.{Tree, trees}
 use Rattle.der_types.specs.Constraints.{is_size, is_between, member_count}
 use Rattle.der_types.specs.Notation.{Notation}
-use Rattle.der_types.specs.Denotes.{Denotes, tree_number, tree_size}
+use Rattle.der_types.specs.Denotes.{Denotes, is_from_minus, tree_number, tree_size}
 use Rattle.der_types.specs.Exact.{IsExact, Values, ProvedValues, is_exact}
 
 module _ {A V : Type 0} (P : Tree → Type 0) (means : A → Tree) (is : IsExact P means) (allows : A → Bool) (test : Tree → Bool) (same : (x : A) → allows x ≡ test (means x)) (b : Bool) (part : V → A) (kept : (v : V) → allows (part v) ≡ b) (whole : (x : A) → allows x ≡ b → (v : V) × (part v ≡ x)) where
@@ -93,6 +93,14 @@ module _ {A V : Type 0} (a : Values A) (n : Notation) (means : A → Tree) (part
     meaning = λ v. means (part v);
     Premise = ProvedValues a n means × ProvedNumber d number means;
     follows = λ o. constrained_exact (Denotes n) means (is_exact a o.0) (λ x. is_between least most (number x)) (λ t. is_between least most (tree_number t)) (λ x. ap (is_between least most) (is_numbered d o.1 x)) true part kept whole;
+  }
+
+  abbrev pub from_minus_values : (least most : ℕ) (d : Numbered A) (number : A → ℤ) → ((v : V) → is_from_minus least most (number (part v)) ≡ true) → ((x : A) → is_from_minus least most (number x) ≡ true → (v : V) × (part v ≡ x)) → Values V
+  from_minus_values least most d number kept whole = record {
+    notation = Notation.from-minus least most n;
+    meaning = λ v. means (part v);
+    Premise = ProvedValues a n means × ProvedNumber d number means;
+    follows = λ o. constrained_exact (Denotes n) means (is_exact a o.0) (λ x. is_from_minus least most (number x)) (λ t. is_from_minus least most (tree_number t)) (λ x. ap (is_from_minus least most) (is_numbered d o.1 x)) true part kept whole;
   }
 
   abbrev pub other_than_values : (m : ℕ) (d : Numbered A) (number : A → ℤ) → ((v : V) → is_between m m (number (part v)) ≡ false) → ((x : A) → is_between m m (number x) ≡ false → (v : V) × (part v ≡ x)) → Values V

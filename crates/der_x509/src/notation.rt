@@ -12,7 +12,8 @@ use crate::{
 };
 use der_types::Exact;
 
-/// Each type has the notation that its module gives it. `specs/Notation.antt` has that notation as a term, below its text.
+/// Each type has exactly the values of the notation that its module gives it. `specs/Notation.antt` has that notation as a term, below
+/// its text.
 pub fn types()
     ensures algorithm_identifier { ⟦<AlgorithmIdentifier as Exact>⟧.values.notation ≡ notation.AlgorithmIdentifier }
     ensures attribute_type { ⟦<AttributeType as Exact>⟧.values.notation ≡ notation.AttributeType }
