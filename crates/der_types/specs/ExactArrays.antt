@@ -40,7 +40,7 @@ module _ {A : Type 0} (n : Notation) (means : A → Tree) (is : IsExact (Denotes
   all_there true ts r = (refl, refl)
   all_there false ts r = absurd r.0
 
-  array_exact : (k : ℕ) → IsExact (Denotes (Notation.sequence (repeated k n))) (array_meaning k means)
+  pub array_exact : (k : ℕ) → IsExact (Denotes (Notation.sequence (repeated k n))) (array_meaning k means)
   array_exact k = made_exact (Tree.list ListKind.sequence) (DenoteMembers (repeated k n)) (λ xs. if_as_many (length xs == k) (trees (map means xs)))
       (λ xs r.
       let there = all_there (length xs == k) (trees (map means xs)) r.1 in

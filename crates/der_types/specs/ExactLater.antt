@@ -12,10 +12,10 @@ use Rattle.der_types.specs.ExactMembers.{AreExact, MembersValues}
 
 module _ {E : Type 0} (bytes : E → List ℕ) (element : (s : List ℕ) → length s < 2 ^ 63 → (e : E) × (bytes e ≡ s)) where
   -- elements of these trees
-  Made : Trees → Type 0
+  abbrev Made : Trees → Type 0
   Made ts = (es : List E) × (length es ≡ member_count ts) × (others_of bytes es ≡ ts)
 
-  made_first : (s : List ℕ) (ts : Trees) → length s < 2 ^ 63 → Made ts → Made (Trees.more (Tree.raw s) ts)
+  abbrev made_first : (s : List ℕ) (ts : Trees) → length s < 2 ^ 63 → Made ts → Made (Trees.more (Tree.raw s) ts)
   made_first s ts short rest =
       let e = element s short in
       (e.0 ∷ rest.0, omega (arith, rest.1), ap (λ bs. Trees.more (Tree.raw bs) (others_of bytes rest.0)) e.1 ∙ ap (Trees.more (Tree.raw s)) rest.2)
