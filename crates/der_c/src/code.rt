@@ -3,7 +3,7 @@ ghost use Rattle.std.specs.Prelude.{◌≡◌};
 ghost use Rattle.der_c.specs.Codes.{error_code, rule_code};
 
 use der_show::Rule;
-use picky_asn1_der::Asn1DerError;
+use picky_der_core::Asn1DerError;
 
 /// Yes, or done.
 pub const PICKY_DER_OK: u32 = 0;
