@@ -21,6 +21,12 @@ _TERM_ORDER = [
     "Rattle.picky_der_de.specs.MembersFacts",
     "Rattle.der_types.specs.ContentsFacts",
     "Rattle.der_types.specs.Notation",
+    "Rattle.der_types.specs.Exact",
+    "Rattle.der_types.specs.ExactChoices",
+    "Rattle.der_types.specs.ExactContents",
+    "Rattle.der_types.specs.ExactDefaults",
+    "Rattle.der_types.specs.ExactEnumerated",
+    "Rattle.der_types.specs.ExactMembers",
 ]
 # how wide a line of imports of terms is
 _TERMS_WIDTH = 140
