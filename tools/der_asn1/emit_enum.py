@@ -17,6 +17,7 @@ _DEFAULTS = "Rattle.der_types.specs.ExactDefaults"
 _TERMS = {
     "Rattle.std.proofs.Common": {"lit≤"},
     PRELUDE: {"◌≡◌", "[]", "◌∷◌", "refl"},
+    "Rattle.picky_der_core.specs.Equality": {"IsKept"},
     _CONTENTS: {"contents_of", "contents_shape", "contents_facts"},
     "Rattle.der_types.specs.Notation": {"Notation"},
 }
@@ -97,7 +98,7 @@ def enum_lines(declared: EnumDeclaration, home: str) -> list[str]:
     return [
         *definition(declared),
         "",
-        *number_impl(declared),
+        *own_impl(declared),
         "",
         *contents_impl(declared, imported),
         "",
@@ -125,10 +126,15 @@ def definition(declared: EnumDeclaration) -> list[str]:
     return [*lines, "}"]
 
 
-def number_impl(declared: EnumDeclaration) -> list[str]:
-    """The number of a value, as a function."""
+def own_impl(declared: EnumDeclaration) -> list[str]:
+    """The law of copies, and the number of a value as a function."""
     return [
         f"impl {declared.name} {{",
+        f"{STEP}/// A copy is the same.",
+        f"{STEP}pub fn copies()",
+        f"{_TWO}ensures {{ IsKept ⟦<{declared.name} as Clone>⟧.is_clone (λ it. it) }}",
+        f"{STEP}{{}}",
+        "",
         f"{STEP}// The number of the value.",
         f"{STEP}fn number(self) -> u8",
         f"{_TWO}ensures {{ result ≡ {number_term(declared)} self }}",

@@ -13,6 +13,7 @@ PRELUDE = "Rattle.std.specs.Prelude"
 _TERM_ORDER = [
     "Rattle.std.proofs.Common",
     PRELUDE,
+    "Rattle.picky_der_core.specs.Equality",
     "Rattle.picky_der_core.specs.Shape",
     "Rattle.picky_der_de.specs.declared.alternatives.OneOf.TheVariants",
     "Rattle.picky_der_de.specs.declared.choice4.Choice4.TheVariants",

@@ -71,8 +71,9 @@ class Edit:
 
     def look_at(self, texts: Texts) -> None:
         """Finds `changed`, what the edit makes of each function of these texts that it changes or adds; `own`, the functions that it is
-        about; and `touched`, what no two edits that are tried at once may share. A function that it adds counts by its name alone there,
-        since the methods of a type may be in several files.
+        about; `laws`, the goals of laws that quote an implementation of which it changes or adds a function; and `touched`, what no two
+        edits that are tried at once may share. A function that it adds counts by its name alone there, since the methods of a type may be
+        in several files.
 
         It is about the function in its name, as about a law for what it adds; where there is none, about those that it changes or adds.
         """
@@ -83,6 +84,7 @@ class Edit:
         if not any(map(self.names, self.changed)) and not self.is_about(named, before, texts_after):
             raise BadEdit("the function in its name is none of those that it changes")
         self.own = sorted([it for it in named if it in old] or named or old or self.changed)
+        self.laws = {it: said for it, text in before.items() if it not in self.changed and (said := goals_about(text, {block for _, block, _ in self.changed}))}
         self.touched: set[tuple[str, ...]] = {*self.own, *self.changed, *(it[1:] for it in self.changed if it not in before)}
 
     def names(self, function: Function) -> bool:
@@ -104,6 +106,15 @@ class Edit:
         if any(it[:2] == (path, block) for it in self.changed):
             return block == called
         return not self.changed and block in blocks_of(after.get(path, ""))
+
+
+def goals_about(law: str, blocks: set[str]) -> set[str]:
+    """The goals of a law, by its text, whose clauses quote one of these implementations. A function with a body has none."""
+    if not law.endswith("{}"):
+        return set()
+    clauses = source.clauses(law)
+    names = [name for name, text in clauses if blocks & source.named_blocks(text)]
+    return {f"returns-clause-{it}" for it in names} | ({"returns"} if names else set())
 
 
 def file_of(module: str) -> str:

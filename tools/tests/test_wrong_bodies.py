@@ -127,6 +127,55 @@ class Verdicts(unittest.TestCase):
             self.assertEqual([], Said("mini", said).unread(), said)
 
 
+LAWS = """\
+#[derive(Clone, PartialEq)]
+pub struct Size(u8);
+#[derive(Clone)]
+pub struct Form(u8);
+pub fn copies()
+    ensures size { IsKept ⟦<Size as Clone>⟧.is_clone (λ size. size) }
+    ensures form { IsKept ⟦<Form as Clone>⟧.is_clone (λ form. form) }
+{}
+pub fn equality() ensures { IsEqualityOf ⟦<Size as PartialEq>⟧.eq (λ size. size) } {}
+"""
+BY_LAW = """\
+impl mini::SizeClone: proved
+fn mini::SizeClone::clone: proved
+impl mini::FormClone: proved
+fn mini::FormClone::clone: proved
+fn mini::copies: no proof: expected answers in ./proofs/copies/Answers.antt; `search` did not prove {}
+fn mini::equality: proved
+logic=not-proved
+"""
+
+
+class Laws(unittest.TestCase):
+    def edit(self, name: str, before: str, after: str, block: str) -> Edit:
+        """An edit that derives something no more and adds an implementation of it."""
+        it = Edit(f"lib.{name}", "src/lib.rt", [f"old: {before}", f"new: {after} {block}"])
+        it.look_at({"src/lib.rt": LAWS})
+        return it
+
+    def setUp(self) -> None:
+        self.size = self.edit("SizeClone-clone.is_zero", "#[derive(Clone, PartialEq)]", "#[derive(PartialEq)]", "impl Clone for Size { fn clone(&self) -> Size { Size(0) } }")
+        self.form = self.edit("FormClone-clone.is_zero", "#[derive(Clone)]", "", "impl Clone for Form { fn clone(&self) -> Form { Form(0) } }")
+
+    def judged(self, goals: str, it: Edit, *others: Edit) -> tuple[str, str, list[Edit]]:
+        """The verdict on an edit that is tried with others."""
+        return judge(Said("mini", BY_LAW.format(goals)), it, [it, *others])
+
+    def test_a_law_refuses_what_its_clause_quotes(self) -> None:
+        self.assertEqual(("refused", "returns-clause-size of copies", []), self.judged("`returns-clause-size`", self.size, self.form))
+        self.assertEqual("survives", self.judged("`returns-clause-size`", self.form, self.size)[0])
+
+    def test_a_law_that_quotes_two_of_them(self) -> None:
+        self.assertEqual(("waits", "", [self.form]), self.judged("`returns`", self.size, self.form))
+        self.assertEqual(("refused", "returns of copies", []), self.judged("`returns`", self.size))
+
+    def test_a_law_that_is_proved(self) -> None:
+        self.assertEqual("survives", judge(Said("mini", BY_LAW.replace("no proof", "proved").split(";")[0] + "\n"), self.size, [self.size])[0])
+
+
 class FakeCrate:
     """A crate whose checker is a table: a text in the file, and what is said if it is there."""
 

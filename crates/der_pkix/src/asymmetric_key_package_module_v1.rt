@@ -3,6 +3,7 @@
 //! Types of AsymmetricKeyPackageModuleV1.
 ghost use Rattle.std.proofs.Common.{lit≤};
 ghost use Rattle.std.specs.Prelude.{[], refl, ◌∷◌, ◌≡◌};
+ghost use Rattle.picky_der_core.specs.Equality.{IsKept};
 ghost use Rattle.picky_der_de.specs.MembersFacts.{sequence_of, sequence_shape, struct_facts};
 ghost use Rattle.der_types.specs.ContentsFacts.{contents_facts, contents_of, contents_shape};
 ghost use Rattle.der_types.specs.Notation.{Notation};
@@ -159,6 +160,11 @@ pub enum KeyVersion {
 }
 
 impl KeyVersion {
+    /// A copy is the same.
+    pub fn copies()
+        ensures { IsKept ⟦<KeyVersion as Clone>⟧.is_clone (λ it. it) }
+    {}
+
     // The number of the value.
     fn number(self) -> u8
         ensures { result ≡ key_version_number self }

@@ -3,6 +3,7 @@
 //! Types of PKIXAttributeCertificate-2008.
 ghost use Rattle.std.proofs.Common.{lit≤};
 ghost use Rattle.std.specs.Prelude.{[], refl, ◌∷◌, ◌≡◌};
+ghost use Rattle.picky_der_core.specs.Equality.{IsKept};
 ghost use Rattle.picky_der_core.specs.Shape.{Shape};
 ghost use Rattle.picky_der_de.specs.declared.alternatives.OneOf.TheVariants.{Other, This};
 ghost use Rattle.picky_der_de.specs.ChoiceFacts.{choice_facts};
@@ -247,6 +248,11 @@ pub enum DigestedObjectType {
 }
 
 impl DigestedObjectType {
+    /// A copy is the same.
+    pub fn copies()
+        ensures { IsKept ⟦<DigestedObjectType as Clone>⟧.is_clone (λ it. it) }
+    {}
+
     // The number of the value.
     fn number(self) -> u8
         ensures { result ≡ digested_object_type_number self }

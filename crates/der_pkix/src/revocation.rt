@@ -3,6 +3,7 @@
 //! Types of PKIX1Implicit88.
 ghost use Rattle.std.proofs.Common.{lit≤};
 ghost use Rattle.std.specs.Prelude.{[], refl, ◌∷◌, ◌≡◌};
+ghost use Rattle.picky_der_core.specs.Equality.{IsKept};
 ghost use Rattle.picky_der_core.specs.Shape.{Shape};
 ghost use Rattle.picky_der_de.specs.declared.alternatives.OneOf.TheVariants.{Other, This};
 ghost use Rattle.picky_der_de.specs.ChoiceFacts.{choice_facts};
@@ -383,6 +384,11 @@ pub enum CrlReason {
 }
 
 impl CrlReason {
+    /// A copy is the same.
+    pub fn copies()
+        ensures { IsKept ⟦<CrlReason as Clone>⟧.is_clone (λ it. it) }
+    {}
+
     // The number of the value.
     fn number(self) -> u8
         ensures { result ≡ crl_reason_number self }

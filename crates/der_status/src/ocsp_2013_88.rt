@@ -3,6 +3,7 @@
 //! Types of OCSP-2013-88.
 ghost use Rattle.std.proofs.Common.{lit≤};
 ghost use Rattle.std.specs.Prelude.{[], refl, ◌∷◌, ◌≡◌};
+ghost use Rattle.picky_der_core.specs.Equality.{IsKept};
 ghost use Rattle.picky_der_core.specs.Shape.{Shape};
 ghost use Rattle.picky_der_de.specs.declared.alternatives.OneOf.TheVariants.{Other, This};
 ghost use Rattle.picky_der_de.specs.ChoiceFacts.{choice_facts};
@@ -132,6 +133,11 @@ pub enum OcspResponseStatus {
 }
 
 impl OcspResponseStatus {
+    /// A copy is the same.
+    pub fn copies()
+        ensures { IsKept ⟦<OcspResponseStatus as Clone>⟧.is_clone (λ it. it) }
+    {}
+
     // The number of the value.
     fn number(self) -> u8
         ensures { result ≡ ocsp_response_status_number self }

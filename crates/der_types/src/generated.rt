@@ -4,6 +4,7 @@
 mod bit_string;
 pub mod character_sets;
 mod enumerated;
+pub mod equality;
 mod generalized_time;
 pub mod in_range;
 mod integer;

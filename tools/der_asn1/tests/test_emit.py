@@ -177,7 +177,14 @@ class AsByHand(unittest.TestCase):
             unauthorized(6) }"""
         variants = "Successful MalformedRequest InternalError TryLater SigRequired Unauthorized".split()
         changes = [*((f"| {it} ↦", f"| status.{it} ↦") for it in variants), ("response_status_number", "status_number"), ("is_response_status", "is_status"), ("same_response_status", "same_status")]
-        self.check(body, "ResponseStatus", "der_examples/src/response_status.rt", replaced=changes)
+        law = """    /// A copy is the same.
+    pub fn copies()
+        ensures { IsKept ⟦<ResponseStatus as Clone>⟧.is_clone (λ it. it) }
+    {}
+
+"""
+        self.assertIn(law, as_by_hand(crate_of(body, "ResponseStatus"), "ResponseStatus"))
+        self.check(body, "ResponseStatus", "der_examples/src/response_status.rt", replaced=[*changes, (law, "")])
 
     def test_the_terms_of_an_enumeration(self):
         body = """ResponseStatus ::= ENUMERATED { successful(0), malformedRequest(1), internalError(2), tryLater(3), sigRequired(5),
@@ -419,7 +426,15 @@ class Values(unittest.TestCase):
     def test_their_file(self):
         one = given("id-at OBJECT IDENTIFIER ::= { 2 5 4 }")
         lines = emit_values.value_file(emit_values.values_of(one.program, one.program.modules))
-        self.assertEqual(["", "/// `id-at`, 2.5.4.", "pub const ID_AT: &[u8] = &[0x55, 0x04];"], lines[1:])
+        self.assertEqual(["", "/// `id-at`, 2.5.4.", "pub const ID_AT: &[u8] = &[0x55, 0x04];"], lines[3:6])
+        self.assertEqual(["pub fn arcs()", "    ensures id_at { arcs_of ID_AT.now ≡ 2 ∷ 5 ∷ 4 ∷ [] }", "{}"], lines[8:])
+
+    def test_the_law_of_their_arcs(self):
+        one = given("data OBJECT IDENTIFIER ::= { 2 5 4 }\nid-a-name-of-several-words-that-fills-a-line OBJECT IDENTIFIER ::= { 1 2 840 113549 1 9 16 1 2 }")
+        lines = emit_values.arcs_law(emit_values.values_of(one.program, one.program.modules))
+        self.assertEqual("    ensures data_ { arcs_of DATA.now ≡ 2 ∷ 5 ∷ 4 ∷ [] }", lines[2])
+        broken = "    ensures id_a_name_of_several_words_that_fills_a_line { arcs_of ID_A_NAME_OF_SEVERAL_WORDS_THAT_FILLS_A_LINE.now"
+        self.assertEqual([broken, "        ≡ 1 ∷ 2 ∷ 840 ∷ 113549 ∷ 1 ∷ 9 ∷ 16 ∷ 1 ∷ 2 ∷ [] }"], lines[3:5])
 
 
 class Files(unittest.TestCase):
