@@ -57,7 +57,7 @@ class Said:
         return fits[0] if fits else None
 
     def impls(self, edit: Edit) -> list[str]:
-        """The implementation in the name of an edit that is about no function, as about a law, or the constant of one; and its functions."""
+        """What the name of an edit is the name of: a function, or an implementation or the constant of one, and its functions."""
         file, called = edit.name.split(".")[:2]
         label = "::".join([self.crate, *source.module_of(file_of(file)), *called.split("-")])
         return [it for it in self.status if it == label or it.startswith(f"{label}::")]
@@ -116,7 +116,7 @@ def by_laws(said: Said, edit: Edit, batch: list[Edit]) -> tuple[list[str], list[
 def judge(said: Said, edit: Edit, batch: list[Edit]) -> tuple[str, str, list[Edit]]:
     """What the checker's words say of an edit: the verdict, the reason, and the edits without which to try it again. Where its own
     functions don't refuse it, a law may."""
-    labels = [it for it in map(said.label, edit.own) if it] or said.impls(edit)
+    labels = list(dict.fromkeys([*filter(None, map(said.label, edit.own)), *said.impls(edit)]))
     labels += [it for it in said.status if it in {label.rpartition("::")[0] for label in labels}]
     goals: list[str] = []
     names: list[str] = []

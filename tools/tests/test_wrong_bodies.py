@@ -105,6 +105,11 @@ class Verdicts(unittest.TestCase):
         self.assertEqual(("refused", "returns"), verdict(CLAUSE, *IS_HUGE))
         self.assertEqual(("survives", ""), verdict(PROVED, *IS_HUGE))
 
+    def test_an_implementation_that_is_added(self) -> None:
+        added = "impl Clone for Step { fn clone(&self) -> Step { Step } } impl Inhabited for Step { ghost example = { e }; } impl Formed for u8 {"
+        said = PROVED + "impl mini::StepClone: proved\nfn mini::StepClone::clone: proved\nimpl mini::StepInhabited: not proved; antt refuses `example-value` in `X`\n"
+        self.assertEqual(("refused", "example-value"), verdict(said, "StepInhabited.is_empty", "impl Formed for u8 {", added))
+
     def test_nothing_is_said_of_the_function(self) -> None:
         self.assertEqual("bad", verdict("logic=not-proved\n", *IS_3)[0])
 

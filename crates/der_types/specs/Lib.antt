@@ -31,6 +31,7 @@ pub mod ExactTimes
 pub mod GeneralizedTimeLaws
 pub mod GeneralizedTimes
 pub mod MadeValues
+pub mod Names
 pub mod Notation
 pub mod NotationForms
 pub mod NotationLaws

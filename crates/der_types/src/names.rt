@@ -1,5 +1,6 @@
 //! Object identifiers in common use, by their contents. Comparing with one allocates nothing: `oid.is(names::KEY_USAGE)`.
-ghost use Rattle.std.specs.Prelude.{◌≡◌, ◌≢◌, [], ◌∷◌, All, Any, IfSome, IfNone};
+ghost use Rattle.std.specs.Prelude.{◌≡◌, [], ◌∷◌, map, option_map};
+ghost use Rattle.der_types.specs.Names.{name_in, name_of};
 ghost use Rattle.der_types.specs.ObjectIdentifier.{arcs_of};
 
 // The attributes of names (RFC 5280, A.1).
@@ -340,8 +341,8 @@ pub fn arcs()
     ensures sha224 { arcs_of SHA224.now ≡ 2 ∷ 16 ∷ 840 ∷ 1 ∷ 101 ∷ 3 ∷ 4 ∷ 2 ∷ 4 ∷ [] }
 {}
 
-// Each attribute of a name with its name.
-static ATTRIBUTES: [(&[u8], &str); 18] = [
+// Each of them with its name.
+static NAMES: [(&[u8], &str); 78] = [
     (COMMON_NAME, "commonName"),
     (SURNAME, "surname"),
     (SERIAL_NUMBER, "serialNumber"),
@@ -360,10 +361,6 @@ static ATTRIBUTES: [(&[u8], &str); 18] = [
     (PSEUDONYM, "pseudonym"),
     (DOMAIN_COMPONENT, "domainComponent"),
     (EMAIL_ADDRESS, "emailAddress"),
-];
-
-// Each extension with its name.
-static EXTENSIONS: [(&[u8], &str); 20] = [
     (SUBJECT_KEY_IDENTIFIER, "subjectKeyIdentifier"),
     (KEY_USAGE, "keyUsage"),
     (SUBJECT_ALT_NAME, "subjectAltName"),
@@ -384,10 +381,6 @@ static EXTENSIONS: [(&[u8], &str); 20] = [
     (INHIBIT_ANY_POLICY, "inhibitAnyPolicy"),
     (AUTHORITY_INFO_ACCESS, "authorityInfoAccess"),
     (SUBJECT_INFO_ACCESS, "subjectInfoAccess"),
-];
-
-// Each purpose, and each way to reach an authority, with its name.
-static PURPOSES: [(&[u8], &str); 8] = [
     (SERVER_AUTH, "serverAuth"),
     (CLIENT_AUTH, "clientAuth"),
     (CODE_SIGNING, "codeSigning"),
@@ -396,10 +389,6 @@ static PURPOSES: [(&[u8], &str); 8] = [
     (OCSP_SIGNING, "OCSPSigning"),
     (OCSP, "ocsp"),
     (CA_ISSUERS, "caIssuers"),
-];
-
-// Each content of CMS, and each attribute of one and of a request, with its name.
-static CONTENTS: [(&[u8], &str); 8] = [
     (DATA, "data"),
     (SIGNED_DATA, "signedData"),
     (ENVELOPED_DATA, "envelopedData"),
@@ -408,10 +397,6 @@ static CONTENTS: [(&[u8], &str); 8] = [
     (SIGNING_TIME, "signingTime"),
     (CHALLENGE_PASSWORD, "challengePassword"),
     (EXTENSION_REQUEST, "extensionRequest"),
-];
-
-// Each algorithm, curve and digest with its name.
-static ALGORITHMS: [(&[u8], &str); 24] = [
     (RSA_ENCRYPTION, "rsaEncryption"),
     (SHA1_WITH_RSA_ENCRYPTION, "sha1WithRSAEncryption"),
     (MGF1, "mgf1"),
@@ -438,11 +423,17 @@ static ALGORITHMS: [(&[u8], &str); 24] = [
     (SHA224, "sha224"),
 ];
 
-// The name in the table for this content, or `None`.
+/// Returns the name of the object identifier with this content, as `commonName`, or `None` if it isn't one of the constants of this module.
+pub fn name_of(content: &[u8]) -> Option<&'static str>
+    ensures { option_map (λ name. name.now) result ≡ name_of content.now }
+{
+    name_in(&NAMES, content)
+}
+
+// The name beside this content in the table, or `None`.
 fn name_in<'a>(table: &[(&[u8], &'a str)], content: &[u8]) -> Option<&'a str>
-    ensures some { IfSome result (λ name. Any (λ entry. (entry.0.now ≡ content.now)
-        × (entry.1.now ≡ name.now)) table.now) }
-    ensures none { IfNone result (All (λ entry. entry.0.now ≢ content.now) table.now) }
+    ensures { option_map (λ name. name.now) result
+        ≡ name_in (map (λ entry. (entry.0.now, entry.1.now)) table.now) content.now }
 {
     for (known, name) in table {
         if *known == content {
@@ -450,13 +441,4 @@ fn name_in<'a>(table: &[(&[u8], &'a str)], content: &[u8]) -> Option<&'a str>
         }
     }
     None
-}
-
-/// Returns the name of the object identifier with this content, as `commonName`, or `None` if it isn't one of the constants of this module.
-pub fn name_of(content: &[u8]) -> Option<&'static str> {
-    name_in(&ATTRIBUTES, content)
-        .or_else(|| name_in(&EXTENSIONS, content))
-        .or_else(|| name_in(&PURPOSES, content))
-        .or_else(|| name_in(&CONTENTS, content))
-        .or_else(|| name_in(&ALGORITHMS, content))
 }
