@@ -2,6 +2,7 @@
 use Rattle.std.proofs.Common.{◌≡◌, ℕ, ◌+◌, ◌/◌, ◌%◌, ◌^◌, ◌<◌, ◌≤◌, ◌==◌, Bool, true, false, ◌&&◌, List, [], ◌∷◌, ◌++◌, length, Option, Some, None, inl, refl, sym, ap, subst, ◌∙◌, arith, append_assoc, append-nil, eqb-true, eq-eqb, ltb-true, pos, true≢false}
 use Rattle.std.specs.Prelude.{not, nat_lt, slice_index, MatchOption}
 use Rattle.std.specs.List.{AllByRecursion, list_all, concat}
+use Rattle.std.proofs.lemmas.Bool.{and_parts}
 use Rattle.std.proofs.lemmas.Str.{is_utf8-from_IsUtf8}
 use Rattle.picky_der_core.specs.declared.asn1.wrapper.Wrapper.{Wrapper}
 use Rattle.picky_der_core.specs.declared.asn1.wrapper.Wrapper.TheVariants.{OctetContainer, BitContainer, Explicit, Implicit, Application, ImplicitList}
@@ -99,10 +100,6 @@ differs tag k less = by_test (tag == k) refl
     by_test true e = absurd (omega (arith, eqb-true tag k e))
     by_test false e = refl
 
-and_parts : (a b : Bool) → (a && b) ≡ true → (a ≡ true) × (b ≡ true)
-and_parts true b h = (refl, h)
-and_parts false b h = (cc, cc)
-
 -- no rule of forms is about such a tag
 module _ (tag : ℕ) (h : 0x40 ≤ tag) where
   not_listed : (xs : List ℕ) → list_all (λ x. nat_lt x 0x40) xs ≡ true → contains xs tag ≡ false
@@ -112,7 +109,7 @@ module _ (tag : ℕ) (h : 0x40 ≤ tag) where
       let less : x < 0x40 = ltb-true x 0x40 parts.0 in
       rw (differs tag x (omega arith)) (not_listed xs parts.1)
 
-  other_form : form_rule tag ≡ None
+  pub other_form : form_rule tag ≡ None
   other_form =
       let n : (k : ℕ) → k < 0x40 → (tag == k) ≡ false = λ k less. differs tag k (omega arith) in
       let alone = not_listed primitive_alone refl in
@@ -120,7 +117,7 @@ module _ (tag : ℕ) (h : 0x40 ≤ tag) where
       rw (n 0x00 (omega arith), n 0x20 (omega arith), alone, parts, n 0x08 (omega arith), n 0x0B (omega arith), n 0x10 (omega arith), n 0x11 (omega arith), n 0x1D (omega arith)) refl
 
 -- nor one of primitive contents about a constructed one
-other_rule : (tag : ℕ) (content : List ℕ) → 0x20 ≤ tag → primitive_rule tag content ≡ None
+pub other_rule : (tag : ℕ) (content : List ℕ) → 0x20 ≤ tag → primitive_rule tag content ≡ None
 other_rule tag content h =
     let n : (k : ℕ) → k < 0x20 → (tag == k) ≡ false = λ k less. differs tag k (omega arith) in
     rw (n 0x01 (omega arith), n 0x02 (omega arith), n 0x0A (omega arith), n 0x03 (omega arith), n 0x05 (omega arith), n 0x06 (omega arith), n 0x0D (omega arith), n 0x17 (omega arith), n 0x18 (omega arith), n 0x0C (omega arith), n 0x1C (omega arith), n 0x1E (omega arith)) refl
@@ -145,7 +142,7 @@ module _ where
   ascending_ordered [] all up = none_ordered Encodings [] nothing_begins
   ascending_ordered (m ∷ ms) all up = (begun Encodings m (concat (m ∷ ms)) (concat ms) refl all.0).ordered (ascending_from m ms all.1 up)
 
-number_rule : (content : List ℕ) → is_integer content ≡ true → integer_rule content ≡ None
+pub number_rule : (content : List ℕ) → is_integer content ≡ true → integer_rule content ≡ None
 number_rule [] e = cc
 number_rule (b ∷ bs) e = rw e refl
 
