@@ -6,8 +6,12 @@ from .layout import STEP, WIDTH, comment, signature
 
 _TWO = STEP * 2
 
-_TERMS = {PRELUDE: {"refl"}, "Rattle.picky_der_de.specs.Facts": {"facts_as"}}
-_NAMES = "ReadExt WriteExt Via Deserialize Deserializer Result Serialize Serializer deserialize_as Begins Tag Notated".split()
+_TERMS = {
+    PRELUDE: {"refl"},
+    "Rattle.picky_der_de.specs.Facts": {"facts_as"},
+    "Rattle.der_types.specs.Exact": {"newtype_values"},
+}
+_NAMES = "ReadExt WriteExt Via Deserialize Deserializer Result Serialize Serializer deserialize_as Begins Tag Notated Exact".split()
 
 
 def newtype_uses(declared: NewtypeDeclaration) -> Uses:
@@ -29,6 +33,8 @@ def newtype_lines(declared: NewtypeDeclaration) -> list[str]:
         *begins_impl(declared),
         "",
         *notated_impl(declared),
+        "",
+        *exact_impl(declared),
     ]
 
 
@@ -109,5 +115,18 @@ def notated_impl(declared: NewtypeDeclaration) -> list[str]:
         f"{STEP}ghost notation = {{ {quoted(declared, 'Notated')}.notation }};",
         "",
         f"{STEP}ghost denoted = {{ refl }};",
+        "}",
+    ]
+
+
+def exact_impl(declared: NewtypeDeclaration) -> list[str]:
+    """The implementation of `Exact`: the type inside is exact."""
+    facts = " ".join(f"{quoted(declared, trait)}.{name}" for trait, name in (("Exact", "values"), ("Notated", "notation"), ("Serialize", "meaning")))
+    return [
+        f"impl Exact for {declared.name} {{",
+        f"{STEP}ghost values = {{ newtype_values {facts}",
+        f"{_TWO}(λ it. it.0) (λ x. (record {{ 0 = x }}, refl)) }};",
+        "",
+        f"{STEP}ghost exact = {{ Prim.assumption }};",
         "}",
     ]

@@ -81,9 +81,14 @@ impl Notated for Setting {
 }
 
 impl Exact for Setting {
-    ghost values = { choice_values ⟦<Parts as ExactAlternatives>⟧.chosen_values ⟦<Parts as NotatedAlternatives>⟧.alternatives_notation
-        ⟦<Parts as Alternatives>⟧.chosen ⟦<Self as Choice>⟧.parts
-        (elim [ This n ↦ (Number n, refl) | Other (This s) ↦ (Text s, refl) | Other (Other (This x)) ↦ (Numbers x, refl) | Other (Other (Other v)) ↦ elim v [ ] ]) };
+    ghost values = { choice_values ⟦<Parts as ExactAlternatives>⟧.chosen_values
+        ⟦<Parts as NotatedAlternatives>⟧.alternatives_notation ⟦<Parts as Alternatives>⟧.chosen ⟦<Self as Choice>⟧.parts
+        (elim [
+          | This x ↦ (Number x, refl)
+          | Other (This x) ↦ (Text x, refl)
+          | Other (Other (This x)) ↦ (Numbers x, refl)
+          | Other (Other (Other x)) ↦ elim x [ ]
+        ]) };
 
     ghost exact = { Prim.assumption };
 }
