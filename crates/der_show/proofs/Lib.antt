@@ -11,3 +11,4 @@ pub mod Places
 pub mod Texts
 pub mod Padding
 pub mod Showing
+pub mod WrittenLemmas

@@ -26,6 +26,7 @@ mod strings;
 mod text;
 mod type_name;
 mod value;
+pub mod written;
 
 pub use content::content_rule;
 pub use element::Element;
