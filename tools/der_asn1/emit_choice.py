@@ -65,10 +65,13 @@ def choice_uses(declared: ChoiceDeclaration) -> Uses:
 
 def choice_lines(declared: ChoiceDeclaration, names: PrivateNames, home: str) -> list[str]:
     """The items of a choice. `home` is the module of terms of the types of its file."""
+    return [*definition(declared), "", *choice_impls(declared, names, home), "", *notated_impl(declared, names.of(declared, "Parts"))]
+
+
+def choice_impls(declared: ChoiceDeclaration, names: PrivateNames, home: str) -> list[str]:
+    """What each choice has, but for its definition."""
     parts, variants = names.of(declared, "Parts"), variants_import(declared, home)
     return [
-        *definition(declared),
-        "",
         *type_lines("", f"type {parts} = ", str(parts_type([it.type for it in declared.variants])), ";"),
         "",
         *choice_impl(declared, parts, variants),
@@ -78,8 +81,6 @@ def choice_lines(declared: ChoiceDeclaration, names: PrivateNames, home: str) ->
         *deserialize_impl(declared, parts, variants),
         "",
         *begins_impl(declared, parts),
-        "",
-        *notated_impl(declared, parts),
     ]
 
 

@@ -1,0 +1,209 @@
+"""The files that `derive` writes for a Rust file: the implementations, the terms of enumerations, and the proofs of choices."""
+import re
+from dataclasses import dataclass
+from pathlib import Path
+
+from .declarations import ChoiceDeclaration, Declaration, EnumDeclaration, StructDeclaration, TestedDeclaration
+from .derived_types import Derived, derived_types, determined
+from .emit_choice import choice_impls, choice_uses, notated_impl as choice_notated, serialize_answers
+from .emit_enum import enum_impls, enum_uses, notated_impl as enum_notated, terms_file
+from .emit_exact import choice_exact, exact_uses, faithful_impl, faithful_uses, struct_exact
+from .emit_imports import Uses
+from .emit_newtype import newtype_impls, newtype_uses, notated_impl as newtype_notated
+from .emit_struct import notated_impl as struct_notated, struct_impls, struct_uses, tuple_names
+from .emit_tested import tested_impls, tested_uses
+from .folder import NOTE
+from .private_names import PrivateNames
+from .rust_items import RustFile, read_items
+from .wording import joined
+
+# the module of what is written, below that of the file
+MODULE = "derived"
+_NOTATED = frozenset(("Notated", "NotatedMembers", "NotatedAlternatives", "Notation"))
+# names of the library that the compiler has no use for, by their modules
+_HOMES = {
+    **dict.fromkeys(("Constrained", "Exact", "ExactAlternatives", "ExactMembers", "deserialize_constrained_as"), "der_types"),
+    **dict.fromkeys(("Faithful", "FaithfulAlternatives", "FaithfulMembers"), "picky_asn1_der::de"),
+    "Element": "picky_asn1_der::ser",
+}
+_GHOST_USE = re.compile(r"^ghost use (\S+)\.\{([^}]*)\};", re.M)
+
+
+@dataclass(frozen=True)
+class Place:
+    """Where a file is: its crate, the folder of the crate, and the names of its module."""
+
+    crate: str
+    folder: Path
+    module: tuple[str, ...]
+
+    @property
+    def source(self) -> str:
+        """The path of the file in its crate."""
+        return f"src/{'/'.join(self.module)}.rt"
+
+    @property
+    def terms(self) -> str:
+        """The name of the file of its terms."""
+        return joined("_".join(self.module))
+
+    @property
+    def home(self) -> str:
+        """The module of terms of the types of the file."""
+        return f"Rattle.{self.crate}.specs.declared.{'.'.join(self.module)}"
+
+
+class DerivedNames(PrivateNames):
+    """Names of the parts of types, which begin with the type's name if the file has several."""
+
+    def __init__(self, taken: set[str], is_one: bool) -> None:
+        super().__init__(taken)
+        self.is_one = is_one
+
+    def of(self, declared: Declaration, suffix: str) -> str:
+        """The name of a part: `Members` for the parts of a struct."""
+        called = suffix.replace("Parts", "Members") if isinstance(declared, StructDeclaration) else suffix
+        return self.numbered(called if self.is_one else f"{declared.name}{called}")
+
+
+def derived_files(place: Place, path: str, text: str) -> dict[str, str]:
+    """The texts of the files that are written for a file, by their paths in the crate."""
+    file = read_items(path, text)
+    if MODULE not in file.modules:
+        raise file.source.error(1, f"the file doesn't have the line `mod {MODULE};`")
+    types = derived_types(file, place.source)
+    if not types:
+        raise file.source.error(1, "the file has no struct or enum")
+    check(file, types)
+    folder = "/".join(place.module)
+    found = {f"src/{folder}/{MODULE}.rt": whole(place, "//!", implementations(place, file, types))}
+    declarations = [it.declaration for it in types]
+    for it in declarations:
+        answers = serialize_answers(it, place.crate, f"{'.'.join(place.module)}.{MODULE}") if isinstance(it, ChoiceDeclaration) else []
+        if answers:
+            found[f"proofs/{folder}/{MODULE}/{it.name}Serialize/serialize/Answers.antt"] = whole(place, "--", answers)
+    enumerations = [it for it in declarations if isinstance(it, EnumDeclaration)]
+    if enumerations:
+        stems = dict.fromkeys([it.name for it in enumerations], ".".join(place.module))
+        found[f"specs/{place.terms}.antt"] = whole(place, "--", terms_file(enumerations, place.crate, stems))
+    return found
+
+
+def whole(place: Place, mark: str, lines: list[str]) -> str:
+    """The text of a file: a note that says what it is made from, and its lines."""
+    return "\n".join([f"{mark} {NOTE} derive from {place.source}. Don't edit.", *lines]) + "\n"
+
+
+def check(file: RustFile, types: list[Derived]) -> None:
+    """Refuses what can't be written: a type whose name the implementations need, and a test without a known proof."""
+    for it in types:
+        declared = it.declaration
+        used = uses_of(it, Place("", Path(), ("",))).names
+        hidden = used & ({one.name for one in file.items} | file.names) & (set(_HOMES) | {"Tag", "Choice", "Struct", "Sequence", "Result"})
+        if hidden:
+            raise file.source.error(declared.place.line, f"a type can't be called `{min(hidden)}`, which the library has")
+        if isinstance(declared, TestedDeclaration) and determined(declared) is None:
+            wanted = f"`{declared.part}` as a number, or `{declared.part}.content.items`"
+            raise file.source.error(declared.place.line, f"the test of `{declared.name}` may be about {wanted} alone: implement `Constrained` by hand")
+
+
+def uses_of(it: Derived, place: Place) -> Uses:
+    """What the items of a type name, with the type itself."""
+    declared = it.declaration
+    if isinstance(declared, StructDeclaration):
+        found = struct_uses(declared)
+    elif isinstance(declared, ChoiceDeclaration):
+        found = choice_uses(declared)
+    elif isinstance(declared, EnumDeclaration):
+        found = enum_uses(declared, place.crate, place.terms)
+    else:
+        found = tested_uses(declared) if isinstance(declared, TestedDeclaration) else newtype_uses(declared)
+    if not it.notated:
+        found.names -= _NOTATED
+        found.terms = {home: names - _NOTATED for home, names in found.terms.items() if names - _NOTATED}
+    if it.exact:
+        found.add(exact_uses(declared))
+    if it.faithful:
+        found.add(faithful_uses(declared))
+    found.add(Uses({declared.name}))
+    return found
+
+
+def implementations(place: Place, file: RustFile, types: list[Derived]) -> list[str]:
+    """The lines of the file of implementations, after its first one."""
+    own = file.names | {it.name for it in file.items}
+    homes = {**_HOMES, **{name: absolute(path, place) for name, path in file.imports.items()}, **dict.fromkeys(own, "super")}
+    names = DerivedNames({*homes}, len(types) == 1)
+    uses, body = Uses(), []
+    for it in types:
+        uses.add(uses_of(it, place))
+        uses.add(test_uses(it, file))
+        body += ["", *items_of(it, place, names)]
+    shown = ", ".join(f"`{it.declaration.name}`" for it in types)
+    return ["//!", f"//! How {shown} {'is' if len(types) == 1 else 'are'} written and read.", *uses.term_lines(), "", *uses.rust_lines(homes, set()), *body]
+
+
+def absolute(path: str, place: Place) -> str:
+    """The path of an import of the file, as another module may write it."""
+    first, _, rest = path.partition("::")
+    if first not in ("self", "super"):
+        return path
+    above = ["crate", *(place.module if first == "self" else place.module[:-1])]
+    return "::".join([*above, *([rest] if rest else [])])
+
+
+def test_uses(it: Derived, file: RustFile) -> Uses:
+    """The terms that a test names, from where the file has them."""
+    found = Uses()
+    if isinstance(it.declaration, TestedDeclaration):
+        for home, names in _GHOST_USE.findall(file.source.text):
+            used = {name.strip() for name in names.split(",") if is_in(name.strip(), it.declaration.test)}
+            found.add(Uses(terms={home: used} if used else {}))
+    return found
+
+
+def is_in(name: str, term: str) -> bool:
+    """Whether a term has this name, which may be an operator with `◌` for each operand."""
+    parts = [part for part in name.split("◌") if part]
+    return bool(parts) and all(re.search(rf"(?<![\w-]){re.escape(part)}(?![\w-])" if re.match(r"\w", part) else re.escape(part), term) for part in parts)
+
+
+def items_of(it: Derived, place: Place, names: PrivateNames) -> list[str]:
+    """The items of a type, but for its definition."""
+    declared = it.declaration
+    if isinstance(declared, StructDeclaration):
+        return struct_items(it, names)
+    if isinstance(declared, ChoiceDeclaration):
+        return choice_items(it, place, names)
+    if isinstance(declared, EnumDeclaration):
+        imported = [f"    ghost use {place.home}.{declared.name}.TheVariants as variants;", ""]
+        return [*enum_impls(declared, place.home), *after_a_line(enum_notated(declared, imported) if it.notated else [])]
+    impls = tested_impls(declared) if isinstance(declared, TestedDeclaration) else newtype_impls(declared)
+    return [*impls, *after_a_line(newtype_notated(declared) if it.notated else [])]
+
+
+def struct_items(it: Derived, names: PrivateNames) -> list[str]:
+    """The items of a struct."""
+    declared, members = it.declaration, tuple_names(it.declaration, names)[0]
+    return [
+        *struct_impls(declared, names),
+        *after_a_line(struct_notated(declared, members) if it.notated else []),
+        *after_a_line(struct_exact(declared, members) if it.exact else []),
+        *after_a_line(faithful_impl(declared, members, "") if it.faithful else []),
+    ]
+
+
+def choice_items(it: Derived, place: Place, names: PrivateNames) -> list[str]:
+    """The items of a choice."""
+    declared, parts = it.declaration, names.of(it.declaration, "Parts")
+    return [
+        *choice_impls(declared, names, place.home),
+        *after_a_line(choice_notated(declared, parts) if it.notated else []),
+        *after_a_line(choice_exact(declared, parts, place.home) if it.exact else []),
+        *after_a_line(faithful_impl(declared, parts, place.home) if it.faithful else []),
+    ]
+
+
+def after_a_line(lines: list[str]) -> list[str]:
+    """These lines after an empty one, if there are any."""
+    return ["", *lines] if lines else []
