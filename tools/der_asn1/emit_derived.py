@@ -54,16 +54,17 @@ class Place:
 
 
 class DerivedNames(PrivateNames):
-    """Names of the parts of types, which begin with the type's name if the file has several."""
+    """Names of the parts of types: `Members` and `Parts` in a file of one type, and otherwise after the type's name."""
 
     def __init__(self, taken: set[str], is_one: bool) -> None:
         super().__init__(taken)
         self.is_one = is_one
 
     def of(self, declared: Declaration, suffix: str) -> str:
-        """The name of a part: `Members` for the parts of a struct."""
-        called = suffix.replace("Parts", "Members") if isinstance(declared, StructDeclaration) else suffix
-        return self.numbered(called if self.is_one else f"{declared.name}{called}")
+        """The name of a part."""
+        if not self.is_one:
+            return super().of(declared, suffix)
+        return self.numbered(suffix.replace("Parts", "Members") if isinstance(declared, StructDeclaration) else suffix)
 
 
 def derived_files(place: Place, path: str, text: str) -> dict[str, str]:
@@ -109,15 +110,15 @@ def check(file: RustFile, types: list[Derived]) -> None:
 
 def uses_of(it: Derived, place: Place) -> Uses:
     """What the items of a type name, with the type itself."""
-    declared = it.declaration
+    declared, found = it.declaration, Uses()
     if isinstance(declared, StructDeclaration):
-        found = struct_uses(declared)
+        found.add(struct_uses(declared))
     elif isinstance(declared, ChoiceDeclaration):
-        found = choice_uses(declared)
+        found.add(choice_uses(declared))
     elif isinstance(declared, EnumDeclaration):
-        found = enum_uses(declared, place.crate, place.terms)
+        found.add(enum_uses(declared, place.crate, place.terms))
     else:
-        found = tested_uses(declared) if isinstance(declared, TestedDeclaration) else newtype_uses(declared)
+        found.add(tested_uses(declared) if isinstance(declared, TestedDeclaration) else newtype_uses(declared))
     if not it.notated:
         found.names -= _NOTATED
         found.terms = {home: names - _NOTATED for home, names in found.terms.items() if names - _NOTATED}

@@ -1,4 +1,6 @@
 """A struct round those values of another type that pass a test: `new`, `get`, `into_inner` and `Constrained`."""
+import re
+
 from .declarations import TestedDeclaration
 from .derived_types import determined
 from .emit_imports import PRELUDE, Uses
@@ -44,7 +46,7 @@ def constructor(declared: TestedDeclaration) -> list[str]:
         f"{STEP}/// Returns the value, or `None` if it doesn't pass the test.",
         f"{STEP}pub fn new({part}: {type_}) -> Option<{name}>",
         f"{_TWO}ensures some {{ IfSome result (λ it. it.{part} ≡ {part}) }}",
-        f"{_TWO}ensures none {{ IfNone result (({declared.test}) ≡ false) }}",
+        f"{_TWO}ensures none {{ IfNone result ({of_value(declared, part)} ≡ false) }}",
         f"{STEP}{{",
         f"{_TWO}if {declared.function}({argument}) {{",
         f"{_THREE}Some({name} {{ {part} }})",
@@ -56,7 +58,7 @@ def constructor(declared: TestedDeclaration) -> list[str]:
         f"{STEP}/// Returns the value.",
         f"{STEP}pub fn get(&self) -> &{type_}",
         f"{_TWO}ensures value {{ result.now ≡ self.now.{part} }}",
-        f"{_TWO}ensures passes {{ (λ {part}. {declared.test}) result.now ≡ true }}",
+        f"{_TWO}ensures passes {{ {of_value(declared, 'result.now')} ≡ true }}",
         f"{STEP}{{",
         f"{_TWO}&self.{part}",
         f"{STEP}}}",
@@ -64,13 +66,19 @@ def constructor(declared: TestedDeclaration) -> list[str]:
         f"{STEP}/// Returns the value.",
         f"{STEP}pub fn into_inner(self) -> {type_}",
         f"{_TWO}ensures value {{ result ≡ self.{part} }}",
-        f"{_TWO}ensures passes {{ (λ {part}. {declared.test}) result ≡ true }}",
+        f"{_TWO}ensures passes {{ {of_value(declared, 'result')} ≡ true }}",
         f"{STEP}{{",
         f"{_TWO}let {name} {{ {part} }} = self;",
         f"{_TWO}{part}",
         f"{STEP}}}",
         "}",
     ]
+
+
+def of_value(declared: TestedDeclaration, value: str) -> str:
+    """The test of this value, in parentheses."""
+    found = re.sub(rf"(?<![\w.]){declared.part}\b", value, declared.test)
+    return found if re.fullmatch(r"\([^()]*\)", found) else f"({found})"
 
 
 def constrained_impl(declared: TestedDeclaration) -> list[str]:
