@@ -59,6 +59,10 @@ class Generics:
         """The parameters where a type or an `impl` declares them, each type with this bound, after `first`."""
         return listed([*first, *(it.with_bound(bound) for it in self.parameters)])
 
+    def without_bounds(self) -> str:
+        """The parameters where the name of another type declares them."""
+        return listed([it.with_bound() if it.name.startswith("const ") else it.name for it in self.parameters])
+
     def arguments(self, first: tuple[str, ...] = ()) -> str:
         """The parameters as arguments, after `first`."""
         return listed([*first, *(it.argument for it in self.parameters)])

@@ -13,6 +13,7 @@ from .emit_newtype import newtype_impls, newtype_uses, notated_impl as newtype_n
 from .emit_struct import notated_impl as struct_notated, struct_impls, struct_uses, tuple_names
 from .emit_tested import tested_impls, tested_uses
 from .folder import NOTE
+from .library_table import LIBRARY_NAMES
 from .private_names import PrivateNames
 from .rust_items import RustFile, read_items
 from .wording import joined
@@ -26,6 +27,10 @@ _HOMES = {
     **dict.fromkeys(("Faithful", "FaithfulAlternatives", "FaithfulMembers"), "picky_asn1_der::de"),
     "Element": "picky_asn1_der::ser",
 }
+# what a file that uses the library can't have as a name of its own
+LIBRARY = LIBRARY_NAMES | frozenset(_HOMES)
+# what each file of implementations imports
+ALWAYS = frozenset("ReadExt WriteExt Deserialize Deserializer Result Serialize Serializer Begins Tag".split())
 _GHOST_USE = re.compile(r"^ghost use (\S+)\.\{([^}]*)\};", re.M)
 
 
@@ -97,15 +102,17 @@ def whole(place: Place, mark: str, lines: list[str]) -> str:
 
 def check(file: RustFile, types: list[Derived]) -> None:
     """Refuses what can't be written: a type whose name the implementations need, and a test without a known proof."""
+    own = {it.name for it in file.items} | file.names
+    given = {name for it in file.items for part in it.parts if part.type for name in part.type.names()}
     for it in types:
         declared = it.declaration
-        used = uses_of(it, Place("", Path(), ("",))).names
-        hidden = used & ({one.name for one in file.items} | file.names) & (set(_HOMES) | {"Tag", "Choice", "Struct", "Sequence", "Result"})
-        if hidden:
-            raise file.source.error(declared.place.line, f"a type can't be called `{min(hidden)}`, which the library has")
         if isinstance(declared, TestedDeclaration) and determined(declared) is None:
             wanted = f"`{declared.part}` as a number, or `{declared.part}.content.items`"
             raise file.source.error(declared.place.line, f"the test of `{declared.name}` may be about {wanted} alone: implement `Constrained` by hand")
+        needed = (uses_of(it, Place("", Path(), ("",))).names - given) | ALWAYS
+        hidden = needed & LIBRARY & own
+        if hidden:
+            raise file.source.error(declared.place.line, f"a type can't be called `{min(hidden)}`, which the library has")
 
 
 def uses_of(it: Derived, place: Place) -> Uses:

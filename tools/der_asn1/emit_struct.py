@@ -126,7 +126,7 @@ def member_types(declared: StructDeclaration, names: list[str]) -> list[str]:
     for index, (name, part) in enumerate(zip(names, parts)):
         rest = names[index + 1] if index + 1 < len(names) else str(declared.later.type) if declared.later else "()"
         items = [*(str(member_type(it)) for it in part), rest]
-        head = f"type {name.partition('<')[0]}{used_from(declared, index * CHUNK).declared()} = "
+        head = f"type {name.partition('<')[0]}{used_from(declared, index * CHUNK).without_bounds()} = "
         lines += [*tuple_lines("", head, items, ";"), ""]
     return lines
 
