@@ -71,10 +71,12 @@ def _derived(file: RustFile, it: Item, notes: Notes, module: str) -> Derived:
         declaration = _choice(file, it, module)
     else:
         declaration = _enumeration(file, it, notes, module)
-    exact = notes.has("exact")
-    if (notes.has("faithful") or exact) and not isinstance(declaration, (StructDeclaration, ChoiceDeclaration)):
-        raise file.source.error(it.line, f"`{it.name}` can't have the notes `exact` and `faithful`, which are for structs and choices")
-    return Derived(declaration, exact or notes.has("notated"), exact, notes.has("faithful"))
+    exact, faithful = notes.has("exact"), notes.has("faithful")
+    if faithful and not isinstance(declaration, (StructDeclaration, ChoiceDeclaration)):
+        raise file.source.error(it.line, f"`{it.name}` can't have the note `faithful`, which is for structs and choices")
+    if (exact or notes.has("notated")) and isinstance(declaration, TestedDeclaration):
+        raise file.source.error(it.line, f"`{it.name}` has a test, which no notation has: it can't be `notated` or `exact`")
+    return Derived(declaration, exact or notes.has("notated"), exact, faithful)
 
 
 def _check_derives(file: RustFile, it: Item) -> None:

@@ -3,14 +3,15 @@ import re
 from dataclasses import dataclass
 from pathlib import Path
 
+from . import emit_choice, emit_enum, emit_newtype, emit_struct
 from .declarations import ChoiceDeclaration, Declaration, EnumDeclaration, StructDeclaration, TestedDeclaration
 from .derived_types import Derived, derived_types, determined
-from .emit_choice import choice_impls, choice_uses, notated_impl as choice_notated, serialize_answers
-from .emit_enum import enum_impls, enum_uses, notated_impl as enum_notated, terms_file
-from .emit_exact import choice_exact, exact_uses, faithful_impl, faithful_uses, struct_exact
+from .emit_choice import choice_impls, choice_uses, serialize_answers, variants_import
+from .emit_enum import enum_impls, enum_uses, terms_file
+from .emit_faithful import faithful_impl, faithful_uses
 from .emit_imports import Uses
-from .emit_newtype import newtype_impls, newtype_uses, notated_impl as newtype_notated
-from .emit_struct import notated_impl as struct_notated, struct_impls, struct_uses, tuple_names
+from .emit_newtype import newtype_impls, newtype_uses
+from .emit_struct import struct_impls, struct_uses, tuple_names
 from .emit_tested import tested_impls, tested_uses
 from .folder import NOTE
 from .library_table import LIBRARY_NAMES
@@ -20,10 +21,15 @@ from .wording import joined
 
 # the module of what is written, below that of the file
 MODULE = "derived"
-_NOTATED = frozenset(("Notated", "NotatedMembers", "NotatedAlternatives", "Notation"))
+# what `Notated` names, and what `Exact` does
+_NOTATED = frozenset("Notated NotatedMembers NotatedAlternatives Notation".split())
+_EXACT = frozenset(
+    """Exact ExactMembers ExactAlternatives ExactContents struct_values choice_values enumerated_values named_values own_contents
+    newtype_values""".split()
+)
 # names of the library that the compiler has no use for, by their modules
 _HOMES = {
-    **dict.fromkeys(("Constrained", "Exact", "ExactAlternatives", "ExactMembers", "deserialize_constrained_as"), "der_types"),
+    **dict.fromkeys(("Constrained", "deserialize_constrained_as"), "der_types"),
     **dict.fromkeys(("Faithful", "FaithfulAlternatives", "FaithfulMembers"), "picky_asn1_der::de"),
     "Element": "picky_asn1_der::ser",
 }
@@ -121,16 +127,14 @@ def uses_of(it: Derived, place: Place) -> Uses:
     if isinstance(declared, StructDeclaration):
         found.add(struct_uses(declared))
     elif isinstance(declared, ChoiceDeclaration):
-        found.add(choice_uses(declared))
+        found.add(choice_uses(declared, it.exact))
     elif isinstance(declared, EnumDeclaration):
         found.add(enum_uses(declared, place.crate, place.terms))
     else:
         found.add(tested_uses(declared) if isinstance(declared, TestedDeclaration) else newtype_uses(declared))
-    if not it.notated:
-        found.names -= _NOTATED
-        found.terms = {home: names - _NOTATED for home, names in found.terms.items() if names - _NOTATED}
-    if it.exact:
-        found.add(exact_uses(declared))
+    unused = (frozenset() if it.notated else _NOTATED) | (frozenset() if it.exact else _EXACT)
+    found.names -= unused
+    found.terms = {home: names - unused for home, names in found.terms.items() if names - unused}
     if it.faithful:
         found.add(faithful_uses(declared))
     found.add(Uses({declared.name}))
@@ -179,36 +183,24 @@ def is_in(name: str, term: str) -> bool:
 def items_of(it: Derived, place: Place, names: PrivateNames) -> list[str]:
     """The items of a type, but for its definition."""
     declared = it.declaration
+    variants = variants_import(declared, place.home)
     if isinstance(declared, StructDeclaration):
-        return struct_items(it, names)
-    if isinstance(declared, ChoiceDeclaration):
-        return choice_items(it, place, names)
-    if isinstance(declared, EnumDeclaration):
-        imported = [f"    ghost use {place.home}.{declared.name}.TheVariants as variants;", ""]
-        return [*enum_impls(declared, place.home), *after_a_line(enum_notated(declared, imported) if it.notated else [])]
-    impls = tested_impls(declared) if isinstance(declared, TestedDeclaration) else newtype_impls(declared)
-    return [*impls, *after_a_line(newtype_notated(declared) if it.notated else [])]
-
-
-def struct_items(it: Derived, names: PrivateNames) -> list[str]:
-    """The items of a struct."""
-    declared, members = it.declaration, tuple_names(it.declaration, names)[0]
+        inner = tuple_names(declared, names)[0]
+        impls, emitter, given = struct_impls(declared, names), emit_struct, ([inner], [inner])
+    elif isinstance(declared, ChoiceDeclaration):
+        inner = names.of(declared, "Parts")
+        impls, emitter, given = choice_impls(declared, names, place.home), emit_choice, ([inner], [inner, variants])
+    elif isinstance(declared, EnumDeclaration):
+        impls, emitter, given = enum_impls(declared, place.home), emit_enum, ([variants], [variants])
+    elif isinstance(declared, TestedDeclaration):
+        impls, emitter, given = tested_impls(declared), emit_newtype, ([], [])
+    else:
+        impls, emitter, given = newtype_impls(declared), emit_newtype, ([], [])
     return [
-        *struct_impls(declared, names),
-        *after_a_line(struct_notated(declared, members) if it.notated else []),
-        *after_a_line(struct_exact(declared, members) if it.exact else []),
-        *after_a_line(faithful_impl(declared, members, "") if it.faithful else []),
-    ]
-
-
-def choice_items(it: Derived, place: Place, names: PrivateNames) -> list[str]:
-    """The items of a choice."""
-    declared, parts = it.declaration, names.of(it.declaration, "Parts")
-    return [
-        *choice_impls(declared, names, place.home),
-        *after_a_line(choice_notated(declared, parts) if it.notated else []),
-        *after_a_line(choice_exact(declared, parts, place.home) if it.exact else []),
-        *after_a_line(faithful_impl(declared, parts, place.home) if it.faithful else []),
+        *impls,
+        *after_a_line(emitter.notated_impl(declared, *given[0]) if it.notated else []),
+        *after_a_line(emitter.exact_impl(declared, *given[1]) if it.exact else []),
+        *after_a_line(faithful_impl(declared, inner, place.home) if it.faithful else []),
     ]
 
 

@@ -13,6 +13,7 @@ PRELUDE = "Rattle.std.specs.Prelude"
 _TERM_ORDER = [
     "Rattle.std.proofs.Common",
     PRELUDE,
+    "Rattle.picky_der_core.specs.Equality",
     "Rattle.picky_der_core.specs.Shape",
     "Rattle.picky_der_de.specs.declared.alternatives.OneOf.TheVariants",
     "Rattle.picky_der_de.specs.declared.choice4.Choice4.TheVariants",
@@ -21,6 +22,12 @@ _TERM_ORDER = [
     "Rattle.picky_der_de.specs.MembersFacts",
     "Rattle.der_types.specs.ContentsFacts",
     "Rattle.der_types.specs.Notation",
+    "Rattle.der_types.specs.Exact",
+    "Rattle.der_types.specs.ExactChoices",
+    "Rattle.der_types.specs.ExactContents",
+    "Rattle.der_types.specs.ExactDefaults",
+    "Rattle.der_types.specs.ExactEnumerated",
+    "Rattle.der_types.specs.ExactMembers",
 ]
 # how wide a line of imports of terms is
 _TERMS_WIDTH = 140

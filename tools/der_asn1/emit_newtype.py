@@ -6,8 +6,12 @@ from .layout import STEP, WIDTH, comment, signature
 
 _TWO = STEP * 2
 
-_TERMS = {PRELUDE: {"refl"}, "Rattle.picky_der_de.specs.Facts": {"facts_as"}}
-_NAMES = "ReadExt WriteExt Via Deserialize Deserializer Result Serialize Serializer deserialize_as Begins Tag Notated".split()
+_TERMS = {
+    PRELUDE: {"refl"},
+    "Rattle.picky_der_de.specs.Facts": {"facts_as"},
+    "Rattle.der_types.specs.Exact": {"newtype_values"},
+}
+_NAMES = "ReadExt WriteExt Via Deserialize Deserializer Result Serialize Serializer deserialize_as Begins Tag Notated Exact".split()
 
 
 def newtype_uses(declared: NewtypeDeclaration) -> Uses:
@@ -17,7 +21,7 @@ def newtype_uses(declared: NewtypeDeclaration) -> Uses:
 
 def newtype_lines(declared: NewtypeDeclaration) -> list[str]:
     """The items of a struct round another type."""
-    return [*definition(declared), "", *newtype_impls(declared), "", *notated_impl(declared)]
+    return [*definition(declared), "", *newtype_impls(declared), "", *notated_impl(declared), "", *exact_impl(declared)]
 
 
 def newtype_impls(declared: NewtypeDeclaration) -> list[str]:
@@ -110,5 +114,18 @@ def notated_impl(declared: NewtypeDeclaration) -> list[str]:
         f"{STEP}ghost notation = {{ {quoted(declared, 'Notated')}.notation }};",
         "",
         f"{STEP}ghost denoted = {{ refl }};",
+        "}",
+    ]
+
+
+def exact_impl(declared: NewtypeDeclaration) -> list[str]:
+    """The implementation of `Exact`: the type inside is exact."""
+    facts = " ".join(f"{quoted(declared, trait)}.{name}" for trait, name in (("Exact", "values"), ("Notated", "notation"), ("Serialize", "meaning")))
+    return [
+        f"impl Exact for {declared.name} {{",
+        f"{STEP}ghost values = {{ newtype_values {facts}",
+        f"{_TWO}(λ it. it.{declared.part}) (λ x. (record {{ {declared.part} = x }}, refl)) }};",
+        "",
+        f"{STEP}ghost exact = {{ Prim.assumption }};",
         "}",
     ]

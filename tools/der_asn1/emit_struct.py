@@ -9,6 +9,8 @@ from .tree import Presence
 
 CHUNK = 8  # members of one tuple of types
 REFERENCES = 16  # members of one tuple of references
+# the field of a member that holds its value, if that isn't the member
+PART_NAMES = {Presence.OPTIONAL: "0", Presence.DEFAULT: "value"}
 _TWO = STEP * 2
 _THREE = STEP * 3
 _LIFETIME, _ANY_LIFETIME = "'a", "'_"
@@ -17,9 +19,10 @@ _TERMS = {
     PRELUDE: {"refl"},
     "Rattle.picky_der_de.specs.MembersFacts": {"struct_facts", "sequence_of", "sequence_shape"},
     "Rattle.der_types.specs.Notation": {"Notation"},
+    "Rattle.der_types.specs.ExactMembers": {"struct_values"},
 }
 _NAMES = """ReadExt WriteExt Deserialize DeserializeMembers Deserializer Result Serialize SerializeMembers Serializer Struct
-deserialize_struct_as Begins Tag List Notated NotatedMembers""".split()
+deserialize_struct_as Begins Tag List Notated NotatedMembers Exact ExactMembers""".split()
 
 
 def chunks(items: list[Field]) -> list[list[Field]]:
@@ -88,7 +91,8 @@ def struct_uses(declared: StructDeclaration) -> Uses:
 
 def struct_lines(declared: StructDeclaration, names: PrivateNames) -> list[str]:
     """The items of a struct."""
-    return [*definition(declared), "", *struct_impls(declared, names), "", *notated_impl(declared, tuple_names(declared, names)[0])]
+    members = tuple_names(declared, names)[0]
+    return [*definition(declared), "", *struct_impls(declared, names), "", *notated_impl(declared, members), "", *exact_impl(declared, members)]
 
 
 def struct_impls(declared: StructDeclaration, names: PrivateNames) -> list[str]:
@@ -300,6 +304,46 @@ def notated_impl(declared: StructDeclaration, members: str) -> list[str]:
         f"{STEP}ghost denoted = {{ refl }};",
         "}",
     ]
+
+
+def exact_impl(declared: StructDeclaration, members: str) -> list[str]:
+    """The implementation of `Exact`: its members are exact, and each value of the tuples is that of a struct."""
+    return [
+        f"impl{declared.generics.declared('Exact')} Exact for {declared.shown} {{",
+        f"{STEP}ghost values = {{ struct_values ⟦<{members} as ExactMembers>⟧.all_values ⟦<{members} as NotatedMembers>⟧.members_notation",
+        f"{_TWO}⟦<{members} as SerializeMembers>⟧.members ⟦<Self as Struct>⟧.parts",
+        *whole(declared),
+        "",
+        f"{STEP}ghost exact = {{ Prim.assumption }};",
+        "}",
+    ]
+
+
+def whole(declared: StructDeclaration) -> list[str]:
+    """The term of the struct that has these members, on one line if that fits."""
+    items = [f"{it.name} = {member_value(it, path)}" for it, path in zip(declared.fields, member_paths(declared))]
+    items += [f"{declared.later.name} = {after_last(declared)}"] if declared.later else []
+    before, after = f"{_TWO}(λ m. (record {{", "}, refl {a = m})) };"
+    line = f"{before} {'; '.join(items)} {after}"
+    return [line] if len(line) <= GHOST_WIDTH else [before, *(f"{_TWO}  {it};" for it in items), f"{_TWO}{after}"]
+
+
+def member_paths(declared: StructDeclaration) -> list[str]:
+    """Where each member is in the tuples."""
+    return [f"m{f'.{CHUNK}' * (at // CHUNK)}.{at % CHUNK}" for at in range(len(declared.fields))]
+
+
+def after_last(declared: StructDeclaration) -> str:
+    """Where what comes after the last member is in the tuples."""
+    tuples = chunks(declared.fields)
+    return f"m{f'.{CHUNK}' * (len(tuples) - 1)}.{len(tuples[-1])}"
+
+
+def member_value(it: Field, path: str) -> str:
+    """The field of a member that is there in the tuples."""
+    if it.is_element:
+        return f"{path}.0"
+    return f"{path}.{PART_NAMES[it.presence]}" if it.presence in PART_NAMES else path
 
 
 def begins_impl(declared: StructDeclaration) -> list[str]:

@@ -11,6 +11,7 @@ mod form;
 mod header;
 mod json;
 mod key_usage;
+pub mod laws;
 mod listing;
 mod members;
 mod names;

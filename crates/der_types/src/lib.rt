@@ -2,6 +2,7 @@
 #![tactic(auto)]
 
 mod arcs;
+mod arrays;
 mod bit_string;
 mod bits;
 mod character_set;
@@ -18,6 +19,7 @@ mod exact_constraints;
 mod exact_contents;
 mod exact_defaults;
 mod exact_members;
+mod exact_times;
 mod generalized_time;
 mod generated;
 mod implicit_primitive;

@@ -158,7 +158,15 @@ class Writing(unittest.TestCase):
 
     def test_exact_alternatives(self):
         text = derived(enum_of(*(f"{it}(X{it})," for it in "ABCDE"), note="exact"))
-        self.assertIn("          | Later (This x) ↦ (variants.E x, refl)\n          | Later (Other v) ↦ elim v [ ]\n", text)
+        self.assertIn("          | Later (This x) ↦ (variants.E x, refl)\n          | Later (Other x) ↦ elim x [ ]\n", text)
+
+    def test_exact_enumerations(self):
+        text = derived(enum_of("A,", "B,", derives="Copy, Clone, PartialEq", note="exact"))
+        self.assertIn("impl ExactContents for A", text)
+        self.assertIn("ghost use Rattle.der_types.specs.ExactEnumerated.{enumerated_values};\n", text)
+
+    def test_a_copy(self):
+        self.assertIn("    pub fn copies()\n", derived(enum_of("A,", "B,", derives="Copy, Clone, PartialEq")))
 
     def test_faithful(self):
         self.assertIn("struct_sameness ⟦<Members as FaithfulMembers>⟧.sameness", derived(struct_of("a: u8,", note="faithful")))
@@ -240,7 +248,8 @@ class Refusing(unittest.TestCase):
             enum_of("A(T),").replace("enum A", "enum A<T>"): "the first bytes of its alternatives aren't known",
             enum_of("A = 128,", derives="Copy, Clone, PartialEq"): "`A` is 128: each variant has another number from 0 to 127",
             enum_of("A = 1,", "B = 1,", derives="Copy, Clone, PartialEq"): "`B` is 1",
-            enum_of("A,", derives="Copy, Clone, PartialEq", note="exact"): "which are for structs and choices",
+            enum_of("A,", derives="Copy, Clone, PartialEq", note="faithful"): "which is for structs and choices",
+            f"mod derived;\n{EVEN}".replace("test is_even", "test is_even, exact"): "which no notation has",
             "mod derived;\n#[derive(Drop, PartialEq)]\nstruct A(u8, u8);\n": "give its fields names",
             f"mod derived;\n{EVEN}".replace("fn is_even", "fn is_odd"): "the file has no function `is_even` of a `u32`",
             f"mod derived;\n{EVEN}".replace("} ≡ true", "}").replace(" ≡ true }", " }"): "needs a named field and one ghost field",

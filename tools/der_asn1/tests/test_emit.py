@@ -18,6 +18,7 @@ from ..parse_modules import read_text
 from ..source import Problems
 from ..layout import assigned, comment, filled, item_lines, natural, tuple_lines, type_lines
 from ..library import parts_type
+from ..library_table import TYPES
 from ..rust_types import UNIT, of, tuple_of
 from ..wording import joined, snake
 from . import Given, given
@@ -72,8 +73,9 @@ class AsDerived(unittest.TestCase):
         for before, after in replaced:
             text = text.replace(before, after)
         found = items(example(stem))
+        without = () if f"impl Exact for {name} {{" in example(stem) else ("impl Notated", "impl Exact", "#[derive(Debug, Clone")
         for item in items(text):
-            if not item.startswith(("impl Notated", "#[derive(Debug, Clone")):
+            if not item.startswith(without):
                 self.assertIn(item, found)
 
     def test_a_struct(self):
@@ -114,7 +116,7 @@ class AsDerived(unittest.TestCase):
         crate = crate_of(body, "Personnel")
         text, found = as_derived(crate, "PersonnelMembers", "personnel_record"), items(example("personnel_record"))
         for item in items(text.replace("<C>", "<Asn1Set<ChildInformation>>")):
-            if not item.startswith("impl Notated"):
+            if not item.startswith(("impl Notated", "impl Exact")):
                 self.assertIn(item, found)
         aliases = crate.files()["src/types.rt"]
         self.assertIn("pub type Personnel = ImplicitSet<PersonnelMembers, 0x60>;\n", aliases)
@@ -163,6 +165,59 @@ class AsDerived(unittest.TestCase):
         self.assertEqual([f"{home}.{line}" for pair in pairs for line in pair], found)
 
 
+class Exactness(unittest.TestCase):
+    """Each type has an implementation of `Exact`, whose values are made of the parts that its notation has."""
+
+    def text(self, body, name, header="EXPLICIT TAGS", **options):
+        return crate_of(body, name, header=header, **options).files()["src/types.rt"]
+
+    def test_the_members_of_three_tuples(self):
+        members = ", ".join(f"m{it} [{it}] NULL" for it in range(17))
+        text = self.text(f"A ::= SEQUENCE {{ {members}, last NULL OPTIONAL, ... }}", "A")
+        for wanted in ("m0 = m.0;", "m7 = m.7;", "m8 = m.8.0;", "m16 = m.8.8.0;", "last = m.8.8.1.0;", "later_members = m.8.8.2;"):
+            self.assertIn(f"          {wanted}\n", text)
+
+    def test_members_on_one_line(self):
+        text = self.text("A ::= SEQUENCE { a BOOLEAN DEFAULT FALSE, b NULL OPTIONAL }", "A")
+        self.assertIn("        (λ m. (record { a = m.0.value; b = m.1.0 }, refl {a = m})) };\n", text)
+
+    def test_what_no_alternative_is(self):
+        for count, none in ((1, "Other x"), (3, "Other (Other (Other x))"), (4, "Later x"), (5, "Later (Other x)")):
+            body = f"A ::= CHOICE {{ {', '.join(f'a{it} [{it}] NULL' for it in range(count))} }}"
+            self.assertIn(f"          | {none} ↦ elim x [ ]\n", self.text(body, "A"))
+
+    def test_the_constructors_that_only_terms_name(self):
+        text = self.text("A ::= CHOICE { a NULL }", "A")
+        self.assertIn("OneOf.TheVariants.{Other, This};\n", text)
+        self.assertIn("use picky_asn1_der::OneOf::This;\n", text)
+
+    def test_an_enumeration_and_named_numbers(self):
+        text = self.text("A ::= SEQUENCE { e E, f F } E ::= ENUMERATED { x(3), y(9) } F ::= INTEGER { a(0), b(1) } (0..1)", "A")
+        self.assertIn("    ghost values = { enumerated_values (variants.X ∷ variants.Y ∷ []) e_number (elim [\n", text)
+        self.assertIn("    ghost values = { named_values (variants.A ∷ variants.B ∷ []) f_number (elim [\n", text)
+        self.assertIn("      | variants.X ↦ record { listed = refl; small = refl }\n", text)
+
+    def test_an_item_that_is_a_default(self):
+        text = self.text("A ::= SEQUENCE { a E DEFAULT y } E ::= ENUMERATED { x(3), y(9) }", "A")
+        self.assertIn("impl ExactDefault<E> for EY {\n", text)
+        self.assertIn("is_default_ey variants.Y ey_by_tree refl };\n", text)
+
+    def test_the_library_has_it_for_what_is_written(self):
+        """Each type of the library that a crate may be made of is exact, by its own implementation or as another name."""
+        paths = [*Path(ROOT, "crates/der_types/src").rglob("*.rt"), *Path(ROOT, "crates/picky_der_core/src").rglob("*.rt")]
+        text = "\n".join(it.read_text(encoding="utf-8") for it in paths)
+        exact = set(re.findall(r"\bExact(?:Member|Members|Alternatives)?\s+for\s+(\w+)", text))
+        names = dict(re.findall(r"^pub type (\w+)(?:<[^=]*>)? = (\w+)", text, re.MULTILINE))
+        of_library = {it.rust for it in TYPES if it.rust} - {"()"} | {*PARTS}
+        self.assertEqual(set(), {it for it in of_library if names.get(it, it) not in exact})
+
+
+# the types of the library that have no name in X.680
+PARTS = """Asn1Set InRange NamedBits OtherThan ImplicitPrimitive ImplicitSet WithSize ApplicationTag Asn1SequenceOf Asn1SetOf
+BitStringAsn1Container ExplicitContextTag ImplicitContextTag OctetStringAsn1Container ImplicitList TaggedBytes Defaulted Optional Asn1RawDer
+LaterMembers NoneOf OneOf Choice4 Vec""".split()
+
+
 class Defaults(unittest.TestCase):
     def test_a_named_number_comes_before_a_value(self):
         text = crate_of("A ::= SEQUENCE { a INTEGER { one(1) } (0..255) DEFAULT one } one INTEGER ::= 7", "A").files()["src/types.rt"]
@@ -188,7 +243,7 @@ class Imports(unittest.TestCase):
         found = text[text.index("use der_types") : text.index("use picky_asn1_der::{")]
         self.assertEqual(
             [
-                "use der_types::{Integer, Notated, NotatedMembers};",
+                "use der_types::{Exact, ExactMembers, Integer, Notated, NotatedMembers};",
                 "use picky_asn1_der::asn1::{ExplicitContextTag2, ExplicitContextTag10, Tag};",
                 "use picky_asn1_der::de::Begins;",
                 "use picky_asn1_der::misc::{ReadExt, WriteExt};",
@@ -204,7 +259,7 @@ class Imports(unittest.TestCase):
         self.assertIn("use picky_asn1_der::OneOf::{Other, This};\n", text)
         self.assertNotIn("use crate", text)
         self.assertIn("ghost use Rattle.std.specs.Prelude.{refl};\n", text)
-        self.assertEqual(2, text.count("{\n    ghost use Rattle.der_examples.specs.declared.types.C.TheVariants as variants;\n"))
+        self.assertEqual(3, text.count("{\n    ghost use Rattle.der_examples.specs.declared.types.C.TheVariants as variants;\n"))
 
     def test_terms_that_are_many(self):
         lines = term_imports("Rattle.a", [f"name_of_a_term_{it}" for it in range(12)])
@@ -331,7 +386,15 @@ class Values(unittest.TestCase):
     def test_their_file(self):
         one = given("id-at OBJECT IDENTIFIER ::= { 2 5 4 }")
         lines = emit_values.value_file(emit_values.values_of(one.program, one.program.modules))
-        self.assertEqual(["", "/// `id-at`, 2.5.4.", "pub const ID_AT: &[u8] = &[0x55, 0x04];"], lines[1:])
+        self.assertEqual(["", "/// `id-at`, 2.5.4.", "pub const ID_AT: &[u8] = &[0x55, 0x04];"], lines[3:6])
+        self.assertEqual(["pub fn arcs()", "    ensures id_at { arcs_of ID_AT.now ≡ 2 ∷ 5 ∷ 4 ∷ [] }", "{}"], lines[8:])
+
+    def test_the_law_of_their_arcs(self):
+        one = given("data OBJECT IDENTIFIER ::= { 2 5 4 }\nid-a-name-of-several-words-that-fills-a-line OBJECT IDENTIFIER ::= { 1 2 840 113549 1 9 16 1 2 }")
+        lines = emit_values.arcs_law(emit_values.values_of(one.program, one.program.modules))
+        self.assertEqual("    ensures data_ { arcs_of DATA.now ≡ 2 ∷ 5 ∷ 4 ∷ [] }", lines[2])
+        broken = "    ensures id_a_name_of_several_words_that_fills_a_line { arcs_of ID_A_NAME_OF_SEVERAL_WORDS_THAT_FILLS_A_LINE.now"
+        self.assertEqual([broken, "        ≡ 1 ∷ 2 ∷ 840 ∷ 113549 ∷ 1 ∷ 9 ∷ 16 ∷ 1 ∷ 2 ∷ [] }"], lines[3:5])
 
 
 class Files(unittest.TestCase):

@@ -3,6 +3,7 @@
 //! How `ResponseStatus` is written and read.
 ghost use Rattle.std.proofs.Common.{lit≤};
 ghost use Rattle.std.specs.Prelude.{[], refl, ◌∷◌, ◌≡◌};
+ghost use Rattle.picky_der_core.specs.Equality.{IsKept};
 ghost use Rattle.der_types.specs.ContentsFacts.{contents_facts, contents_of, contents_shape};
 ghost use Rattle.der_examples.specs.ResponseStatus.{is_response_status, response_status_number, same_response_status};
 
@@ -14,6 +15,11 @@ use picky_asn1_der::misc::{ReadExt, WriteExt};
 use picky_asn1_der::{Deserialize, Deserializer, Result, Serialize, Serializer};
 
 impl ResponseStatus {
+    /// A copy is the same.
+    pub fn copies()
+        ensures { IsKept ⟦<ResponseStatus as Clone>⟧.is_clone (λ it. it) }
+    {}
+
     // The number of the value.
     fn number(self) -> u8
         ensures { result ≡ response_status_number self }

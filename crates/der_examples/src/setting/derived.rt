@@ -88,7 +88,7 @@ impl Exact for Setting {
           | This x ↦ (variants.Number x, refl)
           | Other (This x) ↦ (variants.Text x, refl)
           | Other (Other (This x)) ↦ (variants.Numbers x, refl)
-          | Other (Other (Other v)) ↦ elim v [ ]
+          | Other (Other (Other x)) ↦ elim x [ ]
         ]) };
 
     ghost exact = { Prim.assumption };
