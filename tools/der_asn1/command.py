@@ -3,6 +3,9 @@
     der_asn1 --report [--types] [OPTION ..] MODULE.asn1 ..
     der_asn1 --out crates/NAME [--type TYPE,..] [--group FILE=TYPE,..] [--crate MODULE=CRATE ..] [--distinct TYPE,..] [--own MODULE=NAME,..]
         [--own-terms NAME,..] [--check] [--allow-raw] [--allow-wider] [OPTION ..] MODULE.asn1 ..
+    der_asn1 derive [--check] FILE.rt ..
+
+`derive` is in derive.py, and writes what the structs and enums of a file of Rust need.
 
 `--report` prints for each module how many of its types are expressed exactly, and which features of the library are missing for the
 others. `--types` adds a line for each type.
@@ -28,7 +31,7 @@ import os
 import sys
 from typing import Iterable, Optional
 
-from . import tree
+from . import derive, tree
 from .declarations import Declarations, NewtypeDeclaration
 from .emit_crate import NEEDS, RESERVED, Crate, reached, reached_elsewhere, refusals
 from .emit_values import values_of
@@ -91,7 +94,10 @@ def said(problems: Problems) -> bool:
 def main(words: Optional[list[str]] = None) -> int:
     """Runs the command. Returns 1 if there is an error, else 0."""
     sys.setrecursionlimit(_DEPTH)
-    options = arguments(words)
+    given = sys.argv[1:] if words is None else words
+    if given[:1] == ["derive"]:
+        return derive.main(given[1:])
+    options = arguments(given)
     problems = Problems(options.strict)
     modules, imported = read(options.files, problems), read(options.imported, problems)
     if options.out:

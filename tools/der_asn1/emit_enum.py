@@ -81,9 +81,9 @@ def default_proof(name: str) -> str:
     return f"{snake(name)}_by_tree"
 
 
-def enum_uses(declared: EnumDeclaration, crate: str) -> Uses:
-    """What the items of an enumeration name."""
-    uses = Uses({*_NAMES}, terms={f"Rattle.{crate}.specs.{TERMS_FILE}": own_terms(declared)})
+def enum_uses(declared: EnumDeclaration, crate: str, file: str = TERMS_FILE) -> Uses:
+    """What the items of an enumeration name. `file` is the file of its terms."""
+    uses = Uses({*_NAMES}, terms={f"Rattle.{crate}.specs.{file}": own_terms(declared)})
     uses.add(Uses(terms=_TERMS))
     uses.add(Uses(terms={_ENUMERATED: {_VALUES[declared.tag]}, _OWN_CONTENTS: {"own_contents"}}))
     if declared.defaults:
@@ -98,20 +98,27 @@ def enum_lines(declared: EnumDeclaration, home: str) -> list[str]:
     return [
         *definition(declared),
         "",
+        *enum_impls(declared, home),
+        "",
+        *notated_impl(declared, imported),
+        "",
+        *exact_impl(declared, imported),
+        *(line for name, it in declared.defaults.items() for line in ["", *default_lines(declared, name, it, imported)]),
+    ]
+
+
+def enum_impls(declared: EnumDeclaration, home: str) -> list[str]:
+    """What each enumeration has, but for its definition."""
+    return [
         *own_impl(declared),
         "",
-        *contents_impl(declared, imported),
+        *contents_impl(declared, variants_import(declared, home)),
         "",
         *serialize_impl(declared),
         "",
         *deserialize_impl(declared),
         "",
         *begins_impl(declared),
-        "",
-        *notated_impl(declared, imported),
-        "",
-        *exact_impl(declared, imported),
-        *(line for name, it in declared.defaults.items() for line in ["", *default_lines(declared, name, it, imported)]),
     ]
 
 
