@@ -11,7 +11,7 @@ from .library_table import UNIVERSAL_TAGS
 from .members import ResolvedMember, is_extensible, members_of
 from .meaning import Meaning, lacks
 from .rust_types import UNIT, RustType, of
-from .scopes import Program, Scope
+from .scopes import Program, Scope, resolve
 from .source import NotationError
 from .terms import Item as TermItem, Term, number_list
 from .values import enumerated_numbers, integer_of, named_numbers, value_of
@@ -22,6 +22,7 @@ if TYPE_CHECKING:
 
 
 # the words of a term after the last member of an extensible type
+_OF_CHOICE = "X.680, 29.3"
 LATER, NO_LATER = "later-members", "later-members-refused"
 
 
@@ -70,6 +71,8 @@ def structure(meanings: "Meanings", type_: tree.StructureType, scope: Scope, hin
         return _raw(tagged_bytes(first), parts)
     written = parts
     if type_.form is tree.Form.SET:
+        if not are_alone(meanings, parts, "X.680, 27.3"):
+            return _raw(tagged_bytes(first), parts, *ambiguity(parts))
         parts = in_tag_order(parts)
         if parts is None:
             return Meaning(tagged_bytes(first)).lacking(Feature.SET_ORDER)
@@ -227,11 +230,38 @@ def are_distinct(meanings: "Meanings", parts: list[Part], form: tree.Form) -> bo
                     return False
                 clause = "X.680, 25.6" if form is tree.Form.SEQUENCE else "X.680, 27.3"
                 text = f"`{it.name}` may be absent, and `{later.name}`, which may come in its place, can begin with the same tag"
-                meanings.program.problems.warn(it.resolved.member.place, text, clause)
+                meanings.program.problems.error(it.resolved.member.place, text, clause)
                 return False
             if not later.resolved.may_be_absent():
                 break
     return True
+
+
+def are_alone(meanings: "Meanings", parts: list[Part], clause: str) -> bool:
+    """Whether no two of these can begin with the same tag (X.680, 27.3 and 29.3). An error says which two can, if the types of all are known."""
+    before = frozenset()
+    for it in parts:
+        if before & it.firsts:
+            if not any(part.is_unknown() for part in parts):
+                what = "an alternative" if clause == _OF_CHOICE else "a member"
+                text = f"`{it.name}` can begin with the same tag as {what} before it"
+                meanings.program.problems.error(it.resolved.member.place, text, clause)
+            return False
+        before |= it.firsts
+    say_if_open(meanings, parts)
+    return True
+
+
+def say_if_open(meanings: "Meanings", parts: list[Part]) -> None:
+    """Says if two of these are extensible choices without a tag, whose later alternatives could begin with the same one (X.680, 52.7)."""
+    found = []
+    for it in parts:
+        base = resolve(meanings.program, it.resolved.member.type, it.resolved.scope)
+        if isinstance(base.type, tree.ChoiceType) and not it.resolved.member.type.tags and not base.type.tags and is_extensible(base.type, base.scope):
+            found.append(it)
+    if len(found) > 1:
+        text = f"a later alternative of `{found[1].name}` can begin with the same tag as one of `{found[0].name}`"
+        meanings.program.problems.error(found[1].resolved.member.place, text, "X.680, 52.7")
 
 
 def ambiguity(parts: list[Part]) -> tuple[Feature, ...]:
@@ -350,8 +380,6 @@ def enumeration(meanings: "Meanings", type_: tree.EnumeratedType, scope: Scope, 
     """An enum of the crate's own. One with a number of more than a byte is any number, which the library has a type for."""
     numbers = enumerated_numbers(meanings.program, type_.items, scope)
     first = frozenset((UNIVERSAL_TAGS["ENUMERATED"],))
-    if len(set(numbers)) < len(numbers):
-        meanings.program.problems.error(type_.place, "two items of the enumeration have the same number", "X.680, 20.3")
     if not all(it in ONE_BYTE for it in numbers) or len(set(numbers)) < len(numbers):
         rust = Rust(of("Enumerated"), Core.CONTENTS, first, own=True, term=Term("ENUMERATED-extensible"))
         return Meaning(rust).noting(Note.WIDE_ENUMERATION)
@@ -398,14 +426,8 @@ def choice(meanings: "Meanings", type_: tree.ChoiceType, scope: Scope, hint: Hin
         return Meaning(any_element()).lacking(Feature.EXTENSION if is_extensible(type_, scope) else Feature.NO_VALUES)
     if any(it.meaning.rust is None for it in parts):
         return _raw(any_element(), parts)
-    firsts = frozenset()
-    for it in parts:
-        if firsts & it.firsts and not any(part.is_unknown() for part in parts):
-            text = f"`{it.name}` can begin with the same tag as an alternative before it"
-            meanings.program.problems.warn(it.resolved.member.place, text, "X.680, 29.3")
-        if firsts & it.firsts:
-            return _raw(any_element(), parts, *ambiguity(parts))
-        firsts |= it.firsts
+    if not are_alone(meanings, parts, _OF_CHOICE):
+        return _raw(any_element(), parts, *ambiguity(parts))
     return declared_choice(meanings, type_, scope, hint, parts)
 
 

@@ -3,6 +3,7 @@ from dataclasses import replace
 from typing import Iterable, Optional
 
 from . import tree
+from .checks import Checks
 from .declarations import AliasDeclaration, Declarations, Hint, NewtypeDeclaration
 from .features import Feature, Level, Note
 from .library import Core, Rust, any_element, tagged_bytes
@@ -89,6 +90,7 @@ class Meanings:
         self.distinct = frozenset(distinct)  # the names of types that are structs of their own, in place of names of others
         self.declarations = declarations or Declarations()
         self.known, self.busy = {}, []
+        self.checks = Checks(program)
 
     # ---- assignments
 
@@ -103,6 +105,7 @@ class Meanings:
             return self.known[key]
         if key in self.busy:
             return self.raw(type_, found.scope, Feature.RECURSION)
+        self.checks.assignment(found)
         self.busy.append(key)
         try:
             meaning = self.of_type(type_, found.scope, hint_of(found, key))
@@ -271,6 +274,7 @@ class Meanings:
         key = (*target.scope.key, found.assignment.name)
         if key in self.busy:
             return self.raw(target.type, target.scope, Feature.RECURSION)
+        self.checks.assignment(found)
         self.busy.append(key)
         try:
             return self.of_type(target.type, target.scope, Hint(found.assignment.name, root=found.assignment.name), constraints)

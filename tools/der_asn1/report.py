@@ -7,6 +7,7 @@ from . import tree
 from .features import OUTSIDE, Feature, Level, Note
 from .meaning import Meaning
 from .meaning_types import Meanings
+from .module_checks import ModuleChecks, identified
 from .objects import class_named
 from .scopes import Program
 from .source import Problems
@@ -45,10 +46,11 @@ class Report:
 
 def report_of(modules: list[tree.Module], problems: Problems, imported: Iterable[tree.Module] = ()) -> Report:
     """The report of modules that see each other, and those that are imported from."""
-    program = Program(modules, problems, imported)
-    meanings = Meanings(program)
+    program = identified(Program(modules, problems, imported))
+    meanings, checks = Meanings(program), ModuleChecks(program)
     found = Report(modules=list(modules))
     for module in modules:
+        checks.module(module)
         for it in program.indexes[id(module)].values():
             _add(found, meanings, module, it)
     return found
