@@ -217,6 +217,7 @@ class Checks:
             elif isinstance(it, tree.ElementSet) and found.type is not None:
                 for element in elements(it):
                     self.element(element, kind, scope)
+                    self.bound_names(element, getattr(found.type, "named", []), scope)
         if isinstance(found.type, tree.IntegerType):
             self.ranges(found.type, found.constraints)
 
@@ -242,6 +243,15 @@ class Checks:
                 if wrong:
                     self.error(value.place, f"{name} doesn't have the character `{wrong[0]}`", "X.680, 51.7")
 
+    def bound_names(self, element: tree.Element, named: list[tree.NamedNumber], scope: Scope) -> None:
+        """The names of the bounds of ranges lead somewhere, in SIZE too."""
+        if isinstance(element, (tree.SizeConstraint, tree.Alphabet)):
+            for it in elements(element.inner):
+                self.bound_names(it, [], scope)
+        for value in [element.low, element.high] if isinstance(element, tree.ValueRange) else []:
+            if isinstance(value, tree.NamedValue) and value.name not in {it.name for it in named} and not scope.binding(value.name):
+                self.name_of_number(value, scope)
+
     def ranges(self, type_: tree.IntegerType, constraints: tuple[ScopedConstraint, ...]) -> None:
         """The bounds of a range are numbers of the type that it is a constraint of (X.680, 51.4)."""
         before = ()
@@ -262,9 +272,6 @@ class Checks:
             number = None if value is None else integer_of(self.program, value, scope, type_.named)
             if number is not None and not any(low <= number <= high for low, high in allowed.pairs):
                 self.error(value.place, f"{number} isn't a number of the type before this constraint", "X.680, 51.4")
-            unknown = number is None and isinstance(value, tree.NamedValue) and not scope.binding(value.name)
-            if unknown and self.program.find(value.name, scope, value.module, value.place) is None:
-                self.name_of_number(value, scope)
 
 
 def elements(constraint: tree.ElementSet) -> Iterable[tree.Element]:

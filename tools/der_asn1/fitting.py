@@ -167,8 +167,7 @@ def _of_assignment(program: Program, value: tree.NamedValue, found: Found, type_
 
 def undefined(program: Program, value: tree.NamedValue, scope: Scope) -> Optional[Misfit]:
     """That a name isn't defined, or None if it may be defined in a module that isn't given."""
-    source = value.module or program.source_of(value.name, scope.module)
-    if source and program.module_named(source) is None:
+    if program.is_elsewhere(value.name, value.module, scope.module):
         return None
     return Misfit(value.place, f"`{value.name}` isn't defined", "X.680, 14.1")
 

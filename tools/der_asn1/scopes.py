@@ -89,6 +89,11 @@ class Program:
         """The name of the module that a name is imported from, or None."""
         return next((it.module for it in module.imports if it.name == name), None)
 
+    def is_elsewhere(self, name: str, module_name: Optional[str], module: tree.Module) -> bool:
+        """Whether a name would be of a module that isn't given: one that is written before it, or that it is imported from."""
+        source = module_name or self.source_of(name, module)
+        return source is not None and self.module_named(source) is None
+
     def find(
         self,
         name: str,

@@ -33,7 +33,7 @@ class Reports(unittest.TestCase):
         self.found = report.report_of(read_text(module_text(BODY), "m.asn1", problems), problems)
 
     def test_a_row_for_each_type(self):
-        wanted = [("A", Level.EXACT), ("B", Level.NEAR), ("C", Level.EXACT), ("D", Level.PARTLY_RAW), ("E", Level.REFUSED), ("G", Level.REFUSED)]
+        wanted = [("A", Level.EXACT), ("B", Level.WIDER), ("C", Level.EXACT), ("D", Level.PARTLY_RAW), ("E", Level.REFUSED), ("G", Level.REFUSED)]
         self.assertEqual(wanted, [(it.name, it.level) for it in self.found.rows])
 
     def test_what_isnt_counted(self):
