@@ -325,7 +325,7 @@ class Meanings:
         where = self.first_use(type_, scope, hint)
         source = next((it for it in scope.module.imports if it.name == type_.name), None)
         if source:
-            self.program.problems.error(where.place, f"the module `{source.module}` has no `{type_.name}`", "X.680, 13.16")
+            self.program.problems.error(where.place, self.program.why_not_imported(source, scope.module), "X.680, 13.16")
         else:
             self.program.problems.error(where.place, f"`{type_.name}` isn't defined", "X.680, 14.1")
         return self.unknown(Feature.UNDEFINED).placed(where)

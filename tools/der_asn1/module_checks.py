@@ -54,9 +54,9 @@ class ModuleChecks:
         if home is None:
             return
         if home is module:
-            self.program.problems.error(name.place, f"`{module.name}` imports `{name.name}` from itself", "X.680, 13.16")
+            self.program.problems.error(name.place, self.program.why_not_imported(name, module), "X.680, 13.16")
         elif self.program.find_in(name.name, home, ()) is None and not self.program.source_of(name.name, home):
-            self.program.problems.deviation(name.place, f"the module `{home.name}` has no `{name.name}`", "X.680, 13.16")
+            self.program.problems.deviation(name.place, self.program.why_not_imported(name, module), "X.680, 13.16")
         elif home.exports is not None and name.name not in home.exports:
             self.program.problems.error(name.place, f"the module `{home.name}` doesn't export `{name.name}`", "X.680, 13.16")
 

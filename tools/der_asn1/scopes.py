@@ -89,6 +89,13 @@ class Program:
         """The name of the module that a name is imported from, or None."""
         return next((it.module for it in module.imports if it.name == name), None)
 
+    def why_not_imported(self, name: tree.Import, module: tree.Module) -> str:
+        """Why a module that is given has no name that another module, or itself, imports from it."""
+        home = self.module_named(name.module)
+        if home is module:
+            return f"`{module.name}` imports `{name.name}` from itself"
+        return f"the module `{home.name if home else name.module}` has no `{name.name}`"
+
     def is_elsewhere(self, name: str, module_name: Optional[str], module: tree.Module) -> bool:
         """Whether a name would be of a module that isn't given: one that is written before it, or that it is imported from."""
         source = module_name or self.source_of(name, module)

