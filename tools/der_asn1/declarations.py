@@ -1,7 +1,8 @@
 """The types of Rust that a crate declares: structs, choices and names of other types."""
-from dataclasses import dataclass, field
+from dataclasses import dataclass, field, replace
 from typing import Optional
 
+from .causes import Where
 from .features import Level
 from .other_crates import OtherCrates
 from .rust_types import UNIT, RustType
@@ -14,17 +15,19 @@ from .wording import camel
 class Hint:
     """What a type is called after. A type that is all of an assignment has the key of that, and the comment above it.
 
-    `root` is the name of the assignment that it is all or a part of.
+    `root` is the name of the assignment that it is all or a part of, and `where` the member that it is the type of.
     """
 
     text: str
     key: tuple = ()
     comment: str = ""
     root: str = ""
+    where: Optional[Where] = None
 
-    def part(self, name: str) -> "Hint":
-        """What a part of the type is called after."""
-        return Hint(f"{self.text}-{name}", root=self.root)
+    def part(self, name: str, place: Optional[Place] = None) -> "Hint":
+        """What a part of the type is called after, which is a member if it has a place."""
+        where = replace(self.where, place=place, member=name) if place and self.where else self.where
+        return Hint(f"{self.text}-{name}", root=self.root, where=where)
 
 
 @dataclass(frozen=True)
