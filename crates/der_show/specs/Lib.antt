@@ -7,6 +7,7 @@ pub mod Outlines
 pub mod Openings
 pub mod Written
 pub mod Entries
+pub mod Walks
 pub mod Steps
 pub mod Lines
 pub mod Json
