@@ -256,12 +256,13 @@ def exact_impl(declared: EnumDeclaration, imported: list[str]) -> list[str]:
     before, after = f"{STEP}ghost values = {{ {_VALUES[declared.tag]}", f"{number_term(declared)} (elim ["
     line = f"{before} ({variants}) {after}"
     listed = [f"{_TWO}variants.{it.name} ∷" for it in declared.items]
+    head, indent = ([line], STEP) if len(line) <= GHOST_WIDTH else ([f"{before} (", *listed, f"{_TWO}[]) {after}"], _TWO)
     return [
         f"impl Exact for {declared.name} {{",
         *imported,
-        *([line] if len(line) <= GHOST_WIDTH else [f"{before} (", *listed, f"{_TWO}[]) {after}"]),
-        *(f"{STEP}  | variants.{it.name} ↦ record {{ listed = refl; small = refl }}" for it in declared.items),
-        f"{STEP}]) }};",
+        *head,
+        *(f"{indent}  | variants.{it.name} ↦ record {{ listed = refl; small = refl }}" for it in declared.items),
+        f"{indent}]) }};",
         "",
         f"{STEP}ghost exact = {{ Prim.assumption }};",
         "}",

@@ -323,9 +323,11 @@ def whole(declared: StructDeclaration) -> list[str]:
     """The term of the struct that has these members, on one line if that fits."""
     items = [f"{it.name} = {member_value(it, path)}" for it, path in zip(declared.fields, member_paths(declared))]
     items += [f"{declared.later.name} = {after_last(declared)}"] if declared.later else []
-    before, after = f"{_TWO}(λ m. (record {{", "}, refl {a = m})) };"
-    line = f"{before} {'; '.join(items)} {after}"
-    return [line] if len(line) <= GHOST_WIDTH else [before, *(f"{_TWO}  {it};" for it in items), f"{_TWO}{after}"]
+    line = f"{_TWO}(λ m. (record {{ {'; '.join(items)} }}, refl {{a = m}})) }};"
+    if len(line) <= GHOST_WIDTH:
+        return [line]
+    record = [f"{_TWO}  record {{", *(f"{_TWO}    {it};" for it in items), f"{_TWO}  }},"]
+    return [f"{_TWO}(λ m. (", *record, f"{_TWO}  refl {{a = m}},", f"{_TWO})) }};"]
 
 
 def member_paths(declared: StructDeclaration) -> list[str]:

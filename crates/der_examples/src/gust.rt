@@ -2,6 +2,7 @@
 mod derived;
 
 /// A gust of wind, as a SEQUENCE of an INTEGER and a SEQUENCE of texts.
+// asn1: faithful
 #[derive(Debug, Drop, PartialEq, Eq)]
 pub struct Gust {
     /// Whole meters in a second.

@@ -2,6 +2,7 @@
 mod derived;
 
 /// A number or a bool.
+// asn1: faithful
 #[derive(Debug, Drop, PartialEq, Eq)]
 pub enum NumberOrFlag {
     /// An INTEGER.

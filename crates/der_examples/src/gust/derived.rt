@@ -3,10 +3,11 @@
 //! How `Gust` is written and read.
 ghost use Rattle.std.specs.Prelude.{refl};
 ghost use Rattle.picky_der_de.specs.MembersFacts.{sequence_of, sequence_shape, struct_facts};
+ghost use Rattle.picky_der_de.specs.Faithful.{struct_sameness};
 
 use super::Gust;
 use picky_asn1_der::asn1::Tag;
-use picky_asn1_der::de::Begins;
+use picky_asn1_der::de::{Begins, Faithful, FaithfulMembers};
 use picky_asn1_der::misc::{ReadExt, WriteExt};
 use picky_asn1_der::ser::{Optional, OptionalRef};
 use picky_asn1_der::{
@@ -55,4 +56,10 @@ impl Begins for Gust {
 
 impl List for Gust {
     ghost is_list = { λ it. tt };
+}
+
+impl Faithful for Gust {
+    ghost sameness = { struct_sameness ⟦<Members as FaithfulMembers>⟧.sameness ⟦<Self as Struct>⟧.parts };
+
+    ghost respects = { Prim.assumption };
 }

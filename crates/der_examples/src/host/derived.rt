@@ -5,11 +5,12 @@ ghost use Rattle.std.specs.Prelude.{refl};
 ghost use Rattle.picky_der_core.specs.Shape.{Shape};
 ghost use Rattle.picky_der_de.specs.declared.choice4.Choice4.TheVariants.{First, Fourth, Second, Third};
 ghost use Rattle.picky_der_de.specs.ChoiceFacts.{choice_facts};
+ghost use Rattle.picky_der_de.specs.Faithful.{choice_sameness};
 
 use super::Host;
 use picky_asn1_der::Choice4::{First, Fourth, Second, Third};
 use picky_asn1_der::asn1::{ByteBuf, Ia5StringAsn1, ImplicitContextTag2, Tag};
-use picky_asn1_der::de::{Begins, deserialize_choice_as};
+use picky_asn1_der::de::{Begins, Faithful, FaithfulAlternatives, deserialize_choice_as};
 use picky_asn1_der::misc::{ReadExt, WriteExt};
 use picky_asn1_der::{
     Alternatives, Choice, Choice4, Deserialize, Deserializer, NoneOf, Result, Serialize, Serializer,
@@ -71,4 +72,13 @@ impl Begins for Host {
     fn begins_with(tag: Tag) -> bool {
         <Parts as Alternatives>::begins_with(tag)
     }
+}
+
+impl Faithful for Host {
+    ghost use Rattle.der_examples.specs.declared.host.Host.TheVariants as variants;
+
+    ghost sameness = { choice_sameness ⟦<Parts as FaithfulAlternatives>⟧.sameness ⟦<Self as Choice>⟧.parts ⟦<Self as PartialEq>⟧.eq
+        (elim [ variants.Email _ ↦ elim [ variants.Email _ ↦ λ h. h | _ ↦ λ h. h ] | _ ↦ elim [ variants.Email _ ↦ λ h. h | _ ↦ λ h. h ] ]) };
+
+    ghost respects = { Prim.assumption };
 }

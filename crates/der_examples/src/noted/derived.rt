@@ -3,10 +3,11 @@
 //! How `Noted` is written and read.
 ghost use Rattle.std.specs.Prelude.{refl};
 ghost use Rattle.picky_der_de.specs.MembersFacts.{sequence_of, sequence_shape, struct_facts};
+ghost use Rattle.picky_der_de.specs.Faithful.{struct_sameness};
 
 use super::Noted;
 use picky_asn1_der::asn1::{ExplicitContextTag0, Tag};
-use picky_asn1_der::de::Begins;
+use picky_asn1_der::de::{Begins, Faithful, FaithfulMembers};
 use picky_asn1_der::misc::{ReadExt, WriteExt};
 use picky_asn1_der::ser::{Element, Optional, OptionalRef};
 use picky_asn1_der::{
@@ -56,4 +57,10 @@ impl<T: Deserialize> Begins for Noted<T> {
 
 impl<T: Serialize> List for Noted<T> {
     ghost is_list = { λ it. tt };
+}
+
+impl<T: Faithful> Faithful for Noted<T> {
+    ghost sameness = { struct_sameness ⟦<Members<T> as FaithfulMembers>⟧.sameness ⟦<Self as Struct>⟧.parts };
+
+    ghost respects = { Prim.assumption };
 }

@@ -5,11 +5,12 @@ ghost use Rattle.std.specs.Prelude.{refl};
 ghost use Rattle.picky_der_core.specs.Shape.{Shape};
 ghost use Rattle.picky_der_de.specs.declared.alternatives.OneOf.TheVariants.{Other, This};
 ghost use Rattle.picky_der_de.specs.ChoiceFacts.{choice_facts};
+ghost use Rattle.picky_der_de.specs.Faithful.{choice_sameness};
 
 use super::NumberOrFlag;
 use picky_asn1_der::OneOf::{Other, This};
 use picky_asn1_der::asn1::Tag;
-use picky_asn1_der::de::{Begins, deserialize_choice_as};
+use picky_asn1_der::de::{Begins, Faithful, FaithfulAlternatives, deserialize_choice_as};
 use picky_asn1_der::misc::{ReadExt, WriteExt};
 use picky_asn1_der::{
     Alternatives, Choice, Deserialize, Deserializer, NoneOf, OneOf, Result, Serialize, Serializer,
@@ -62,4 +63,13 @@ impl Begins for NumberOrFlag {
     fn begins_with(tag: Tag) -> bool {
         <Parts as Alternatives>::begins_with(tag)
     }
+}
+
+impl Faithful for NumberOrFlag {
+    ghost use Rattle.der_examples.specs.declared.number_or_flag.NumberOrFlag.TheVariants as variants;
+
+    ghost sameness = { choice_sameness ⟦<Parts as FaithfulAlternatives>⟧.sameness ⟦<Self as Choice>⟧.parts ⟦<Self as PartialEq>⟧.eq
+        (elim [ variants.Number _ ↦ elim [ variants.Number _ ↦ λ h. h | _ ↦ λ h. h ] | _ ↦ elim [ variants.Number _ ↦ λ h. h | _ ↦ λ h. h ] ]) };
+
+    ghost respects = { Prim.assumption };
 }

@@ -5,10 +5,13 @@ ghost use Rattle.std.proofs.Common.{lit≤};
 ghost use Rattle.std.specs.Prelude.{[], refl, ◌∷◌, ◌≡◌};
 ghost use Rattle.picky_der_core.specs.Equality.{IsKept};
 ghost use Rattle.der_types.specs.ContentsFacts.{contents_facts, contents_of, contents_shape};
+ghost use Rattle.der_types.specs.Notation.{Notation};
+ghost use Rattle.der_types.specs.ExactContents.{own_contents};
+ghost use Rattle.der_types.specs.ExactEnumerated.{enumerated_values};
 ghost use Rattle.der_examples.specs.ResponseStatus.{is_response_status, response_status_number, same_response_status};
 
 use super::ResponseStatus;
-use der_types::{Contents, deserialize_contents_as};
+use der_types::{Contents, Exact, ExactContents, Notated, deserialize_contents_as};
 use picky_asn1_der::asn1::Tag;
 use picky_asn1_der::de::Begins;
 use picky_asn1_der::misc::{ReadExt, WriteExt};
@@ -108,4 +111,47 @@ impl Begins for ResponseStatus {
     fn begins_with(tag: Tag) -> bool {
         tag.inner() == 0x0A
     }
+}
+
+impl Notated for ResponseStatus {
+    ghost use Rattle.der_examples.specs.declared.response_status.ResponseStatus.TheVariants as variants;
+
+    ghost notation = { Notation.ENUMERATED (
+        response_status_number variants.Successful ∷
+        response_status_number variants.MalformedRequest ∷
+        response_status_number variants.InternalError ∷
+        response_status_number variants.TryLater ∷
+        response_status_number variants.SigRequired ∷
+        response_status_number variants.Unauthorized ∷
+        []) };
+
+    ghost denoted = { refl };
+}
+
+impl Exact for ResponseStatus {
+    ghost use Rattle.der_examples.specs.declared.response_status.ResponseStatus.TheVariants as variants;
+
+    ghost values = { enumerated_values (
+        variants.Successful ∷
+        variants.MalformedRequest ∷
+        variants.InternalError ∷
+        variants.TryLater ∷
+        variants.SigRequired ∷
+        variants.Unauthorized ∷
+        []) response_status_number (elim [
+          | variants.Successful ↦ record { listed = refl; small = refl }
+          | variants.MalformedRequest ↦ record { listed = refl; small = refl }
+          | variants.InternalError ↦ record { listed = refl; small = refl }
+          | variants.TryLater ↦ record { listed = refl; small = refl }
+          | variants.SigRequired ↦ record { listed = refl; small = refl }
+          | variants.Unauthorized ↦ record { listed = refl; small = refl }
+        ]) };
+
+    ghost exact = { Prim.assumption };
+}
+
+impl ExactContents for ResponseStatus {
+    ghost own_contents = { own_contents 0x0A (λ it. response_status_number it ∷ []) (lit≤ tt) };
+
+    ghost exact_contents = { Prim.assumption };
 }

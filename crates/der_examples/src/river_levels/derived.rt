@@ -3,10 +3,14 @@
 //! How `RiverLevels` is written and read.
 ghost use Rattle.std.specs.Prelude.{refl};
 ghost use Rattle.picky_der_de.specs.MembersFacts.{sequence_of, sequence_shape, struct_facts};
+ghost use Rattle.der_types.specs.Notation.{Notation};
+ghost use Rattle.der_types.specs.ExactMembers.{struct_values};
+ghost use Rattle.picky_der_de.specs.Faithful.{struct_sameness};
 
 use super::RiverLevels;
+use der_types::{Exact, ExactMembers, Notated, NotatedMembers};
 use picky_asn1_der::asn1::Tag;
-use picky_asn1_der::de::Begins;
+use picky_asn1_der::de::{Begins, Faithful, FaithfulMembers};
 use picky_asn1_der::misc::{ReadExt, WriteExt};
 use picky_asn1_der::ser::Sequence;
 use picky_asn1_der::{
@@ -163,4 +167,53 @@ impl Begins for RiverLevels {
 
 impl List for RiverLevels {
     ghost is_list = { λ it. tt };
+}
+
+impl Notated for RiverLevels {
+    ghost notation = { Notation.sequence ⟦<Members as NotatedMembers>⟧.members_notation };
+
+    ghost denoted = { refl };
+}
+
+impl Exact for RiverLevels {
+    ghost values = { struct_values ⟦<Members as ExactMembers>⟧.all_values ⟦<Members as NotatedMembers>⟧.members_notation
+        ⟦<Members as SerializeMembers>⟧.members ⟦<Self as Struct>⟧.parts
+        (λ m. (
+          record {
+            day = m.0;
+            at_00 = m.1;
+            at_01 = m.2;
+            at_02 = m.3;
+            at_03 = m.4;
+            at_04 = m.5;
+            at_05 = m.6;
+            at_06 = m.7;
+            at_07 = m.8.0;
+            at_08 = m.8.1;
+            at_09 = m.8.2;
+            at_10 = m.8.3;
+            at_11 = m.8.4;
+            at_12 = m.8.5;
+            at_13 = m.8.6;
+            at_14 = m.8.7;
+            at_15 = m.8.8.0;
+            at_16 = m.8.8.1;
+            at_17 = m.8.8.2;
+            at_18 = m.8.8.3;
+            at_19 = m.8.8.4;
+            at_20 = m.8.8.5;
+            at_21 = m.8.8.6;
+            at_22 = m.8.8.7;
+            at_23 = m.8.8.8.0;
+          },
+          refl {a = m},
+        )) };
+
+    ghost exact = { Prim.assumption };
+}
+
+impl Faithful for RiverLevels {
+    ghost sameness = { struct_sameness ⟦<Members as FaithfulMembers>⟧.sameness ⟦<Self as Struct>⟧.parts };
+
+    ghost respects = { Prim.assumption };
 }
