@@ -1,4 +1,6 @@
 """Terms print back as ASN.1, and what is printed is what the modules have."""
+import contextlib
+import io
 import re
 import unittest
 from pathlib import Path
@@ -84,6 +86,15 @@ class Printing(unittest.TestCase):
     def test_a_word_that_has_no_notation(self):
         with self.assertRaises(ValueError):
             printed(read_terms("abbrev pub T : Notation\nT = unheard-of 5\n"))
+
+
+class Command(unittest.TestCase):
+    def test_the_terms_of_a_crate(self):
+        terms = GOLDEN.parents[3] / "crates/der_kerberos/specs/Notation.antt"
+        out = io.StringIO()
+        with contextlib.redirect_stdout(out):
+            self.assertEqual(0, command.main(["--print", str(terms)]))
+        self.assertIn("\nChecksum ::= SEQUENCE { member1 [0] Int32, member2 [1] OCTET STRING }\n", out.getvalue())
 
 
 class Comparing(unittest.TestCase):
