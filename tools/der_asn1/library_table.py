@@ -46,6 +46,8 @@ _LISTED = frozenset(("INTEGER", "BIT STRING", "ENUMERATED"))
 def types_of_rows(table: dict[str, list[dict[str, Any]]]) -> Iterator[LibraryType]:
     """The types of the table of der_types that a name alone is."""
     for row in table["kind"]:
+        if "asn1" not in row:
+            continue
         clause = f"X.680, {row['clause']}.1"
         yield LibraryType(row["asn1"], row["tag"], row["name"], Core[row["core"]], row.get("home", ""), row["term"], clause=clause)
     for row in table["content"]:
@@ -78,7 +80,7 @@ UNIVERSAL_TAGS = {it.name: it.tag for it in TYPES}
 
 # the other names of the library that a crate may import, by their modules, in the order of imports
 _NAMES = {
-    _TYPES: """Asn1Set Contents InRange NamedBits Notated NotatedAlternatives NotatedDefault NotatedMembers OtherThan ImplicitPrimitive
+    _TYPES: """Asn1Set Contents Exact ExactAlternatives ExactContents ExactDefault ExactMembers InRange NamedBits Notated NotatedAlternatives NotatedDefault NotatedMembers OtherThan ImplicitPrimitive
         ImplicitSet TagOrdered WithSize deserialize_contents_as""",
     "picky_asn1_der::application_tag": "ApplicationTag",
     _ASN1: """Asn1SequenceOf Asn1SetOf BitStringAsn1Container ExplicitContextTag ImplicitContextTag OctetStringAsn1Container ImplicitList

@@ -154,15 +154,22 @@ class TypeParser(ConstraintParser):
                 if self.accept("}"):
                     break
             first = False
-            if self.accept("..."):
-                found.extensible = True
-                if self.accept("!"):
-                    self.exception()
+            if self.at("..."):
+                self.enumeration_marker(found)
                 continue
             (found.additions if found.extensible else found.items).append(self.enumeration_item())
         if not found.items:
             raise NotationError(place, "an enumeration has an item at least", "X.680, 20.1")
         return found
+
+    def enumeration_marker(self, found: tree.EnumeratedType) -> None:
+        """The extension marker of an enumeration, which has one at most (X.680, 20.1)."""
+        if found.extensible:
+            raise NotationError(self.now.place, "an enumeration has one extension marker at most", "X.680, 20.1")
+        self.take()
+        found.extensible = True
+        if self.accept("!"):
+            self.exception()
 
     def enumeration_item(self) -> tree.NamedNumber:
         """An item of an enumeration, with or without its number (X.680, 20.1)."""

@@ -17,12 +17,15 @@ pub mod DateTimes
 pub mod Denotes
 pub mod Dotted
 pub mod Exact
+pub mod ExactArrays
+pub mod ExactCharacters
 pub mod ExactChoices
 pub mod ExactConstraints
 pub mod ExactContents
 pub mod ExactDefaults
 pub mod ExactEnumerated
 pub mod ExactFourChoices
+pub mod ExactLater
 pub mod ExactMembers
 pub mod ExactTimes
 pub mod GeneralizedTimeLaws

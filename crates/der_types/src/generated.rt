@@ -15,5 +15,6 @@ mod numbers;
 mod object_identifier;
 pub mod other_than;
 mod relative_oid;
+mod tuples;
 mod utc_time;
 pub mod with_size;
