@@ -5,6 +5,7 @@ pub mod Nodes
 pub mod Ends
 pub mod Outlines
 pub mod Openings
+pub mod Written
 pub mod Entries
 pub mod Walks
 pub mod Steps

@@ -27,6 +27,7 @@ mod text;
 mod type_name;
 mod value;
 mod walk;
+pub mod written;
 
 pub use content::content_rule;
 pub use element::Element;
