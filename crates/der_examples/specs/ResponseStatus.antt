@@ -1,6 +1,6 @@
 -- The numbers of an OCSP response's status (RFC 6960, 4.2.1), of which 4 isn't used.
 use Rattle.std.specs.Prelude.{ℕ, Bool, true, false, ◌||◌, ◌==◌, nat_lt, List, [], ◌∷◌, ◌≡◌, refl}
-use Rattle.std.proofs.Common.{◌∙◌}
+use Rattle.std.proofs.Common.{ap, eqb-true, sym, ◌∙◌}
 use Rattle.std.proofs.lemmas.Bool.{eq-eqb}
 use Rattle.der_examples.specs.declared.response_status.ResponseStatus.{ResponseStatus}
 use Rattle.der_examples.specs.declared.response_status.ResponseStatus.TheVariants.{Successful, MalformedRequest, InternalError, TryLater, SigRequired, Unauthorized}
@@ -30,3 +30,6 @@ equal_by_number Unauthorized = elim [ Unauthorized ↦ refl | _ ↦ refl ]
 
 pub same_status : (x y : ResponseStatus) → status_number x ∷ [] ≡ status_number y ∷ [] → compared.ghosts.eq x y ≡ true
 same_status x y e = equal_by_number x y ∙ eq-eqb _ _ cc
+
+pub status_respects : (x y : ResponseStatus) → compared.ghosts.eq x y ≡ true → status_number x ∷ [] ≡ status_number y ∷ []
+status_respects x y h = ap (λ n. n ∷ []) (eqb-true _ _ (sym (equal_by_number x y) ∙ h))
