@@ -36,12 +36,12 @@ typedef uint32_t picky_der_code;
 enum {
     /* Yes, or done. */
     PICKY_DER_OK = 0,
-    /* No: the bytes are cut short. Bytes after them could make them a value of the type. */
+    /* No: the bytes are cut short. Others after them could make them a message of the type. */
     PICKY_DER_TRUNCATED = 1,
-    /* No: whatever bytes are put in place of those after the position, they aren't a value of the type. */
+    /* No: the bytes up to the one at the position begin no message of the type. */
     PICKY_DER_INVALID = 2,
-    /* No: they may be one in another encoding or in a larger program, but none that is read here. Of a
-     * writer: what was asked for is too large. */
+    /* No, as with PICKY_DER_INVALID, but they may begin a message that isn't read here. Of a writer: what is
+     * asked for is too large. */
     PICKY_DER_UNSUPPORTED = 3,
     /* Unknown: an allocation failed. */
     PICKY_DER_NO_MEMORY = 4,

@@ -8,9 +8,9 @@ const char *picky_der_text(picky_der_code code) {
     case PICKY_DER_TRUNCATED:
         return "No: the bytes are cut short";
     case PICKY_DER_INVALID:
-        return "No: whatever bytes are put in place of those after the position, they aren't a value of the type";
+        return "No: the bytes up to the one at the position begin no message of the type";
     case PICKY_DER_UNSUPPORTED:
-        return "No: they may be one in another encoding or in a larger program, but none that is read here";
+        return "No, as with PICKY_DER_INVALID, but they may begin a message that isn't read here";
     case PICKY_DER_NO_MEMORY:
         return "Unknown: an allocation failed";
     case PICKY_DER_OTHER:

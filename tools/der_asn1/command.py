@@ -1,18 +1,22 @@
 """The command line.
 
     der_asn1 --report [--types] [OPTION ..] MODULE.asn1 ..
+    der_asn1 --print crates/NAME/specs/Notation.antt ..
     der_asn1 --out crates/NAME [--type TYPE,..] [--group FILE=TYPE,..] [--crate MODULE=CRATE ..] [--distinct TYPE,..] [--own MODULE=NAME,..]
-        [--own-terms NAME,..] [--check] [--allow-raw] [--allow-wider] [OPTION ..] MODULE.asn1 ..
+        [--own-terms NAME,..] [--check] [--allow-raw [TYPE,..]] [--allow-wider [TYPE,..]] [OPTION ..] MODULE.asn1 ..
     der_asn1 derive [--check] FILE.rt ..
 
 `derive` is in derive.py, and writes what the structs and enums of a file of Rust need.
 
-`--report` prints for each module how many of its types are expressed exactly, and which features of the library are missing for the
-others. `--types` adds a line for each type.
+`--report` prints how much is written without a flag, for each module how many of its types are expressed exactly, and which features of the
+library are missing for the others. `--types` adds a line for each type.
+
+`--print` prints the terms of a crate as ASN.1 again.
 
 `--out` writes a crate of all types of the modules, or of the types after `--type` and what they need, and prints its line of `crates.txt`.
-`--check` writes nothing, and fails if a file isn't what would be written. A type that would be kept as bytes, or in part, is an error
-without `--allow-raw`. A type that would have more values than the notation is an error without `--allow-wider`. An open type is any element.
+`--check` writes nothing, and fails if a file isn't what would be written. What would be kept as bytes is an error without `--allow-raw`, and
+what would have other values than the notation is one without `--allow-wider`: one error for each cause, at the member that lacks something.
+Both may be for some types alone, those that the errors name. An open type is any element.
 
 The types of a module are in one file, which has the module's name, or is `types.rt` if the crate is of one module alone.
 `--group FILE=TYPE,..` puts types with their parts into another file.
@@ -43,6 +47,7 @@ from .meaning_types import ASSOCIATED, Meanings
 from .module_checks import ModuleChecks, identified
 from .other_crates import OtherCrates, other_crates
 from .parse_modules import read_file
+from .printed import printed, read_terms
 from .report import report_of, types_table, whole
 from .scopes import Program
 from .source import NotationError, Problems, Severity
@@ -59,6 +64,7 @@ def arguments(words: Optional[list[str]]) -> argparse.Namespace:
     parser.add_argument("files", nargs="+", metavar="MODULE.asn1", help="a file with one or more modules; imports are found among all files")
     what = parser.add_mutually_exclusive_group(required=True)
     what.add_argument("--report", action="store_true", help="print how well each module is expressed")
+    what.add_argument("--print", action="store_true", help="print files of terms, specs/Notation.antt of crates, as ASN.1")
     what.add_argument("--out", metavar="FOLDER", help="write a crate, whose name is that of the folder")
     parser.add_argument("--types", action="store_true", help="print a line for each type in the report, too")
     parser.add_argument("--type", action="append", default=[], metavar="TYPE,..", help="write these types and what they need")
@@ -116,6 +122,8 @@ def main(words: Optional[list[str]] = None) -> int:
     if given[:1] == ["derive"]:
         return derive.main(given[1:])
     options = arguments(given)
+    if options.print:
+        return shown_terms(options.files)
     problems = Problems(options.strict)
     modules, imported = read(options.files, problems), read(options.imported, problems)
     if options.out:
@@ -126,6 +134,19 @@ def main(words: Optional[list[str]] = None) -> int:
         print("\n".join([*types_table(found), ""]))
     print("\n".join(whole(found)))
     return 1 if failed else 0
+
+
+def shown_terms(paths: list[str]) -> int:
+    """Prints files of terms as modules of the notation."""
+    for path in paths:
+        try:
+            with open(path, encoding="utf-8") as it:
+                print(printed(read_terms(it.read())), end="")
+        except OSError as error:
+            sys.exit(f"{path}: {error.strerror}")
+        except ValueError as error:
+            sys.exit(f"{path}: {error}")
+    return 0
 
 
 def written(options: argparse.Namespace, modules: list[tree.Module], imported: list[tree.Module], problems: Problems) -> int:

@@ -3,12 +3,12 @@ from enum import Enum, IntEnum
 
 
 class Level(IntEnum):
-    """How well a type of the library expresses a type of the notation, the best level first."""
+    """How well a type of the library expresses a type of the notation, the best level first. The first two are written without a flag."""
 
     EXACT = 0  # it is written, and its encodings are exactly those of the notation's values
-    BY_HAND = 1  # it would be exact with types that are written by hand, and wider ones are written in their place
-    WIDER = 2  # all of it has a type, and some values differ: a default, an extension
-    OPEN = 3  # an open type in it is any element, also one that its table doesn't allow
+    OPEN = 1  # it is written, and an open type in it is any element, also one that its table doesn't allow
+    BY_HAND = 2  # it would be exact with types that are written by hand, and wider ones are written in their place
+    WIDER = 3  # all of it has a type, and some values differ: a default, an extension
     PARTLY_RAW = 4  # something in it is kept as bytes
     RAW = 5  # all of it is kept as bytes
     REFUSED = 6  # there is no type
@@ -21,7 +21,7 @@ class Level(IntEnum):
     @property
     def is_plain(self) -> bool:
         """Whether a type of this level is written without `--allow-raw` and `--allow-wider`."""
-        return self in (Level.EXACT, Level.OPEN)
+        return self <= Level.OPEN
 
 
 class Feature(Enum):

@@ -2,15 +2,15 @@
 from typing import Optional, Union
 
 from . import tree
+from .built_in import CLAUSES
 from .cursor import split
-from .library_table import TYPES
 from .parse_constraints import ConstraintParser
 from .source import NotationError, Place
 from .tokens import Kind, Token
 
 # types whose notation is their name alone: those of one word, and the second word and the clause of each other by the first
-SIMPLE = frozenset(it.name for it in TYPES if it.clause and " " not in it.name)
-_TWO_WORDS = {it.name.split()[0]: (it.name.split()[1], it.clause) for it in TYPES if it.clause and " " in it.name}
+SIMPLE = frozenset(it for it in CLAUSES if " " not in it)
+_TWO_WORDS = {it.split()[0]: (it.split()[1], clause) for it, clause in CLAUSES.items() if " " in it}
 
 _CHOICE = "X.680, 29.1"
 

@@ -91,7 +91,7 @@ def rust_raw() -> str:
     """The module of the declarations."""
     structs = "\n\n".join(map(rust_struct, c_interface.structs()))
     functions = "\n".join(map(rust_function, c_interface.functions()))
-    constants = "\n".join(f"/// {it.doc}.\npub const {it.name}: u32 = {it.value};" for it in codes())
+    constants = "\n".join(f"/// {it.doc}.\npub const PICKY_DER_{it.name}: u32 = {it.value};" for it in codes())
     return f"// {NOTE}\n//! What libpicky_der exports.\n\n{constants}\n\n{structs}\n\nextern \"C\" {{\n{functions}\n}}\n"
 
 

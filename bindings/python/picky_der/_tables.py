@@ -17,8 +17,8 @@ UNKNOWN_TYPE = 9
 TEXTS: Dict[int, str] = {
     0: "Yes, or done",
     1: "No: the bytes are cut short",
-    2: "No: whatever bytes are put in place of those after the position, they aren't a value of the type",
-    3: "No: they may be one in another encoding or in a larger program, but none that is read here",
+    2: "No: the bytes up to the one at the position begin no message of the type",
+    3: "No, as with PICKY_DER_INVALID, but they may begin a message that isn't read here",
     4: "Unknown: an allocation failed",
     5: "No, for another reason",
     6: "There is too little room, in an array or a buffer of the caller",

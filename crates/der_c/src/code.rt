@@ -3,18 +3,18 @@ ghost use Rattle.std.specs.Prelude.{◌≡◌};
 ghost use Rattle.der_c.specs.Codes.{error_code, rule_code};
 
 use der_show::Rule;
-use picky_asn1_der::Asn1DerError;
+use picky_der_core::Asn1DerError;
 
 /// Yes, or done.
 pub const PICKY_DER_OK: u32 = 0;
 
-/// No: the bytes are cut short. Bytes after them could make them a value of the type.
+/// No: the bytes are cut short. Others after them could make them a message of the type.
 pub const PICKY_DER_TRUNCATED: u32 = 1;
 
-/// No: whatever bytes are put in place of those after the position, they aren't a value of the type.
+/// No: the bytes up to the one at the position begin no message of the type.
 pub const PICKY_DER_INVALID: u32 = 2;
 
-/// No: they may be one in another encoding or in a larger program, but none that is read here. Of a writer: what was asked for is too large.
+/// No, as with PICKY_DER_INVALID, but they may begin a message that isn't read here. Of a writer: what is asked for is too large.
 pub const PICKY_DER_UNSUPPORTED: u32 = 3;
 
 /// Unknown: an allocation failed.

@@ -1,6 +1,7 @@
 //! Elements, written one after another into a buffer of the caller.
-ghost use Rattle.std.specs.Prelude.{◌≡◌, ◌+◌, ◌≤◌, ◌∷◌, length};
+ghost use Rattle.std.specs.Prelude.{◌≡◌, ◌+◌, ◌≤◌, ◌∷◌, length, MatchBool};
 ghost use Rattle.picky_der_core.specs.Element.{tlv, length_octets};
+ghost use Rattle.der_show.specs.Members.{IsSetContent, IsNoSetContent};
 ghost use Rattle.der_c.specs.Writing.{IsPut, IsWrapped, put_over};
 
 use crate::code::{
@@ -54,13 +55,21 @@ pub extern "C" fn picky_der_wrap(out: &mut [u8], used: &mut usize, start: usize,
         *used = end;
         return PICKY_DER_NO_ROOM;
     }
-    if tag == Tag::SET.inner() && !are_in_set_order(&out[start..before]) {
+    if !is_in_order(tag, &out[start..before]) {
         return rule_code(Rule::SetOrder);
     }
     *used = end;
     out.copy_within(start..before, start + size);
     put_header(out, start, tag, len);
     PICKY_DER_OK
+}
+
+// Whether the bytes may be the content of an element with this tag: the members of a SET have to be in order.
+fn is_in_order(tag: u8, content: &[u8]) -> bool
+    ensures { MatchBool result (tag ≡ 0x31 → IsSetContent content.now)
+        ((tag ≡ 0x31) × IsNoSetContent content.now) }
+{
+    tag != Tag::SET.inner() || are_in_set_order(content)
 }
 
 // Writes the element at that index.

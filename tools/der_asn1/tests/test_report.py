@@ -42,9 +42,9 @@ class Reports(unittest.TestCase):
 
     def test_the_table(self):
         first, module, total = report.table(self.found)
-        self.assertEqual("types exact by hand wider open partly raw raw refused".split(), first.split())
-        self.assertEqual("M 6 2 0 1 0 1 0 2".split(), module.split())
-        self.assertEqual("in all 6 2 0 1 0 1 0 2".split(), total.split())
+        self.assertEqual("types exact open by hand wider partly raw raw refused".split(), first.split())
+        self.assertEqual("M 6 2 0 0 1 1 0 2".split(), module.split())
+        self.assertEqual("in all 6 2 0 0 1 1 0 2".split(), total.split())
 
     def test_the_greedy_list(self):
         self.assertEqual(["2", "3", "4", "5"], [it.split()[0] for it in report.greedy(self.found)])

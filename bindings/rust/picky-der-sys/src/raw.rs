@@ -2,25 +2,25 @@
 //! What libpicky_der exports.
 
 /// Yes, or done.
-pub const OK: u32 = 0;
+pub const PICKY_DER_OK: u32 = 0;
 /// No: the bytes are cut short.
-pub const TRUNCATED: u32 = 1;
-/// No: whatever bytes are put in place of those after the position, they aren't a value of the type.
-pub const INVALID: u32 = 2;
-/// No: they may be one in another encoding or in a larger program, but none that is read here.
-pub const UNSUPPORTED: u32 = 3;
+pub const PICKY_DER_TRUNCATED: u32 = 1;
+/// No: the bytes up to the one at the position begin no message of the type.
+pub const PICKY_DER_INVALID: u32 = 2;
+/// No, as with PICKY_DER_INVALID, but they may begin a message that isn't read here.
+pub const PICKY_DER_UNSUPPORTED: u32 = 3;
 /// Unknown: an allocation failed.
-pub const NO_MEMORY: u32 = 4;
+pub const PICKY_DER_NO_MEMORY: u32 = 4;
 /// No, for another reason.
-pub const OTHER: u32 = 5;
+pub const PICKY_DER_OTHER: u32 = 5;
 /// There is too little room, in an array or a buffer of the caller.
-pub const NO_ROOM: u32 = 6;
+pub const PICKY_DER_NO_ROOM: u32 = 6;
 /// All elements were gone over.
-pub const END: u32 = 7;
+pub const PICKY_DER_END: u32 = 7;
 /// The caller's place or start isn't one.
-pub const NO_PLACE: u32 = 8;
+pub const PICKY_DER_NO_PLACE: u32 = 8;
 /// No type has this number.
-pub const UNKNOWN_TYPE: u32 = 9;
+pub const PICKY_DER_UNKNOWN_TYPE: u32 = 9;
 
 /// An element, by its place in the bytes. Its content is the `content_len` bytes after its header.
 #[repr(C)]
