@@ -26,7 +26,7 @@ _OTHERS = {
 
 def _clauses() -> Iterator[tuple[str, str]]:
     for row in (*ROWS["kind"], *ROWS["content"]):
-        if row["asn1"] not in _LISTED and not row.get("named"):
+        if row.get("asn1", "INTEGER") not in _LISTED and not row.get("named"):
             yield row["asn1"], f"X.680, {row['clause']}.1"
     for row in ROWS["characters"]:
         yield from ((name, _STRINGS) for name in row["asn1"])

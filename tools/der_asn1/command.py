@@ -4,6 +4,9 @@
     der_asn1 --print crates/NAME/specs/Notation.antt ..
     der_asn1 --out crates/NAME [--type TYPE,..] [--group FILE=TYPE,..] [--crate MODULE=CRATE ..] [--distinct TYPE,..] [--own MODULE=NAME,..]
         [--own-terms NAME,..] [--check] [--allow-raw [TYPE,..]] [--allow-wider [TYPE,..]] [OPTION ..] MODULE.asn1 ..
+    der_asn1 derive [--check] FILE.rt ..
+
+`derive` is in derive.py, and writes what the structs and enums of a file of Rust need.
 
 `--report` prints how much is written without a flag, for each module how many of its types are expressed exactly, and which features of the
 library are missing for the others. `--types` adds a line for each type.
@@ -33,7 +36,7 @@ import re
 import sys
 from typing import Iterable, Optional
 
-from . import tree
+from . import derive, tree
 from .causes import Allowed, refuse
 from .declarations import Declarations, NewtypeDeclaration
 from .emit_crate import NEEDS, RESERVED, Crate, reached, reached_elsewhere
@@ -115,7 +118,10 @@ def said(problems: Problems) -> bool:
 def main(words: Optional[list[str]] = None) -> int:
     """Runs the command. Returns 1 if there is an error, else 0."""
     sys.setrecursionlimit(_DEPTH)
-    options = arguments(words)
+    given = sys.argv[1:] if words is None else words
+    if given[:1] == ["derive"]:
+        return derive.main(given[1:])
+    options = arguments(given)
     if options.print:
         return shown_terms(options.files)
     problems = Problems(options.strict)

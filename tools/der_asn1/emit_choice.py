@@ -23,7 +23,7 @@ _VARIANTS_WIDTH = 140
 _HIDDEN = frozenset(["This", "Other", "Later", *_FOUR_NAMES, "Some", "None", "Ok", "Err"])
 
 _NAMES = """ReadExt WriteExt Alternatives Choice Deserialize Deserializer NoneOf Result Serialize Serializer Begins
-deserialize_choice_as Tag Notated NotatedAlternatives""".split()
+deserialize_choice_as Tag Notated NotatedAlternatives Exact ExactAlternatives""".split()
 
 
 def place(index: int, count: int) -> list[str]:
@@ -31,6 +31,11 @@ def place(index: int, count: int) -> list[str]:
     if count - index // FOUR * FOUR >= FOUR:
         return ["Later"] * (index // FOUR) + [_FOUR_NAMES[index % FOUR]]
     return ["Later"] * (index // FOUR) + ["Other"] * (index % FOUR) + ["This"]
+
+
+def outside(count: int) -> list[str]:
+    """The constructors around what is none of so many alternatives, the outermost first."""
+    return ["Later"] * (count // FOUR) + ["Other"] * (count % FOUR)
 
 
 def term(constructors: list[str], value: str) -> str:
@@ -47,28 +52,39 @@ def pattern(constructors: list[str], value: str) -> str:
     return value
 
 
-def choice_uses(declared: ChoiceDeclaration) -> Uses:
-    """What the items of a choice name."""
+def choice_uses(declared: ChoiceDeclaration, is_exact: bool = True) -> Uses:
+    """What the items of a choice name, with or without those of `Exact`."""
     count = len(declared.variants)
     constructors = {name for index in range(count) for name in place(index, count)}
-    used = {it: constructors.intersection(own) for it, own in _CONSTRUCTORS.items() if constructors.intersection(own)}
+    used = by_type(constructors)
     terms = {
         PRELUDE: {"refl"},
         "Rattle.picky_der_core.specs.Shape": {"Shape"},
         "Rattle.picky_der_de.specs.ChoiceFacts": {"choice_facts"},
         "Rattle.der_types.specs.Notation": {"Notation"},
-        **{_CONSTRUCTOR_HOMES[it]: found for it, found in used.items()},
+        "Rattle.der_types.specs.ExactChoices": {"choice_values"},
+        **{_CONSTRUCTOR_HOMES[it]: found for it, found in by_type(constructors.union(outside(count) if is_exact else [])).items()},
     }
     rust = {*_NAMES, *parts_type([it.type for it in declared.variants]).names()}
     return Uses(rust, used, terms)
 
 
+def by_type(constructors: set[str]) -> dict[str, set[str]]:
+    """These constructors by the types that they are of."""
+    return {it: constructors.intersection(own) for it, own in _CONSTRUCTORS.items() if constructors.intersection(own)}
+
+
 def choice_lines(declared: ChoiceDeclaration, names: PrivateNames, home: str) -> list[str]:
     """The items of a choice. `home` is the module of terms of the types of its file."""
     parts, variants = names.of(declared, "Parts"), variants_import(declared, home)
+    impls = [*choice_impls(declared, names, home), "", *notated_impl(declared, parts), "", *exact_impl(declared, parts, variants)]
+    return [*definition(declared), "", *impls]
+
+
+def choice_impls(declared: ChoiceDeclaration, names: PrivateNames, home: str) -> list[str]:
+    """What each choice has, but for its definition."""
+    parts, variants = names.of(declared, "Parts"), variants_import(declared, home)
     return [
-        *definition(declared),
-        "",
         *type_lines("", f"type {parts} = ", str(parts_type([it.type for it in declared.variants])), ";"),
         "",
         *choice_impl(declared, parts, variants),
@@ -78,8 +94,6 @@ def choice_lines(declared: ChoiceDeclaration, names: PrivateNames, home: str) ->
         *deserialize_impl(declared, parts, variants),
         "",
         *begins_impl(declared, parts),
-        "",
-        *notated_impl(declared, parts),
     ]
 
 
@@ -222,6 +236,25 @@ def notated_impl(declared: ChoiceDeclaration, parts: str) -> list[str]:
         f"{STEP}ghost notation = {{ Notation.choice ⟦<{parts} as NotatedAlternatives>⟧.alternatives_notation }};",
         "",
         f"{STEP}ghost denoted = {{ refl }};",
+        "}",
+    ]
+
+
+def exact_impl(declared: ChoiceDeclaration, parts: str, imported: list[str]) -> list[str]:
+    """The implementation of `Exact`: its alternatives are exact, and each of them is that of a value."""
+    count = len(declared.variants)
+    cases = [f"{term(place(at, count), 'x')} ↦ (variants.{it.name} x, refl)" for at, it in enumerate(declared.variants)]
+    cases.append(f"{term(outside(count), 'x')} ↦ elim x [ ]")
+    return [
+        f"impl Exact for {declared.name} {{",
+        *imported,
+        f"{STEP}ghost values = {{ choice_values ⟦<{parts} as ExactAlternatives>⟧.chosen_values",
+        f"{_TWO}⟦<{parts} as NotatedAlternatives>⟧.alternatives_notation ⟦<{parts} as Alternatives>⟧.chosen ⟦<Self as Choice>⟧.parts",
+        f"{_TWO}(elim [",
+        *(f"{_TWO}  | {it}" for it in cases),
+        f"{_TWO}]) }};",
+        "",
+        f"{STEP}ghost exact = {{ Prim.assumption }};",
         "}",
     ]
 

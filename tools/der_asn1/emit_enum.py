@@ -3,7 +3,7 @@ from .declarations import EnumDeclaration, Item
 from .emit_choice import variants_import
 from .emit_comments import sentence
 from .emit_imports import PRELUDE, Uses
-from .layout import STEP, comment, signature
+from .layout import GHOST_WIDTH, STEP, comment, signature
 from .private_names import PrivateNames
 from .wording import snake
 
@@ -11,9 +11,13 @@ _TWO = STEP * 2
 _THREE = STEP * 3
 
 _CONTENTS = "Rattle.der_types.specs.ContentsFacts"
+_ENUMERATED = "Rattle.der_types.specs.ExactEnumerated"
+_OWN_CONTENTS = "Rattle.der_types.specs.ExactContents"
+_DEFAULTS = "Rattle.der_types.specs.ExactDefaults"
 _TERMS = {
     "Rattle.std.proofs.Common": {"lit≤"},
     PRELUDE: {"◌≡◌", "[]", "◌∷◌", "refl"},
+    "Rattle.picky_der_core.specs.Equality": {"IsKept"},
     _CONTENTS: {"contents_of", "contents_shape", "contents_facts"},
     "Rattle.der_types.specs.Notation": {"Notation"},
 }
@@ -35,8 +39,11 @@ _FORMS = {
     0x02: ("an INTEGER with a name for each number", "INTEGER", "INTEGER-named"),
     0x0A: ("an ENUMERATED", "ENUMERATED", "ENUMERATED"),
 }
+# the term by which its values are exactly those with the numbers of its items
+_VALUES = {0x02: "named_values", 0x0A: "enumerated_values"}
 
-_NAMES = """Contents Notated deserialize_contents_as Tag Begins ReadExt WriteExt Deserialize Deserializer Result Serialize Serializer""".split()
+_NAMES = """Contents Notated Exact ExactContents deserialize_contents_as Tag Begins ReadExt WriteExt Deserialize Deserializer Result
+Serialize Serializer""".split()
 
 
 def tag_text(declared: EnumDeclaration) -> str:
@@ -74,12 +81,14 @@ def default_proof(name: str) -> str:
     return f"{snake(name)}_by_tree"
 
 
-def enum_uses(declared: EnumDeclaration, crate: str) -> Uses:
-    """What the items of an enumeration name."""
-    uses = Uses({*_NAMES}, terms={f"Rattle.{crate}.specs.{TERMS_FILE}": own_terms(declared)})
+def enum_uses(declared: EnumDeclaration, crate: str, file: str = TERMS_FILE) -> Uses:
+    """What the items of an enumeration name. `file` is the file of its terms."""
+    uses = Uses({*_NAMES}, terms={f"Rattle.{crate}.specs.{file}": own_terms(declared)})
     uses.add(Uses(terms=_TERMS))
+    uses.add(Uses(terms={_ENUMERATED: {_VALUES[declared.tag]}, _OWN_CONTENTS: {"own_contents"}}))
     if declared.defaults:
-        uses.add(Uses({"DefaultOf", "NotatedDefault"}, terms={"Rattle.std.proofs.Common": {"sym"}}))
+        terms = {"Rattle.std.proofs.Common": {"sym"}, _DEFAULTS: {"item_default"}}
+        uses.add(Uses({"DefaultOf", "NotatedDefault", "ExactDefault"}, terms=terms))
     return uses
 
 
@@ -89,18 +98,27 @@ def enum_lines(declared: EnumDeclaration, home: str) -> list[str]:
     return [
         *definition(declared),
         "",
-        *number_impl(declared),
+        *enum_impls(declared, home),
         "",
-        *contents_impl(declared, imported),
+        *notated_impl(declared, imported),
+        "",
+        *exact_impl(declared, imported),
+        *(line for name, it in declared.defaults.items() for line in ["", *default_lines(declared, name, it, imported)]),
+    ]
+
+
+def enum_impls(declared: EnumDeclaration, home: str) -> list[str]:
+    """What each enumeration has, but for its definition."""
+    return [
+        *own_impl(declared),
+        "",
+        *contents_impl(declared, variants_import(declared, home)),
         "",
         *serialize_impl(declared),
         "",
         *deserialize_impl(declared),
         "",
         *begins_impl(declared),
-        "",
-        *notated_impl(declared, imported),
-        *(line for name, it in declared.defaults.items() for line in ["", *default_lines(declared, name, it, imported)]),
     ]
 
 
@@ -115,10 +133,15 @@ def definition(declared: EnumDeclaration) -> list[str]:
     return [*lines, "}"]
 
 
-def number_impl(declared: EnumDeclaration) -> list[str]:
-    """The number of a value, as a function."""
+def own_impl(declared: EnumDeclaration) -> list[str]:
+    """The law of copies, and the number of a value as a function."""
     return [
         f"impl {declared.name} {{",
+        f"{STEP}/// A copy is the same.",
+        f"{STEP}pub fn copies()",
+        f"{_TWO}ensures {{ IsKept ⟦<{declared.name} as Clone>⟧.is_clone (λ it. it) }}",
+        f"{STEP}{{}}",
+        "",
         f"{STEP}// The number of the value.",
         f"{STEP}fn number(self) -> u8",
         f"{_TWO}ensures {{ result ≡ {number_term(declared)} self }}",
@@ -227,6 +250,44 @@ def notated_impl(declared: EnumDeclaration, imported: list[str]) -> list[str]:
     ]
 
 
+def exact_impl(declared: EnumDeclaration, imported: list[str]) -> list[str]:
+    """The implementations of `Exact` and `ExactContents`: each value is an item, whose number is below 128."""
+    variants = " ∷ ".join([*(f"variants.{it.name}" for it in declared.items), "[]"])
+    before, after = f"{STEP}ghost values = {{ {_VALUES[declared.tag]}", f"{number_term(declared)} (elim ["
+    line = f"{before} ({variants}) {after}"
+    listed = [f"{_TWO}variants.{it.name} ∷" for it in declared.items]
+    head, indent = ([line], STEP) if len(line) <= GHOST_WIDTH else ([f"{before} (", *listed, f"{_TWO}[]) {after}"], _TWO)
+    return [
+        f"impl Exact for {declared.name} {{",
+        *imported,
+        *head,
+        *(f"{indent}  | variants.{it.name} ↦ record {{ listed = refl; small = refl }}" for it in declared.items),
+        f"{indent}]) }};",
+        "",
+        f"{STEP}ghost exact = {{ Prim.assumption }};",
+        "}",
+        "",
+        f"impl ExactContents for {declared.name} {{",
+        f"{STEP}ghost own_contents = {{ own_contents {tag_text(declared)} {content_term(declared)} (lit≤ tt) }};",
+        "",
+        f"{STEP}ghost exact_contents = {{ Prim.assumption }};",
+        "}",
+    ]
+
+
+def exact_default_lines(declared: EnumDeclaration, name: str, item: Item, imported: list[str]) -> list[str]:
+    """The implementation of `ExactDefault` for an item that is a default."""
+    content = f"(contents_of {tag_text(declared)} {content_term(declared)})"
+    return [
+        f"impl ExactDefault<{declared.name}> for {name} {{",
+        *imported,
+        f"{STEP}ghost default = {{ item_default {content} {default_term(name)} variants.{item.name} {default_proof(name)} refl }};",
+        "",
+        f"{STEP}ghost exact_default = {{ Prim.assumption }};",
+        "}",
+    ]
+
+
 def default_lines(declared: EnumDeclaration, name: str, item: Item, imported: list[str]) -> list[str]:
     """The type that says that an item is the default of a member."""
     cases = []
@@ -267,6 +328,8 @@ def default_lines(declared: EnumDeclaration, name: str, item: Item, imported: li
         "",
         f"{STEP}ghost is_value = {{ λ it h. sym (({default_proof(name)} variants.{item.name} it refl).0 h) }};",
         "}",
+        "",
+        *exact_default_lines(declared, name, item, imported),
     ]
 
 

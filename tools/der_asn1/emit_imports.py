@@ -13,6 +13,7 @@ PRELUDE = "Rattle.std.specs.Prelude"
 _TERM_ORDER = [
     "Rattle.std.proofs.Common",
     PRELUDE,
+    "Rattle.picky_der_core.specs.Equality",
     "Rattle.picky_der_core.specs.Shape",
     "Rattle.picky_der_de.specs.declared.alternatives.OneOf.TheVariants",
     "Rattle.picky_der_de.specs.declared.choice4.Choice4.TheVariants",
@@ -21,6 +22,12 @@ _TERM_ORDER = [
     "Rattle.picky_der_de.specs.MembersFacts",
     "Rattle.der_types.specs.ContentsFacts",
     "Rattle.der_types.specs.Notation",
+    "Rattle.der_types.specs.Exact",
+    "Rattle.der_types.specs.ExactChoices",
+    "Rattle.der_types.specs.ExactContents",
+    "Rattle.der_types.specs.ExactDefaults",
+    "Rattle.der_types.specs.ExactEnumerated",
+    "Rattle.der_types.specs.ExactMembers",
 ]
 # how wide a line of imports of terms is
 _TERMS_WIDTH = 140
@@ -94,8 +101,8 @@ def imports(names: Iterable[str], homes: dict[str, str], variants: Iterable[tupl
 
 def order(home: str, names: list[str]) -> tuple[int, object]:
     """Where the import of a module comes. A single type of the root comes before the modules of the crate, and several after them."""
-    if home == "crate":
-        return 0, home
+    if home.partition("::")[0] in ("super", "crate"):
+        return 0, (home.startswith("crate"), home)
     if home not in _ORDER or home == "der_types":
         return (1 if home < _ROOT_PATH else 4), home
     is_single_type = home == _ROOT_PATH and len(names) == 1 and names[0][0].isupper()

@@ -2,13 +2,16 @@
 from dataclasses import dataclass
 
 from . import tree
-from .layout import WIDTH, comment, filled
+from .emit_imports import PRELUDE, term_line
+from .layout import GHOST_WIDTH, STEP, WIDTH, comment, filled
 from .scopes import Program
 from .values import arcs_of
-from .wording import words
+from .wording import KEYWORDS, words
 
 # how many bytes `rt fmt` leaves on the line of the name
 _SHORT = 60
+# what the law of the arcs names
+_TERMS = {PRELUDE: ["◌≡◌", "[]", "◌∷◌"], "Rattle.der_types.specs.ObjectIdentifier": ["arcs_of"]}
 
 
 @dataclass
@@ -49,11 +52,22 @@ def values_of(program: Program, modules: list[tree.Module]) -> list[Value]:
 def value_file(values: list[Value]) -> list[str]:
     """The lines of the file, after its first one."""
     lines = ["//! Object identifiers, by their contents: `identifier.is(values::NAME)`."]
+    lines += [term_line(home, names) for home, names in _TERMS.items()]
     for it in values:
         content = [f"0x{byte:02X}" for byte in it.content()]
         lines += ["", *comment("", "///", f"`{it.source}`, {'.'.join(map(str, it.arcs))}.")]
         lines += value_lines(f"pub const {it.name}: &[u8] =", content)
-    return lines
+    return [*lines, "", *arcs_law(values)]
+
+
+def arcs_law(values: list[Value]) -> list[str]:
+    """The law of the arcs of each constant. It is proved by computing them."""
+    lines = ["/// The arcs of the object identifiers whose contents these are.", "pub fn arcs()"]
+    for it in values:
+        label = it.name.lower() + "_" * (it.name.lower() in KEYWORDS)
+        before, after = f"{STEP}ensures {label} {{ arcs_of {it.name}.now", f"≡ {' ∷ '.join(map(str, it.arcs))} ∷ [] }}"
+        lines += [f"{before} {after}"] if len(f"{before} {after}") <= GHOST_WIDTH else [before, f"{STEP * 2}{after}"]
+    return [*lines, "{}"]
 
 
 def value_lines(before: str, content: list[str]) -> list[str]:

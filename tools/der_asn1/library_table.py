@@ -34,11 +34,11 @@ class LibraryType:
     is_sized: bool = True
 
 
-
 def types_of_rows(table: dict[str, list[dict[str, Any]]]) -> Iterator[LibraryType]:
     """The types of the table of der_types that a name alone is."""
     for row in table["kind"]:
-        yield LibraryType(row["asn1"], row["tag"], row["name"], Core[row["core"]], row.get("home", ""), row["term"])
+        if "asn1" in row:
+            yield LibraryType(row["asn1"], row["tag"], row["name"], Core[row["core"]], row.get("home", ""), row["term"])
     for row in table["content"]:
         if not row.get("named"):
             core = Core.NUMBER if row["asn1"] == "INTEGER" else Core.CONTENTS
@@ -68,7 +68,7 @@ UNIVERSAL_TAGS = {it.name: it.tag for it in TYPES}
 
 # the other names of the library that a crate may import, by their modules, in the order of imports
 _NAMES = {
-    _TYPES: """Asn1Set Contents InRange NamedBits Notated NotatedAlternatives NotatedDefault NotatedMembers OtherThan ImplicitPrimitive
+    _TYPES: """Asn1Set Contents Exact ExactAlternatives ExactContents ExactDefault ExactMembers InRange NamedBits Notated NotatedAlternatives NotatedDefault NotatedMembers OtherThan ImplicitPrimitive
         ImplicitSet TagOrdered WithSize deserialize_contents_as""",
     "picky_asn1_der::application_tag": "ApplicationTag",
     _ASN1: """Asn1SequenceOf Asn1SetOf BitStringAsn1Container ExplicitContextTag ImplicitContextTag OctetStringAsn1Container ImplicitList

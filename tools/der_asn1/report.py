@@ -143,6 +143,14 @@ def share(count: int, total: int) -> str:
     return f"{count} of {total} ({100 * count / total if total else 0:.1f} %)"
 
 
+def without_exact(report: Report) -> list[str]:
+    """The types that can't have `Exact` of der_types, each with the reason: there is no type. Each one that is written has it."""
+    missing = [it for it in report.rows if it.meaning.rust is None]
+    reasons = [", ".join(sorted(feature.text for feature in it.meaning.features)) for it in missing]
+    counted = f"{share(len(report.rows) - len(missing), len(report.rows))} with `Exact`"
+    return [counted, *(f"    {it.module.name}.{it.name} has none: {reason}" for it, reason in zip(missing, reasons))]
+
+
 def features_table(report: Report) -> list[str]:
     """How many types each missing feature or type by hand stops, and how many lack it alone."""
     stops, alone = Counter(), Counter()
@@ -187,6 +195,8 @@ def whole(report: Report) -> list[str]:
         *table(report),
         "",
         *summary(report),
+        "",
+        *without_exact(report),
         "",
         *features_table(report),
         "",

@@ -7,6 +7,7 @@ from generation.table import Constraint, constraints
 TYPE = """
 ghost use Rattle.std.proofs.Common.{ap};
 ghost use Rattle.std.specs.Prelude.{◌≡◌, true, false, not, refl, IfSome, IfNone, IfOk, IfErr};
+ghost use Rattle.picky_der_core.specs.Equality.{IsThatOf};
 ghost use Rattle.picky_der_de.specs.Reading.{Reads, Refuses};
 ghost use Rattle.picky_der_de.specs.Facts.{part_facts};
 ghost use Rattle.der_types.specs.Constraints.{$test_name, RefusesConstrained};
@@ -58,6 +59,13 @@ $first        if $code {
         let $name { value } = self;
         value
     }
+}
+
+impl<T: $of + PartialEq, $parameters> $type {
+    /// Two are equal exactly if their ${value}s are.
+    pub fn equality()
+        ensures { IsThatOf ⟦<$type as PartialEq>⟧.eq (λ it. it.value) T.eq }
+    {}
 }
 
 impl<T: $of + Deserialize, $parameters> Constrained for $type {

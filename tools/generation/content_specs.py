@@ -1,15 +1,15 @@
 """What the specs of der_types say of each type whose content passes a test, and of each string type."""
 from generation.files import Files, Lines, proof
-from generation.table import Characters, Content, characters, contents
+from generation.table import Characters, Content, Named, Profile, characters, contents, profiles
 from shared.crates import ROOT
 
 SPECS = "crates/der_types/specs"
 
 
-def uses(rows: list[Content]) -> Lines:
+def uses(rows: list[Content | Profile], sizes: list[Named]) -> Lines:
     """The imports of the tests and sizes, a line a file."""
     names: dict[str, list[str]] = {}
-    for home, name in [(row.specs, row.test) for row in rows] + [(row.size.specs, row.size.name) for row in rows if row.size]:
+    for home, name in [(row.specs, row.test) for row in rows] + [(it.specs, it.name) for it in sizes]:
         names.setdefault(home, []).append(name)
     return [f"use Rattle.{home}.{{{', '.join(dict.fromkeys(found))}}}" for home, found in sorted(names.items())]
 
@@ -38,7 +38,7 @@ def strings(rows: list[Characters]) -> Lines:
 
 def content_types() -> Lines:
     """The types as data, with the tag, the test and the size of each."""
-    rows = contents()
+    rows, sized = [*contents(), *profiles()], [row for row in contents() if row.size]
     tests = dict.fromkeys(["is_any_byte", *(row.test for row in characters())])
     return [
         *proof(),
@@ -47,7 +47,7 @@ def content_types() -> Lines:
         "use Rattle.der_types.specs.declared.width.Width.{Width}",
         "use Rattle.der_types.specs.declared.width.Width.TheVariants.{One, Two, Four}",
         f"use Rattle.der_types.specs.CharacterStrings.{{{', '.join(tests)}}}",
-        *uses(rows),
+        *uses(rows, [row.size for row in sized]),
         "",
         "pub data ContentType : Type 0 where",
         *[line for row in rows for line in (f"  -- {row.clause}{': ' if row.note else ''}{row.note}", f"  {row.term} : ContentType")],
@@ -62,7 +62,7 @@ def content_types() -> Lines:
         "",
         "-- how many bits or bytes a content has (51.5.3)",
         "abbrev pub size_of : ContentType → List ℕ → ℕ",
-        *(f"size_of ContentType.{row.term} s = length ({row.size.name} s)" for row in rows if row.size),
+        *(f"size_of ContentType.{row.term} s = length ({row.size.name} s)" for row in sized),
         "size_of _ s = length s",
         "",
         *strings(characters()),
@@ -71,7 +71,7 @@ def content_types() -> Lines:
 
 def content_forms() -> Lines:
     """The types as terms."""
-    terms = {row.term: f"Notation.checked-content ContentType.{row.term}" for row in contents()}
+    terms = {row.term: f"Notation.checked-content ContentType.{row.term}" for row in [*contents(), *profiles()]}
     for row in characters():
         for at, name in enumerate(row.asn1):
             terms[name] = row.asn1[0] if at else f"Notation.restricted-string 0x{row.tag:02X}"

@@ -43,7 +43,7 @@ def files() -> Files:
     rows = kinds()
     lines = [
         *source("The types of one primitive kind each, as types of ASN.1."),
-        "ghost use Rattle.std.specs.Prelude.{◌≡◌, refl, string_bytes};",
+        "ghost use Rattle.std.specs.Prelude.{◌≡◌, encode_utf8, refl, string_bytes};",
         "ghost use Rattle.picky_der_core.specs.Primitive.{Primitive};",
         "ghost use Rattle.picky_der_core.specs.Tree.{Tree};",
         "ghost use Rattle.der_types.specs.Exact.{plain_values};",

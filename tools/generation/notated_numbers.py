@@ -107,7 +107,7 @@ def notated_numbers() -> Lines:
         "use crate::{Exact, ExactDefault, ExactNumber, Notated, NotatedDefault, WholeNumber};",
         "use picky_der_ser::{Number, SignedNumber};",
         "",
-        *each(UNSIGNED_TYPE, UNSIGNED),
+        *each(UNSIGNED_TYPE, [*UNSIGNED, USIZE]),
         *each(SIGNED_TYPE, SIGNED),
         *whole_numbers(),
     ]

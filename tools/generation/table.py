@@ -49,11 +49,22 @@ class Content:
 
 
 @dataclass(frozen=True)
+class Profile:
+    """Contents of fewer values than a type of ASN.1 has, whose type is written by hand."""
+
+    term: str
+    clause: str
+    note: str
+    tag: int
+    test: str
+    specs: str
+
+
+@dataclass(frozen=True)
 class Kind:
     """A type of one primitive kind."""
 
     name: str
-    asn1: str
     clause: str
     term: str
     tag: int
@@ -62,6 +73,7 @@ class Kind:
     exact: str
     cites: list[str]
     home: str = ""
+    asn1: str = ""
 
 
 @dataclass(frozen=True)
@@ -115,6 +127,11 @@ def contents() -> list[Content]:
     """The types whose content passes a test."""
     named = ("size", "equality")
     return [Content(**{key: Named(**it) if key in named else it for key, it in row.items()}) for row in load("content")]
+
+
+def profiles() -> list[Profile]:
+    """The contents of types that are written by hand."""
+    return [Profile(**row) for row in load("profile")]
 
 
 def kinds() -> list[Kind]:

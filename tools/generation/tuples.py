@@ -351,6 +351,51 @@ def exact_members() -> Lines:
     return text
 
 
+def exact_tuples() -> Lines:
+    """Tuples of each width, as SEQUENCEs."""
+    text = [
+        *source("Tuples as SEQUENCEs, each with its elements as members that are always there."),
+        "ghost use Rattle.std.proofs.Common.{ap};",
+        "ghost use Rattle.std.specs.Prelude.{refl};",
+        "ghost use Rattle.picky_der_core.specs.Shape.{Layout, Shape};",
+        "ghost use Rattle.picky_der_core.specs.Tree.{ListKind};",
+        "ghost use Rattle.der_types.specs.ExactMembers.{struct_values};",
+        "ghost use Rattle.der_types.specs.Notation.{Member, Members, Notation};",
+        "ghost use Rattle.der_types.specs.NotationLaws.{required_first};",
+        "",
+        "use crate::{Exact, ExactMembers, Notated, NotatedMembers};",
+        "use picky_der_ser::SerializeMembers;",
+        "",
+    ]
+    for width in range(1, AT_ONCE + 1):
+        text += exact_tuple(NAMES[:width])
+    return text
+
+
+def exact_tuple(names: str) -> Lines:
+    """A tuple of these types as a SEQUENCE."""
+    width, whole, members = len(names), tuple_of(names), tuple_of([*names, "()"])
+    notation = nested([f"Members.member (Member.required {it}.notation)" for it in names], "Members.end")
+    denoted = nested([f"required_first {it}.denoted" for it in names], "(refl {a = Layout.empty})")
+    of_members = " ".join(f"⟦<{members} as {trait}>⟧.{name}" for trait, name in EXACT_FACTS)
+    parts = tuple_of([*(f"t.{at}" for at in range(width)), "tt"])
+    value = tuple_of([f"m.{at}" for at in range(width)]) if width > 1 else "record { 0 = m.0 }"
+    return [
+        f"impl{of(names, 'Notated')} Notated for {whole} {{",
+        f"    ghost notation = {{ Notation.sequence ({notation}) }};",
+        "",
+        f"    ghost denoted = {{ ap (Shape.fields ListKind.sequence) ({denoted}) }};",
+        "}",
+        "",
+        f"impl{of(names, 'Exact')} Exact for {whole} {{",
+        f"    ghost values = {{ struct_values {of_members} (λ t. {parts}) (λ m. ({value}, refl {{a = m}})) }};",
+        "",
+        "    ghost exact = { Prim.assumption };",
+        "}",
+        "",
+    ]
+
+
 def files() -> Files:
     """The files of tuples."""
     ser, de, types = "crates/picky_der_ser", "crates/picky_der_de", "crates/der_types"
@@ -361,6 +406,7 @@ def files() -> Files:
         f"{de}/src/generated/members.rt": read_members(),
         f"{de}/src/generated/tuples.rt": read_tuples(),
         f"{types}/src/generated/members.rt": [*notation_of_members(), *exact_members()],
+        f"{types}/src/generated/tuples.rt": exact_tuples(),
     }
     for name in REFS:
         found[f"{ser}/proofs/generated/member_refs/{name}SerializeMembers/serialize_members/Answers.antt"] = member_refs_proof(name)

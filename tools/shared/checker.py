@@ -57,7 +57,7 @@ class Said:
         return fits[0] if fits else None
 
     def impls(self, edit: Edit) -> list[str]:
-        """The implementation in the name of an edit that is about no function, as about a law, or the constant of one; and its functions."""
+        """What the name of an edit is the name of: a function, or an implementation or the constant of one, and its functions."""
         file, called = edit.name.split(".")[:2]
         label = "::".join([self.crate, *source.module_of(file_of(file)), *called.split("-")])
         return [it for it in self.status if it == label or it.startswith(f"{label}::")]
@@ -100,9 +100,23 @@ class Said:
         return (unread[0].text if unread else next((it for it in self.lines if "error" in it), "no verdict"))[:200]
 
 
+def by_laws(said: Said, edit: Edit, batch: list[Edit]) -> tuple[list[str], list[Edit]]:
+    """The goals at which laws refuse an edit, and the edits that may be the reason as well: those about which a law says something at
+    the same goal."""
+    goals: list[str] = []
+    others: list[Edit] = []
+    for law, about in edit.laws.items():
+        label = said.label(law)
+        at = [it for it in said.refused_at(label)[0] if it in about] if label else []
+        goals += [f"{it} of {'::'.join(label.split('::')[1:])}" for it in at if label]
+        others += [it for it in batch if it is not edit and set(at) & it.laws.get(law, set())]
+    return goals, others
+
+
 def judge(said: Said, edit: Edit, batch: list[Edit]) -> tuple[str, str, list[Edit]]:
-    """What the checker's words say of an edit: the verdict, the reason, and the edits without which to try it again."""
-    labels = [it for it in map(said.label, edit.own) if it] or said.impls(edit)
+    """What the checker's words say of an edit: the verdict, the reason, and the edits without which to try it again. Where its own
+    functions don't refuse it, a law may."""
+    labels = list(dict.fromkeys([*filter(None, map(said.label, edit.own)), *said.impls(edit)]))
     labels += [it for it in said.status if it in {label.rpartition("::")[0] for label in labels}]
     goals: list[str] = []
     names: list[str] = []
@@ -120,6 +134,9 @@ def judge(said: Said, edit: Edit, batch: list[Edit]) -> tuple[str, str, list[Edi
         return "refused", ", ".join(dict.fromkeys(goals)), []
     if names:
         return "names-only", f"a proof file names what it took away: {names[0]}", []
-    if others:
-        return "waits", "", others
-    return ("refused", "; ".join(left), []) if left else ("survives", edit.why, [])
+    lawful, rivals = by_laws(said, edit, batch)
+    if others or lawful and rivals:
+        return "waits", "", others + rivals
+    if lawful or left:
+        return "refused", ", ".join(lawful) or "; ".join(left), []
+    return "survives", edit.why, []

@@ -7,7 +7,7 @@ one, and the old one is exactly once in its file, or in the function that the ed
 must-fail/NAME.edit has one edit. wrong-bodies/FOLDER.bodies has the edits of the modules in a folder of src/, or in src/ itself. If these are
 too many for one file, there is also FOLDER-SUBJECT.bodies. After a line `# MODULE` come the edits of that module. Each begins with a line
 `## FUNCTION.what_is_wrong`, and changes the module's own file unless a `file:` line names another. MODULE is the file in src/ with `-` for
-each `/`.
+each `/`. A module `X-derived`, which is written for the module X, counts as one in the folder of X.
 """
 import functools
 import re
@@ -20,6 +20,9 @@ from . import rattle_source as source
 Function = tuple[str, str, str]
 # the text of each file that an edit may change, by its path in the crate
 Texts = dict[str, str]
+
+# how the name of a module ends that `tools/der_asn1/der_asn1 derive` writes
+DERIVED = "-derived"
 
 # the words that begin an edit's lines, in their order
 WORDS = re.compile(r"(survives( by hand)?:)?((file:)?old:new:)+")
@@ -71,8 +74,9 @@ class Edit:
 
     def look_at(self, texts: Texts) -> None:
         """Finds `changed`, what the edit makes of each function of these texts that it changes or adds; `own`, the functions that it is
-        about; and `touched`, what no two edits that are tried at once may share. A function that it adds counts by its name alone there,
-        since the methods of a type may be in several files.
+        about; `laws`, the goals of laws that quote an implementation of which it changes or adds a function; and `touched`, what no two
+        edits that are tried at once may share. A function that it adds counts by its name alone there, since the methods of a type may be
+        in several files.
 
         It is about the function in its name, as about a law for what it adds; where there is none, about those that it changes or adds.
         """
@@ -80,9 +84,11 @@ class Edit:
         before, after = all_functions(texts), all_functions(texts_after)
         self.changed = {it: after.get(it) for it in {*before, *after} if before.get(it) != after.get(it)}
         named, old = [it for it in before if self.names(it)], [it for it in self.changed if it in before]
-        if not any(map(self.names, self.changed)) and not self.is_about(named, before, texts_after):
+        blocks_before = blocks_of(texts.get(file_of(self.name.split(".")[0]), ""))
+        if not any(map(self.names, self.changed)) and not self.is_about(named, before, texts_after, blocks_before):
             raise BadEdit("the function in its name is none of those that it changes")
         self.own = sorted([it for it in named if it in old] or named or old or self.changed)
+        self.laws = {it: said for it, text in before.items() if it not in self.changed and (said := goals_about(text, {block for _, block, _ in self.changed}))}
         self.touched: set[tuple[str, ...]] = {*self.own, *self.changed, *(it[1:] for it in self.changed if it not in before)}
 
     def names(self, function: Function) -> bool:
@@ -91,11 +97,11 @@ class Edit:
         file, called = self.name.split(".")[:2]
         return path == file_of(file) and called in (name, f"{block}-{name}")
 
-    def is_about(self, named: list[Function], before: dict[Function, str], after: Texts) -> bool:
+    def is_about(self, named: list[Function], before: dict[Function, str], after: Texts, blocks_before: set[str]) -> bool:
         """Whether an edit that doesn't change the function in its name is about that one, or about the implementation in its name.
 
         It may be about a law, whatever it changes. It may be about another function, or an implementation, if it changes no function
-        but what they use. It is about an implementation if it changes or adds one of its functions.
+        but what they use. It is about an implementation if it adds it, or changes or adds one of its functions.
         """
         file, called = self.name.split(".")[:2]
         block, path = called.split("-")[0], file_of(file)
@@ -103,7 +109,17 @@ class Edit:
             return not self.changed or all(before[it].endswith("{}") for it in named)
         if any(it[:2] == (path, block) for it in self.changed):
             return block == called
-        return not self.changed and block in blocks_of(after.get(path, ""))
+        blocks = blocks_of(after.get(path, ""))
+        return block in blocks and (not self.changed or block == called and block not in blocks_before)
+
+
+def goals_about(law: str, blocks: set[str]) -> set[str]:
+    """The goals of a law, by its text, whose clauses quote one of these implementations. A function with a body has none."""
+    if not law.endswith("{}"):
+        return set()
+    clauses = source.clauses(law)
+    names = [name for name, text in clauses if blocks & source.named_blocks(text)]
+    return {f"returns-clause-{it}" for it in names} | ({"returns"} if names else set())
 
 
 def file_of(module: str) -> str:
@@ -171,7 +187,7 @@ def bodies_in(file: Path) -> list[Edit]:
 
 def bodies_of(stem: str, module: str, text: str) -> Iterator[Edit]:
     """The edits of a module, from the text after its line `# MODULE` in the file with this name."""
-    folder = module.rpartition("-")[0] or "src"
+    folder = module.removesuffix(DERIVED).rpartition("-")[0] or "src"
     head, *bodies = re.split(r"^## ", text, flags=re.M)
     if stem != folder and not stem.startswith(f"{folder}-"):
         yield bad_edit(f"{module}.", f"the bodies of this module belong in {folder}.bodies, and not in {stem}.bodies")

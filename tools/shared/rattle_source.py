@@ -124,6 +124,17 @@ def functions(text: str) -> list[tuple[str, str, int, int]]:
     return [(block_of(header) if header else "", name, begin, end) for header, name, begin, _, end in parts(text)[0]]
 
 
+def clauses(text: str) -> list[tuple[str, str]]:
+    """The clauses `ensures` of a function's text, each as its name (or an empty text) and what it says."""
+    code = blanked(text)
+    return [(it[1] or "", text[it.end() : after_bracket(code, it.end() - 1) - 1]) for it in re.finditer(r"\bensures\*?\s+(?:(\w+)\s+)?\{", code)]
+
+
+def named_blocks(text: str) -> set[str]:
+    """The names of the implementations that a clause quotes, as `⟦<T as Clone>⟧`."""
+    return {block_of(f"impl {trait} for {implementer}") for implementer, trait in re.findall(r"⟦<(.+?) as (.+?)>⟧", text)}
+
+
 def module_of(path: str) -> list[str]:
     """The names of the modules to a file below src/."""
     parts = path.removeprefix("src/").removesuffix(".rt").split("/")

@@ -103,6 +103,22 @@ class LookedAt(unittest.TestCase):
         self.assertEqual([("src/lib.rt", "LevelDrop", "drop")], self.own("lib.LevelDrop.does_nothing", "old: impl Level {", f"new: {added}"))
         self.refused("lib.LevelEq.does_nothing", "old: impl Level {", f"new: {added}")
 
+    def test_an_implementation_without_functions_that_is_added(self) -> None:
+        added = "impl Clone for Step { fn clone(&self) -> Step { Step } } impl Inhabited for Step { ghost example = { e }; } impl Level {"
+        self.assertEqual([("src/lib.rt", "StepClone", "clone")], self.own("lib.StepInhabited.is_empty", "old: impl Level {", f"new: {added}"))
+        self.refused("lib.StepFaithful.is_empty", "old: impl Level {", f"new: {added}")
+
+    def test_the_laws_that_quote_what_it_adds(self) -> None:
+        laws = """pub fn copies()
+    ensures level { IsKept ⟦<Level as Clone>⟧.is_clone (λ it. it) }
+    ensures of { (n : N) → IsKept ⟦<Of<N> as Clone>⟧.is_clone (λ it. it) }
+{}
+pub fn copied() ensures { IsKept ⟦<Level as Clone>⟧.is_clone (λ it. it) } { 1 }
+"""
+        it = edit("lib.LevelClone-clone.is_9", "old: Level(self.0)", "new: Level(9)")
+        it.look_at(TEXTS | {"src/laws.rt": laws})
+        self.assertEqual({("src/laws.rt", "", "copies"): {"returns", "returns-clause-level"}}, it.laws)
+
     def test_comments_and_spaces_change_nothing(self) -> None:
         it = edit("lib.one.is_spaced", "old: { 1 }", "new: {   /* one */ 1 }")
         it.look_at(TEXTS)

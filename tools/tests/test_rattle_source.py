@@ -37,6 +37,11 @@ class Functions(unittest.TestCase):
         bodies = [FILE[body:end] for _, _, _, body, end in source.parts(FILE)[0]]
         self.assertEqual(['{\n        "{"\n    }', "{ if self.0 { 1 } else { 2 } }", ";", "{}"], bodies)
 
+    def test_clauses(self) -> None:
+        text = "fn f() ensures one { a { b } } ensures { ⟦<[T] as Clone>⟧ ⟦<Of<T, 1> as PartialEq>⟧ } {}"
+        self.assertEqual([("one", " a { b } "), ("", " ⟦<[T] as Clone>⟧ ⟦<Of<T, 1> as PartialEq>⟧ ")], source.clauses(text))
+        self.assertEqual({"SliceTClone", "OfPartialEq"}, source.named_blocks(text))
+
     def test_the_blocks_are_whole(self) -> None:
         blocks = [FILE[begin:end] for _, begin, end in source.parts(FILE)[1]]
         self.assertEqual(["impl<T: Copy> Level<T> {", "trait Named: Sized {"], [it.split("\n")[0] for it in blocks])

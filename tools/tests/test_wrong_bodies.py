@@ -105,6 +105,11 @@ class Verdicts(unittest.TestCase):
         self.assertEqual(("refused", "returns"), verdict(CLAUSE, *IS_HUGE))
         self.assertEqual(("survives", ""), verdict(PROVED, *IS_HUGE))
 
+    def test_an_implementation_that_is_added(self) -> None:
+        added = "impl Clone for Step { fn clone(&self) -> Step { Step } } impl Inhabited for Step { ghost example = { e }; } impl Formed for u8 {"
+        said = PROVED + "impl mini::StepClone: proved\nfn mini::StepClone::clone: proved\nimpl mini::StepInhabited: not proved; antt refuses `example-value` in `X`\n"
+        self.assertEqual(("refused", "example-value"), verdict(said, "StepInhabited.is_empty", "impl Formed for u8 {", added))
+
     def test_nothing_is_said_of_the_function(self) -> None:
         self.assertEqual("bad", verdict("logic=not-proved\n", *IS_3)[0])
 
@@ -125,6 +130,55 @@ class Verdicts(unittest.TestCase):
     def test_a_text_that_is_read(self) -> None:
         for said in (PROVED, CLAUSE, OTHER_TYPE, CALLER, PROOF.format("`x` is not in scope")):
             self.assertEqual([], Said("mini", said).unread(), said)
+
+
+LAWS = """\
+#[derive(Clone, PartialEq)]
+pub struct Size(u8);
+#[derive(Clone)]
+pub struct Form(u8);
+pub fn copies()
+    ensures size { IsKept ⟦<Size as Clone>⟧.is_clone (λ size. size) }
+    ensures form { IsKept ⟦<Form as Clone>⟧.is_clone (λ form. form) }
+{}
+pub fn equality() ensures { IsEqualityOf ⟦<Size as PartialEq>⟧.eq (λ size. size) } {}
+"""
+BY_LAW = """\
+impl mini::SizeClone: proved
+fn mini::SizeClone::clone: proved
+impl mini::FormClone: proved
+fn mini::FormClone::clone: proved
+fn mini::copies: no proof: expected answers in ./proofs/copies/Answers.antt; `search` did not prove {}
+fn mini::equality: proved
+logic=not-proved
+"""
+
+
+class Laws(unittest.TestCase):
+    def edit(self, name: str, before: str, after: str, block: str) -> Edit:
+        """An edit that derives something no more and adds an implementation of it."""
+        it = Edit(f"lib.{name}", "src/lib.rt", [f"old: {before}", f"new: {after} {block}"])
+        it.look_at({"src/lib.rt": LAWS})
+        return it
+
+    def setUp(self) -> None:
+        self.size = self.edit("SizeClone-clone.is_zero", "#[derive(Clone, PartialEq)]", "#[derive(PartialEq)]", "impl Clone for Size { fn clone(&self) -> Size { Size(0) } }")
+        self.form = self.edit("FormClone-clone.is_zero", "#[derive(Clone)]", "", "impl Clone for Form { fn clone(&self) -> Form { Form(0) } }")
+
+    def judged(self, goals: str, it: Edit, *others: Edit) -> tuple[str, str, list[Edit]]:
+        """The verdict on an edit that is tried with others."""
+        return judge(Said("mini", BY_LAW.format(goals)), it, [it, *others])
+
+    def test_a_law_refuses_what_its_clause_quotes(self) -> None:
+        self.assertEqual(("refused", "returns-clause-size of copies", []), self.judged("`returns-clause-size`", self.size, self.form))
+        self.assertEqual("survives", self.judged("`returns-clause-size`", self.form, self.size)[0])
+
+    def test_a_law_that_quotes_two_of_them(self) -> None:
+        self.assertEqual(("waits", "", [self.form]), self.judged("`returns`", self.size, self.form))
+        self.assertEqual(("refused", "returns of copies", []), self.judged("`returns`", self.size))
+
+    def test_a_law_that_is_proved(self) -> None:
+        self.assertEqual("survives", judge(Said("mini", BY_LAW.replace("no proof", "proved").split(";")[0] + "\n"), self.size, [self.size])[0])
 
 
 class FakeCrate:

@@ -4,8 +4,11 @@
 ghost use Rattle.std.specs.Prelude.{refl};
 ghost use Rattle.picky_der_de.specs.MembersFacts.{sequence_of, sequence_shape, struct_facts};
 ghost use Rattle.der_types.specs.Notation.{Notation};
+ghost use Rattle.der_types.specs.ExactMembers.{struct_values};
 
-use der_types::{InRange, Integer, Notated, NotatedMembers, OtherThan, WithSize};
+use der_types::{
+    Exact, ExactMembers, InRange, Integer, Notated, NotatedMembers, OtherThan, WithSize,
+};
 use picky_asn1_der::asn1::{ByteBuf, Tag};
 use picky_asn1_der::de::Begins;
 use picky_asn1_der::misc::{ReadExt, WriteExt};
@@ -76,6 +79,14 @@ impl Notated for GcmParameters {
     ghost denoted = { refl };
 }
 
+impl Exact for GcmParameters {
+    ghost values = { struct_values ⟦<GcmParametersParts as ExactMembers>⟧.all_values ⟦<GcmParametersParts as NotatedMembers>⟧.members_notation
+        ⟦<GcmParametersParts as SerializeMembers>⟧.members ⟦<Self as Struct>⟧.parts
+        (λ m. (record { aes_nonce = m.0; aes_ic_vlen = m.1.0 }, refl {a = m})) };
+
+    ghost exact = { Prim.assumption };
+}
+
 /// `AES-GCM-ICVlen` of CMS-AES-CCM-and-AES-GCM: `INTEGER (12 | 13 | 14 | 15 | 16)`.
 pub type AesGcmIcVlen = InRange<u8, 12, 16>;
 
@@ -141,6 +152,14 @@ impl Notated for CcmParameters {
     ghost notation = { Notation.sequence ⟦<CcmParametersParts as NotatedMembers>⟧.members_notation };
 
     ghost denoted = { refl };
+}
+
+impl Exact for CcmParameters {
+    ghost values = { struct_values ⟦<CcmParametersParts as ExactMembers>⟧.all_values ⟦<CcmParametersParts as NotatedMembers>⟧.members_notation
+        ⟦<CcmParametersParts as SerializeMembers>⟧.members ⟦<Self as Struct>⟧.parts
+        (λ m. (record { aes_nonce = m.0; aes_ic_vlen = m.1.0 }, refl {a = m})) };
+
+    ghost exact = { Prim.assumption };
 }
 
 /// `AES-CCM-ICVlen` of CMS-AES-CCM-and-AES-GCM: `INTEGER (4 | 6 | 8 | 10 | 12 | 14 | 16)`.

@@ -5,6 +5,7 @@
 #![tactic(auto)]
 
 mod cms_aes_ccm_and_aes_gcm;
+mod elliptic_curves;
 pub mod notation;
 mod pkcs5_v2_1;
 mod pkix1_algorithms88;
@@ -13,13 +14,13 @@ mod scrypt_0;
 pub mod values;
 
 pub use cms_aes_ccm_and_aes_gcm::{AesCcmIcVlen, AesGcmIcVlen, CcmParameters, GcmParameters};
+pub use elliptic_curves::{Curve, EcParameters, EcPoint, EcpVer, EcpkParameters, FieldElement};
 pub use pkcs5_v2_1::{
     AesIv, PbeParameter, Pbes2Params, Pbkdf2Params, Pbkdf2Salt, Pbmac1Params, Rc2CbcParameter,
 };
 pub use pkix1_algorithms88::{
-    CharacteristicTwo, Curve, DhPublicKey, DomainParameters, DsaPublicKey, DssParms, DssSigValue,
-    EcParameters, EcPoint, EcdsaSigValue, EcpVer, EcpkParameters, FieldElement, FieldId,
-    Pentanomial, PrimeP, Trinomial, ValidationParms,
+    CharacteristicTwo, DhPublicKey, DomainParameters, DsaPublicKey, DssParms, DssSigValue,
+    EcdsaSigValue, FieldId, Pentanomial, PrimeP, Trinomial, ValidationParms,
 };
 pub use pkix1_pss_oaep_algorithms::{RsaesOaepParams, RsassaPssParams};
 pub use scrypt_0::ScryptParams;

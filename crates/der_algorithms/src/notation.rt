@@ -11,40 +11,41 @@ use crate::{
     Pbkdf2Params, Pbkdf2Salt, Pbmac1Params, Pentanomial, PrimeP, Rc2CbcParameter, RsaesOaepParams,
     RsassaPssParams, ScryptParams, Trinomial, ValidationParms,
 };
-use der_types::Notated;
+use der_types::Exact;
 
-/// Each type has the notation that its module gives it. `specs/Notation.antt` has that notation as a term, below its text.
+/// Each type has exactly the values of the notation that its module gives it. `specs/Notation.antt` has that notation as a term, below
+/// its text.
 pub fn types()
-    ensures aes_ccm_ic_vlen { ⟦<AesCcmIcVlen as Notated>⟧.notation ≡ notation.AesCcmIcVlen }
-    ensures aes_gcm_ic_vlen { ⟦<AesGcmIcVlen as Notated>⟧.notation ≡ notation.AesGcmIcVlen }
-    ensures aes_iv { ⟦<AesIv as Notated>⟧.notation ≡ notation.AesIv }
-    ensures ccm_parameters { ⟦<CcmParameters as Notated>⟧.notation ≡ notation.CcmParameters }
-    ensures characteristic_two { ⟦<CharacteristicTwo as Notated>⟧.notation ≡ notation.CharacteristicTwo }
-    ensures curve { ⟦<Curve as Notated>⟧.notation ≡ notation.Curve }
-    ensures dh_public_key { ⟦<DhPublicKey as Notated>⟧.notation ≡ notation.DhPublicKey }
-    ensures domain_parameters { ⟦<DomainParameters as Notated>⟧.notation ≡ notation.DomainParameters }
-    ensures dsa_public_key { ⟦<DsaPublicKey as Notated>⟧.notation ≡ notation.DsaPublicKey }
-    ensures dss_parms { ⟦<DssParms as Notated>⟧.notation ≡ notation.DssParms }
-    ensures dss_sig_value { ⟦<DssSigValue as Notated>⟧.notation ≡ notation.DssSigValue }
-    ensures ec_parameters { ⟦<EcParameters as Notated>⟧.notation ≡ notation.EcParameters }
-    ensures ec_point { ⟦<EcPoint as Notated>⟧.notation ≡ notation.EcPoint }
-    ensures ecdsa_sig_value { ⟦<EcdsaSigValue as Notated>⟧.notation ≡ notation.EcdsaSigValue }
-    ensures ecp_ver { ⟦<EcpVer as Notated>⟧.notation ≡ notation.EcpVer }
-    ensures ecpk_parameters { ⟦<EcpkParameters as Notated>⟧.notation ≡ notation.EcpkParameters }
-    ensures field_element { ⟦<FieldElement as Notated>⟧.notation ≡ notation.FieldElement }
-    ensures field_id { ⟦<FieldId as Notated>⟧.notation ≡ notation.FieldId }
-    ensures gcm_parameters { ⟦<GcmParameters as Notated>⟧.notation ≡ notation.GcmParameters }
-    ensures pbe_parameter { ⟦<PbeParameter as Notated>⟧.notation ≡ notation.PbeParameter }
-    ensures pbes2_params { ⟦<Pbes2Params as Notated>⟧.notation ≡ notation.Pbes2Params }
-    ensures pbkdf2_params { ⟦<Pbkdf2Params as Notated>⟧.notation ≡ notation.Pbkdf2Params }
-    ensures pbkdf2_salt { ⟦<Pbkdf2Salt as Notated>⟧.notation ≡ notation.Pbkdf2Salt }
-    ensures pbmac1_params { ⟦<Pbmac1Params as Notated>⟧.notation ≡ notation.Pbmac1Params }
-    ensures pentanomial { ⟦<Pentanomial as Notated>⟧.notation ≡ notation.Pentanomial }
-    ensures prime_p { ⟦<PrimeP as Notated>⟧.notation ≡ notation.PrimeP }
-    ensures rc2_cbc_parameter { ⟦<Rc2CbcParameter as Notated>⟧.notation ≡ notation.Rc2CbcParameter }
-    ensures rsaes_oaep_params { ⟦<RsaesOaepParams as Notated>⟧.notation ≡ notation.RsaesOaepParams }
-    ensures rsassa_pss_params { ⟦<RsassaPssParams as Notated>⟧.notation ≡ notation.RsassaPssParams }
-    ensures scrypt_params { ⟦<ScryptParams as Notated>⟧.notation ≡ notation.ScryptParams }
-    ensures trinomial { ⟦<Trinomial as Notated>⟧.notation ≡ notation.Trinomial }
-    ensures validation_parms { ⟦<ValidationParms as Notated>⟧.notation ≡ notation.ValidationParms }
+    ensures aes_ccm_ic_vlen { ⟦<AesCcmIcVlen as Exact>⟧.values.notation ≡ notation.AesCcmIcVlen }
+    ensures aes_gcm_ic_vlen { ⟦<AesGcmIcVlen as Exact>⟧.values.notation ≡ notation.AesGcmIcVlen }
+    ensures aes_iv { ⟦<AesIv as Exact>⟧.values.notation ≡ notation.AesIv }
+    ensures ccm_parameters { ⟦<CcmParameters as Exact>⟧.values.notation ≡ notation.CcmParameters }
+    ensures characteristic_two { ⟦<CharacteristicTwo as Exact>⟧.values.notation ≡ notation.CharacteristicTwo }
+    ensures curve { ⟦<Curve as Exact>⟧.values.notation ≡ notation.Curve }
+    ensures dh_public_key { ⟦<DhPublicKey as Exact>⟧.values.notation ≡ notation.DhPublicKey }
+    ensures domain_parameters { ⟦<DomainParameters as Exact>⟧.values.notation ≡ notation.DomainParameters }
+    ensures dsa_public_key { ⟦<DsaPublicKey as Exact>⟧.values.notation ≡ notation.DsaPublicKey }
+    ensures dss_parms { ⟦<DssParms as Exact>⟧.values.notation ≡ notation.DssParms }
+    ensures dss_sig_value { ⟦<DssSigValue as Exact>⟧.values.notation ≡ notation.DssSigValue }
+    ensures ec_parameters { ⟦<EcParameters as Exact>⟧.values.notation ≡ notation.EcParameters }
+    ensures ec_point { ⟦<EcPoint as Exact>⟧.values.notation ≡ notation.EcPoint }
+    ensures ecdsa_sig_value { ⟦<EcdsaSigValue as Exact>⟧.values.notation ≡ notation.EcdsaSigValue }
+    ensures ecp_ver { ⟦<EcpVer as Exact>⟧.values.notation ≡ notation.EcpVer }
+    ensures ecpk_parameters { ⟦<EcpkParameters as Exact>⟧.values.notation ≡ notation.EcpkParameters }
+    ensures field_element { ⟦<FieldElement as Exact>⟧.values.notation ≡ notation.FieldElement }
+    ensures field_id { ⟦<FieldId as Exact>⟧.values.notation ≡ notation.FieldId }
+    ensures gcm_parameters { ⟦<GcmParameters as Exact>⟧.values.notation ≡ notation.GcmParameters }
+    ensures pbe_parameter { ⟦<PbeParameter as Exact>⟧.values.notation ≡ notation.PbeParameter }
+    ensures pbes2_params { ⟦<Pbes2Params as Exact>⟧.values.notation ≡ notation.Pbes2Params }
+    ensures pbkdf2_params { ⟦<Pbkdf2Params as Exact>⟧.values.notation ≡ notation.Pbkdf2Params }
+    ensures pbkdf2_salt { ⟦<Pbkdf2Salt as Exact>⟧.values.notation ≡ notation.Pbkdf2Salt }
+    ensures pbmac1_params { ⟦<Pbmac1Params as Exact>⟧.values.notation ≡ notation.Pbmac1Params }
+    ensures pentanomial { ⟦<Pentanomial as Exact>⟧.values.notation ≡ notation.Pentanomial }
+    ensures prime_p { ⟦<PrimeP as Exact>⟧.values.notation ≡ notation.PrimeP }
+    ensures rc2_cbc_parameter { ⟦<Rc2CbcParameter as Exact>⟧.values.notation ≡ notation.Rc2CbcParameter }
+    ensures rsaes_oaep_params { ⟦<RsaesOaepParams as Exact>⟧.values.notation ≡ notation.RsaesOaepParams }
+    ensures rsassa_pss_params { ⟦<RsassaPssParams as Exact>⟧.values.notation ≡ notation.RsassaPssParams }
+    ensures scrypt_params { ⟦<ScryptParams as Exact>⟧.values.notation ≡ notation.ScryptParams }
+    ensures trinomial { ⟦<Trinomial as Exact>⟧.values.notation ≡ notation.Trinomial }
+    ensures validation_parms { ⟦<ValidationParms as Exact>⟧.values.notation ≡ notation.ValidationParms }
 {}

@@ -7,8 +7,13 @@ ghost use Rattle.picky_der_de.specs.declared.alternatives.OneOf.TheVariants.{Oth
 ghost use Rattle.picky_der_de.specs.ChoiceFacts.{choice_facts};
 ghost use Rattle.picky_der_de.specs.MembersFacts.{sequence_of, sequence_shape, struct_facts};
 ghost use Rattle.der_types.specs.Notation.{Notation};
+ghost use Rattle.der_types.specs.ExactChoices.{choice_values};
+ghost use Rattle.der_types.specs.ExactMembers.{struct_values};
 
-use der_types::{Integer, Notated, NotatedAlternatives, NotatedMembers, WithSize};
+use der_types::{
+    Exact, ExactAlternatives, ExactMembers, Integer, Notated, NotatedAlternatives, NotatedMembers,
+    WithSize,
+};
 use der_x509::AlgorithmIdentifier;
 use picky_asn1_der::OneOf::{Other, This};
 use picky_asn1_der::asn1::{ByteBuf, Tag};
@@ -104,6 +109,14 @@ impl Notated for Pbkdf2Params {
     ghost denoted = { refl };
 }
 
+impl Exact for Pbkdf2Params {
+    ghost values = { struct_values ⟦<Pbkdf2ParamsParts as ExactMembers>⟧.all_values ⟦<Pbkdf2ParamsParts as NotatedMembers>⟧.members_notation
+        ⟦<Pbkdf2ParamsParts as SerializeMembers>⟧.members ⟦<Self as Struct>⟧.parts
+        (λ m. (record { salt = m.0; iteration_count = m.1; key_length = m.2.0; prf = m.3.0 }, refl {a = m})) };
+
+    ghost exact = { Prim.assumption };
+}
+
 /// RFC 8018 gives this type no name. The other source is the members of an AlgorithmIdentifier:
 /// there is no such algorithm yet. `PBKDF2-Salt` of PKCS5v2-1, as a CHOICE.
 #[derive(Debug, Drop, PartialEq, Eq)]
@@ -169,6 +182,20 @@ impl Notated for Pbkdf2Salt {
     ghost denoted = { refl };
 }
 
+impl Exact for Pbkdf2Salt {
+    ghost use Rattle.der_algorithms.specs.declared.pkcs5_v2_1.Pbkdf2Salt.TheVariants as variants;
+
+    ghost values = { choice_values ⟦<Pbkdf2SaltParts as ExactAlternatives>⟧.chosen_values
+        ⟦<Pbkdf2SaltParts as NotatedAlternatives>⟧.alternatives_notation ⟦<Pbkdf2SaltParts as Alternatives>⟧.chosen ⟦<Self as Choice>⟧.parts
+        (elim [
+          | This x ↦ (variants.Specified x, refl)
+          | Other (This x) ↦ (variants.OtherSource x, refl)
+          | Other (Other x) ↦ elim x [ ]
+        ]) };
+
+    ghost exact = { Prim.assumption };
+}
+
 /// The parameters of PBES1. `PBEParameter` of PKCS5v2-1, as a SEQUENCE.
 #[derive(Debug, Drop, PartialEq, Eq)]
 pub struct PbeParameter {
@@ -228,6 +255,14 @@ impl Notated for PbeParameter {
     ghost notation = { Notation.sequence ⟦<PbeParameterParts as NotatedMembers>⟧.members_notation };
 
     ghost denoted = { refl };
+}
+
+impl Exact for PbeParameter {
+    ghost values = { struct_values ⟦<PbeParameterParts as ExactMembers>⟧.all_values ⟦<PbeParameterParts as NotatedMembers>⟧.members_notation
+        ⟦<PbeParameterParts as SerializeMembers>⟧.members ⟦<Self as Struct>⟧.parts
+        (λ m. (record { salt = m.0; iteration_count = m.1 }, refl {a = m})) };
+
+    ghost exact = { Prim.assumption };
 }
 
 /// `PBES2-params` of PKCS5v2-1, as a SEQUENCE.
@@ -291,6 +326,14 @@ impl Notated for Pbes2Params {
     ghost denoted = { refl };
 }
 
+impl Exact for Pbes2Params {
+    ghost values = { struct_values ⟦<Pbes2ParamsParts as ExactMembers>⟧.all_values ⟦<Pbes2ParamsParts as NotatedMembers>⟧.members_notation
+        ⟦<Pbes2ParamsParts as SerializeMembers>⟧.members ⟦<Self as Struct>⟧.parts
+        (λ m. (record { key_derivation_func = m.0; encryption_scheme = m.1 }, refl {a = m})) };
+
+    ghost exact = { Prim.assumption };
+}
+
 /// `PBMAC1-params` of PKCS5v2-1, as a SEQUENCE.
 #[derive(Debug, Drop, PartialEq, Eq)]
 pub struct Pbmac1Params {
@@ -350,6 +393,14 @@ impl Notated for Pbmac1Params {
     ghost notation = { Notation.sequence ⟦<Pbmac1ParamsParts as NotatedMembers>⟧.members_notation };
 
     ghost denoted = { refl };
+}
+
+impl Exact for Pbmac1Params {
+    ghost values = { struct_values ⟦<Pbmac1ParamsParts as ExactMembers>⟧.all_values ⟦<Pbmac1ParamsParts as NotatedMembers>⟧.members_notation
+        ⟦<Pbmac1ParamsParts as SerializeMembers>⟧.members ⟦<Self as Struct>⟧.parts
+        (λ m. (record { key_derivation_func = m.0; message_auth_scheme = m.1 }, refl {a = m})) };
+
+    ghost exact = { Prim.assumption };
 }
 
 /// The parameters of AES, whose block is the initialization vector. RFC 8018 gives this type no
@@ -415,4 +466,12 @@ impl Notated for Rc2CbcParameter {
     ghost notation = { Notation.sequence ⟦<Rc2CbcParameterParts as NotatedMembers>⟧.members_notation };
 
     ghost denoted = { refl };
+}
+
+impl Exact for Rc2CbcParameter {
+    ghost values = { struct_values ⟦<Rc2CbcParameterParts as ExactMembers>⟧.all_values ⟦<Rc2CbcParameterParts as NotatedMembers>⟧.members_notation
+        ⟦<Rc2CbcParameterParts as SerializeMembers>⟧.members ⟦<Self as Struct>⟧.parts
+        (λ m. (record { rc2_parameter_version = m.0.0; iv = m.1 }, refl {a = m})) };
+
+    ghost exact = { Prim.assumption };
 }

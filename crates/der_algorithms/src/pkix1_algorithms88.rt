@@ -2,23 +2,20 @@
 //!
 //! Types of PKIX1Algorithms88.
 ghost use Rattle.std.specs.Prelude.{refl};
-ghost use Rattle.picky_der_core.specs.Shape.{Shape};
-ghost use Rattle.picky_der_de.specs.declared.alternatives.OneOf.TheVariants.{Other, This};
-ghost use Rattle.picky_der_de.specs.ChoiceFacts.{choice_facts};
 ghost use Rattle.picky_der_de.specs.MembersFacts.{sequence_of, sequence_shape, struct_facts};
 ghost use Rattle.der_types.specs.Notation.{Notation};
+ghost use Rattle.der_types.specs.ExactMembers.{struct_values};
 
 use der_types::{
-    BitString, Integer, Notated, NotatedAlternatives, NotatedMembers, ObjectIdentifier,
+    BitString, Exact, ExactMembers, Integer, Notated, NotatedMembers, ObjectIdentifier,
 };
-use picky_asn1_der::OneOf::{Other, This};
-use picky_asn1_der::asn1::{ByteBuf, Tag};
-use picky_asn1_der::de::{Begins, deserialize_choice_as};
+use picky_asn1_der::asn1::Tag;
+use picky_asn1_der::de::Begins;
 use picky_asn1_der::misc::{ReadExt, WriteExt};
 use picky_asn1_der::ser::{Optional, OptionalRef};
 use picky_asn1_der::{
-    Alternatives, Asn1RawDer, Choice, Deserialize, DeserializeMembers, Deserializer, List, NoneOf,
-    OneOf, Result, Serialize, SerializeMembers, Serializer, Struct, deserialize_struct_as,
+    Asn1RawDer, Deserialize, DeserializeMembers, Deserializer, List, Result, Serialize,
+    SerializeMembers, Serializer, Struct, deserialize_struct_as,
 };
 
 /// `DSAPublicKey` of PKIX1Algorithms88: `INTEGER`.
@@ -84,6 +81,14 @@ impl Notated for DssParms {
     ghost denoted = { refl };
 }
 
+impl Exact for DssParms {
+    ghost values = { struct_values ⟦<DssParmsParts as ExactMembers>⟧.all_values ⟦<DssParmsParts as NotatedMembers>⟧.members_notation
+        ⟦<DssParmsParts as SerializeMembers>⟧.members ⟦<Self as Struct>⟧.parts
+        (λ m. (record { p = m.0; q = m.1; g = m.2 }, refl {a = m})) };
+
+    ghost exact = { Prim.assumption };
+}
+
 /// `Dss-Sig-Value` of PKIX1Algorithms88, as a SEQUENCE.
 #[derive(Debug, Drop, PartialEq, Eq)]
 pub struct DssSigValue {
@@ -140,6 +145,14 @@ impl Notated for DssSigValue {
     ghost notation = { Notation.sequence ⟦<DssSigValueParts as NotatedMembers>⟧.members_notation };
 
     ghost denoted = { refl };
+}
+
+impl Exact for DssSigValue {
+    ghost values = { struct_values ⟦<DssSigValueParts as ExactMembers>⟧.all_values ⟦<DssSigValueParts as NotatedMembers>⟧.members_notation
+        ⟦<DssSigValueParts as SerializeMembers>⟧.members ⟦<Self as Struct>⟧.parts
+        (λ m. (record { r = m.0; s = m.1 }, refl {a = m})) };
+
+    ghost exact = { Prim.assumption };
 }
 
 /// `DHPublicKey` of PKIX1Algorithms88: `INTEGER`.
@@ -230,6 +243,14 @@ impl Notated for DomainParameters {
     ghost denoted = { refl };
 }
 
+impl Exact for DomainParameters {
+    ghost values = { struct_values ⟦<DomainParametersParts as ExactMembers>⟧.all_values ⟦<DomainParametersParts as NotatedMembers>⟧.members_notation
+        ⟦<DomainParametersParts as SerializeMembers>⟧.members ⟦<Self as Struct>⟧.parts
+        (λ m. (record { p = m.0; g = m.1; q = m.2; j = m.3.0; validation_parms = m.4.0 }, refl {a = m})) };
+
+    ghost exact = { Prim.assumption };
+}
+
 /// `ValidationParms` of PKIX1Algorithms88, as a SEQUENCE.
 #[derive(Debug, Drop, PartialEq, Eq)]
 pub struct ValidationParms {
@@ -286,6 +307,14 @@ impl Notated for ValidationParms {
     ghost notation = { Notation.sequence ⟦<ValidationParmsParts as NotatedMembers>⟧.members_notation };
 
     ghost denoted = { refl };
+}
+
+impl Exact for ValidationParms {
+    ghost values = { struct_values ⟦<ValidationParmsParts as ExactMembers>⟧.all_values ⟦<ValidationParmsParts as NotatedMembers>⟧.members_notation
+        ⟦<ValidationParmsParts as SerializeMembers>⟧.members ⟦<Self as Struct>⟧.parts
+        (λ m. (record { seed = m.0; pgen_counter = m.1 }, refl {a = m})) };
+
+    ghost exact = { Prim.assumption };
 }
 
 /// `ECDSA-Sig-Value` of PKIX1Algorithms88, as a SEQUENCE.
@@ -346,175 +375,13 @@ impl Notated for EcdsaSigValue {
     ghost denoted = { refl };
 }
 
-/// The parameters of a key: a curve in full, by its name, or that of the issuer. `EcpkParameters`
-/// of PKIX1Algorithms88, as a CHOICE.
-#[derive(Debug, Drop, PartialEq, Eq)]
-pub enum EcpkParameters {
-    /// `ECParameters`.
-    EcParameters(EcParameters),
-    /// `OBJECT IDENTIFIER`.
-    NamedCurve(ObjectIdentifier),
-    /// `NULL`.
-    ImplicitlyCa(()),
+impl Exact for EcdsaSigValue {
+    ghost values = { struct_values ⟦<EcdsaSigValueParts as ExactMembers>⟧.all_values ⟦<EcdsaSigValueParts as NotatedMembers>⟧.members_notation
+        ⟦<EcdsaSigValueParts as SerializeMembers>⟧.members ⟦<Self as Struct>⟧.parts
+        (λ m. (record { r = m.0; s = m.1 }, refl {a = m})) };
+
+    ghost exact = { Prim.assumption };
 }
-
-type EcpkParametersParts = OneOf<EcParameters, OneOf<ObjectIdentifier, OneOf<(), NoneOf>>>;
-
-impl Choice for EcpkParameters {
-    ghost use Rattle.der_algorithms.specs.declared.pkix1_algorithms88.EcpkParameters.TheVariants as variants;
-
-    type Alternatives = EcpkParametersParts;
-
-    ghost parts = { elim [
-      | variants.EcParameters x ↦ This x
-      | variants.NamedCurve x ↦ Other (This x)
-      | variants.ImplicitlyCa x ↦ Other (Other (This x))
-    ] };
-
-    fn from_parts(value: EcpkParametersParts) -> EcpkParameters {
-        match value {
-            This(ec_parameters) => EcpkParameters::EcParameters(ec_parameters),
-            Other(This(named_curve)) => EcpkParameters::NamedCurve(named_curve),
-            Other(Other(This(implicitly_ca))) => EcpkParameters::ImplicitlyCa(implicitly_ca),
-        }
-    }
-}
-
-impl Serialize for EcpkParameters {
-    ghost meaning = { λ v. ⟦<EcpkParametersParts as Alternatives>⟧.meaning (⟦<EcpkParameters as Choice>⟧.parts v) };
-
-    fn serialize<W: WriteExt>(&self, serializer: &mut Serializer<W>) -> Result<usize> {
-        match self {
-            EcpkParameters::EcParameters(ec_parameters) => {
-                serializer.serialize_choice(ec_parameters)
-            }
-            EcpkParameters::NamedCurve(named_curve) => serializer.serialize_choice(named_curve),
-            EcpkParameters::ImplicitlyCa(implicitly_ca) => {
-                serializer.serialize_choice(implicitly_ca)
-            }
-        }
-    }
-}
-
-impl Deserialize for EcpkParameters {
-    ghost use Rattle.der_algorithms.specs.declared.pkix1_algorithms88.EcpkParameters.TheVariants as variants;
-
-    ghost shape = { Shape.choice ⟦<EcpkParametersParts as Alternatives>⟧.shapes };
-
-    ghost facts = { choice_facts ⟦<EcpkParametersParts as Alternatives>⟧.facts refl ⟦<Self as Choice>⟧.parts ⟦<Self as PartialEq>⟧.eq
-        (elim [ variants.EcParameters _ ↦ elim [ variants.EcParameters _ ↦ λ h. h | _ ↦ λ h. h ] | _ ↦ elim [ variants.EcParameters _ ↦ λ h. h | _ ↦ λ h. h ] ]) };
-
-    ghost proved = { Prim.assumption };
-
-    fn deserialize<R: ReadExt>(deserializer: &mut Deserializer<R>) -> Result<EcpkParameters> {
-        deserialize_choice_as(deserializer)
-    }
-}
-
-impl Begins for EcpkParameters {
-    fn begins_with(tag: Tag) -> bool {
-        <EcpkParametersParts as Alternatives>::begins_with(tag)
-    }
-}
-
-impl Notated for EcpkParameters {
-    ghost notation = { Notation.choice ⟦<EcpkParametersParts as NotatedAlternatives>⟧.alternatives_notation };
-
-    ghost denoted = { refl };
-}
-
-/// `ECParameters` of PKIX1Algorithms88, as a SEQUENCE.
-#[derive(Debug, Drop, PartialEq, Eq)]
-pub struct EcParameters {
-    /// `ECPVer`.
-    pub version: EcpVer,
-    /// the finite field. `FieldID`.
-    pub field_id: FieldId,
-    /// `Curve`.
-    pub curve: Curve,
-    /// the base point. `ECPoint`.
-    pub base: EcPoint,
-    /// of the base point. `INTEGER`.
-    pub order: Integer,
-    /// `INTEGER OPTIONAL`.
-    pub cofactor: Option<Integer>,
-}
-
-type EcParametersParts = (
-    EcpVer,
-    FieldId,
-    Curve,
-    EcPoint,
-    Integer,
-    Optional<Integer>,
-    (),
-);
-
-impl Struct for EcParameters {
-    type Members = EcParametersParts;
-
-    ghost parts = { λ it. (it.version, it.field_id, it.curve, it.base, it.order, record { 0 = it.cofactor }, tt) };
-
-    fn from_parts(members: EcParametersParts) -> EcParameters {
-        let (version, field_id, curve, base, order, Optional(cofactor), ()) = members;
-        EcParameters {
-            version,
-            field_id,
-            curve,
-            base,
-            order,
-            cofactor,
-        }
-    }
-}
-
-impl Serialize for EcParameters {
-    ghost meaning = { sequence_of ⟦<EcParametersParts as SerializeMembers>⟧.members ⟦<Self as Struct>⟧.parts };
-
-    fn serialize<W: WriteExt>(&self, serializer: &mut Serializer<W>) -> Result<usize> {
-        (
-            &self.version,
-            &self.field_id,
-            &self.curve,
-            &self.base,
-            &self.order,
-            OptionalRef(&self.cofactor),
-            (),
-        )
-            .serialize_sequence(serializer)
-    }
-}
-
-impl Deserialize for EcParameters {
-    ghost shape = { sequence_shape ⟦<EcParametersParts as DeserializeMembers>⟧.layout };
-
-    ghost facts = { struct_facts ⟦<EcParametersParts as DeserializeMembers>⟧.facts refl ⟦<Self as Struct>⟧.parts };
-
-    fn deserialize<R: ReadExt>(deserializer: &mut Deserializer<R>) -> Result<EcParameters> {
-        deserialize_struct_as(deserializer)
-    }
-
-    ghost proved = { Prim.assumption };
-}
-
-impl Begins for EcParameters {
-    fn begins_with(tag: Tag) -> bool {
-        tag == Tag::SEQUENCE
-    }
-}
-
-impl List for EcParameters {
-    ghost is_list = { λ it. tt };
-}
-
-impl Notated for EcParameters {
-    ghost notation = { Notation.sequence ⟦<EcParametersParts as NotatedMembers>⟧.members_notation };
-
-    ghost denoted = { refl };
-}
-
-/// `ECPVer` of PKIX1Algorithms88: `INTEGER { ecpVer1 (1) }`.
-pub type EcpVer = Integer;
 
 /// `FieldID` of PKIX1Algorithms88, as a SEQUENCE.
 #[derive(Debug, Drop, PartialEq, Eq)]
@@ -575,6 +442,14 @@ impl Notated for FieldId {
     ghost notation = { Notation.sequence ⟦<FieldIdParts as NotatedMembers>⟧.members_notation };
 
     ghost denoted = { refl };
+}
+
+impl Exact for FieldId {
+    ghost values = { struct_values ⟦<FieldIdParts as ExactMembers>⟧.all_values ⟦<FieldIdParts as NotatedMembers>⟧.members_notation
+        ⟦<FieldIdParts as SerializeMembers>⟧.members ⟦<Self as Struct>⟧.parts
+        (λ m. (record { field_type = m.0; parameters = m.1 }, refl {a = m})) };
+
+    ghost exact = { Prim.assumption };
 }
 
 /// The parameters of prime-field. `Prime-p` of PKIX1Algorithms88: `INTEGER`.
@@ -645,6 +520,14 @@ impl Notated for CharacteristicTwo {
     ghost denoted = { refl };
 }
 
+impl Exact for CharacteristicTwo {
+    ghost values = { struct_values ⟦<CharacteristicTwoParts as ExactMembers>⟧.all_values ⟦<CharacteristicTwoParts as NotatedMembers>⟧.members_notation
+        ⟦<CharacteristicTwoParts as SerializeMembers>⟧.members ⟦<Self as Struct>⟧.parts
+        (λ m. (record { m = m.0; basis = m.1; parameters = m.2 }, refl {a = m})) };
+
+    ghost exact = { Prim.assumption };
+}
+
 /// The parameters of tpBasis: k, where the polynomial is x^m + x^k + 1. `Trinomial` of
 /// PKIX1Algorithms88: `INTEGER`.
 pub type Trinomial = Integer;
@@ -710,68 +593,10 @@ impl Notated for Pentanomial {
     ghost denoted = { refl };
 }
 
-/// `Curve` of PKIX1Algorithms88, as a SEQUENCE.
-#[derive(Debug, Drop, PartialEq, Eq)]
-pub struct Curve {
-    /// a coefficient of the curve. `FieldElement`.
-    pub a: FieldElement,
-    /// a coefficient of the curve. `FieldElement`.
-    pub b: FieldElement,
-    /// `BIT STRING OPTIONAL`.
-    pub seed: Option<BitString>,
+impl Exact for Pentanomial {
+    ghost values = { struct_values ⟦<PentanomialParts as ExactMembers>⟧.all_values ⟦<PentanomialParts as NotatedMembers>⟧.members_notation
+        ⟦<PentanomialParts as SerializeMembers>⟧.members ⟦<Self as Struct>⟧.parts
+        (λ m. (record { k1 = m.0; k2 = m.1; k3 = m.2 }, refl {a = m})) };
+
+    ghost exact = { Prim.assumption };
 }
-
-type CurveParts = (FieldElement, FieldElement, Optional<BitString>, ());
-
-impl Struct for Curve {
-    type Members = CurveParts;
-
-    ghost parts = { λ it. (it.a, it.b, record { 0 = it.seed }, tt) };
-
-    fn from_parts(members: CurveParts) -> Curve {
-        let (a, b, Optional(seed), ()) = members;
-        Curve { a, b, seed }
-    }
-}
-
-impl Serialize for Curve {
-    ghost meaning = { sequence_of ⟦<CurveParts as SerializeMembers>⟧.members ⟦<Self as Struct>⟧.parts };
-
-    fn serialize<W: WriteExt>(&self, serializer: &mut Serializer<W>) -> Result<usize> {
-        (&self.a, &self.b, OptionalRef(&self.seed), ()).serialize_sequence(serializer)
-    }
-}
-
-impl Deserialize for Curve {
-    ghost shape = { sequence_shape ⟦<CurveParts as DeserializeMembers>⟧.layout };
-
-    ghost facts = { struct_facts ⟦<CurveParts as DeserializeMembers>⟧.facts refl ⟦<Self as Struct>⟧.parts };
-
-    fn deserialize<R: ReadExt>(deserializer: &mut Deserializer<R>) -> Result<Curve> {
-        deserialize_struct_as(deserializer)
-    }
-
-    ghost proved = { Prim.assumption };
-}
-
-impl Begins for Curve {
-    fn begins_with(tag: Tag) -> bool {
-        tag == Tag::SEQUENCE
-    }
-}
-
-impl List for Curve {
-    ghost is_list = { λ it. tt };
-}
-
-impl Notated for Curve {
-    ghost notation = { Notation.sequence ⟦<CurveParts as NotatedMembers>⟧.members_notation };
-
-    ghost denoted = { refl };
-}
-
-/// `FieldElement` of PKIX1Algorithms88: `OCTET STRING`.
-pub type FieldElement = ByteBuf;
-
-/// `ECPoint` of PKIX1Algorithms88: `OCTET STRING`.
-pub type EcPoint = ByteBuf;

@@ -4,8 +4,9 @@
 ghost use Rattle.std.specs.Prelude.{refl};
 ghost use Rattle.picky_der_de.specs.MembersFacts.{sequence_of, sequence_shape, struct_facts};
 ghost use Rattle.der_types.specs.Notation.{Notation};
+ghost use Rattle.der_types.specs.ExactMembers.{struct_values};
 
-use der_types::{Integer, Notated, NotatedMembers, OtherThan};
+use der_types::{Exact, ExactMembers, Integer, Notated, NotatedMembers, OtherThan};
 use der_x509::AlgorithmIdentifier;
 use picky_asn1_der::asn1::{
     ExplicitContextTag0, ExplicitContextTag1, ExplicitContextTag2, ExplicitContextTag3, Tag,
@@ -115,6 +116,22 @@ impl Notated for RsassaPssParams {
     ghost denoted = { refl };
 }
 
+impl Exact for RsassaPssParams {
+    ghost values = { struct_values ⟦<RsassaPssParamsParts as ExactMembers>⟧.all_values ⟦<RsassaPssParamsParts as NotatedMembers>⟧.members_notation
+        ⟦<RsassaPssParamsParts as SerializeMembers>⟧.members ⟦<Self as Struct>⟧.parts
+        (λ m. (
+          record {
+            hash_algorithm = m.0.0;
+            mask_gen_algorithm = m.1.0;
+            salt_length = m.2.0;
+            trailer_field = m.3.0;
+          },
+          refl {a = m},
+        )) };
+
+    ghost exact = { Prim.assumption };
+}
+
 /// `RSAES-OAEP-params` of PKIX1-PSS-OAEP-Algorithms, as a SEQUENCE.
 ///
 /// Its values differ from the notation's. The crate lacks: DEFAULT of bits, strings, identifiers
@@ -199,4 +216,12 @@ impl Notated for RsaesOaepParams {
     ghost notation = { Notation.sequence ⟦<RsaesOaepParamsParts as NotatedMembers>⟧.members_notation };
 
     ghost denoted = { refl };
+}
+
+impl Exact for RsaesOaepParams {
+    ghost values = { struct_values ⟦<RsaesOaepParamsParts as ExactMembers>⟧.all_values ⟦<RsaesOaepParamsParts as NotatedMembers>⟧.members_notation
+        ⟦<RsaesOaepParamsParts as SerializeMembers>⟧.members ⟦<Self as Struct>⟧.parts
+        (λ m. (record { hash_func = m.0.0; mask_gen_func = m.1.0; p_source_func = m.2.0 }, refl {a = m})) };
+
+    ghost exact = { Prim.assumption };
 }

@@ -4,8 +4,9 @@
 ghost use Rattle.std.specs.Prelude.{refl};
 ghost use Rattle.picky_der_de.specs.MembersFacts.{sequence_of, sequence_shape, struct_facts};
 ghost use Rattle.der_types.specs.Notation.{Notation};
+ghost use Rattle.der_types.specs.ExactMembers.{struct_values};
 
-use der_types::{Integer, Notated, NotatedMembers};
+use der_types::{Exact, ExactMembers, Integer, Notated, NotatedMembers};
 use picky_asn1_der::asn1::{ByteBuf, Tag};
 use picky_asn1_der::de::Begins;
 use picky_asn1_der::misc::{ReadExt, WriteExt};
@@ -107,4 +108,21 @@ impl Notated for ScryptParams {
     ghost notation = { Notation.sequence ⟦<ScryptParamsParts as NotatedMembers>⟧.members_notation };
 
     ghost denoted = { refl };
+}
+
+impl Exact for ScryptParams {
+    ghost values = { struct_values ⟦<ScryptParamsParts as ExactMembers>⟧.all_values ⟦<ScryptParamsParts as NotatedMembers>⟧.members_notation
+        ⟦<ScryptParamsParts as SerializeMembers>⟧.members ⟦<Self as Struct>⟧.parts
+        (λ m. (
+          record {
+            salt = m.0;
+            cost_parameter = m.1;
+            block_size = m.2;
+            parallelization_parameter = m.3;
+            key_length = m.4.0;
+          },
+          refl {a = m},
+        )) };
+
+    ghost exact = { Prim.assumption };
 }

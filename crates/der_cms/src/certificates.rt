@@ -8,8 +8,13 @@ ghost use Rattle.picky_der_de.specs.declared.choice4.Choice4.TheVariants.{First,
 ghost use Rattle.picky_der_de.specs.ChoiceFacts.{choice_facts};
 ghost use Rattle.picky_der_de.specs.MembersFacts.{sequence_of, sequence_shape, struct_facts};
 ghost use Rattle.der_types.specs.Notation.{Notation};
+ghost use Rattle.der_types.specs.ExactChoices.{choice_values};
+ghost use Rattle.der_types.specs.ExactMembers.{struct_values};
 
-use der_types::{Notated, NotatedAlternatives, NotatedMembers, ObjectIdentifier};
+use der_types::{
+    Exact, ExactAlternatives, ExactMembers, Notated, NotatedAlternatives, NotatedMembers,
+    ObjectIdentifier,
+};
 use der_x509::{Certificate, CertificateList, CertificateSerialNumber, Name};
 use picky_asn1_der::Choice4::{First, Fourth, Later, Second, Third};
 use picky_asn1_der::OneOf::{Other, This};
@@ -93,6 +98,20 @@ impl Notated for RevocationInfoChoice {
     ghost denoted = { refl };
 }
 
+impl Exact for RevocationInfoChoice {
+    ghost use Rattle.der_cms.specs.declared.certificates.RevocationInfoChoice.TheVariants as variants;
+
+    ghost values = { choice_values ⟦<RevocationInfoChoiceParts as ExactAlternatives>⟧.chosen_values
+        ⟦<RevocationInfoChoiceParts as NotatedAlternatives>⟧.alternatives_notation ⟦<RevocationInfoChoiceParts as Alternatives>⟧.chosen ⟦<Self as Choice>⟧.parts
+        (elim [
+          | This x ↦ (variants.Crl x, refl)
+          | Other (This x) ↦ (variants.Other x, refl)
+          | Other (Other x) ↦ elim x [ ]
+        ]) };
+
+    ghost exact = { Prim.assumption };
+}
+
 /// `OtherRevocationInfoFormat` of CryptographicMessageSyntax2004, as a SEQUENCE.
 #[derive(Debug, Drop, PartialEq, Eq)]
 pub struct OtherRevocationInfoFormat {
@@ -154,6 +173,14 @@ impl Notated for OtherRevocationInfoFormat {
     ghost notation = { Notation.sequence ⟦<OtherRevocationInfoFormatParts as NotatedMembers>⟧.members_notation };
 
     ghost denoted = { refl };
+}
+
+impl Exact for OtherRevocationInfoFormat {
+    ghost values = { struct_values ⟦<OtherRevocationInfoFormatParts as ExactMembers>⟧.all_values ⟦<OtherRevocationInfoFormatParts as NotatedMembers>⟧.members_notation
+        ⟦<OtherRevocationInfoFormatParts as SerializeMembers>⟧.members ⟦<Self as Struct>⟧.parts
+        (λ m. (record { other_rev_info_format = m.0; other_rev_info = m.1 }, refl {a = m})) };
+
+    ghost exact = { Prim.assumption };
 }
 
 /// `CertificateChoices` of CryptographicMessageSyntax2004, as a CHOICE.
@@ -254,6 +281,23 @@ impl Notated for CertificateChoices {
     ghost denoted = { refl };
 }
 
+impl Exact for CertificateChoices {
+    ghost use Rattle.der_cms.specs.declared.certificates.CertificateChoices.TheVariants as variants;
+
+    ghost values = { choice_values ⟦<CertificateChoicesParts as ExactAlternatives>⟧.chosen_values
+        ⟦<CertificateChoicesParts as NotatedAlternatives>⟧.alternatives_notation ⟦<CertificateChoicesParts as Alternatives>⟧.chosen ⟦<Self as Choice>⟧.parts
+        (elim [
+          | First x ↦ (variants.Certificate x, refl)
+          | Second x ↦ (variants.ExtendedCertificate x, refl)
+          | Third x ↦ (variants.V1AttrCert x, refl)
+          | Fourth x ↦ (variants.V2AttrCert x, refl)
+          | Later (This x) ↦ (variants.Other x, refl)
+          | Later (Other x) ↦ elim x [ ]
+        ]) };
+
+    ghost exact = { Prim.assumption };
+}
+
 /// Certificates of PKCS #6 and attribute certificates (RFC 5755), by their members. This module
 /// doesn't define these. `ExtendedCertificate` of CryptographicMessageSyntax2004: `SEQUENCE OF
 /// ANY`.
@@ -328,6 +372,14 @@ impl Notated for OtherCertificateFormat {
     ghost denoted = { refl };
 }
 
+impl Exact for OtherCertificateFormat {
+    ghost values = { struct_values ⟦<OtherCertificateFormatParts as ExactMembers>⟧.all_values ⟦<OtherCertificateFormatParts as NotatedMembers>⟧.members_notation
+        ⟦<OtherCertificateFormatParts as SerializeMembers>⟧.members ⟦<Self as Struct>⟧.parts
+        (λ m. (record { other_cert_format = m.0; other_cert = m.1 }, refl {a = m})) };
+
+    ghost exact = { Prim.assumption };
+}
+
 /// `CertificateSet` of CryptographicMessageSyntax2004: `SET OF CertificateChoices`.
 pub type CertificateSet = Asn1SetOf<CertificateChoices>;
 
@@ -392,4 +444,12 @@ impl Notated for IssuerAndSerialNumber {
     ghost notation = { Notation.sequence ⟦<IssuerAndSerialNumberParts as NotatedMembers>⟧.members_notation };
 
     ghost denoted = { refl };
+}
+
+impl Exact for IssuerAndSerialNumber {
+    ghost values = { struct_values ⟦<IssuerAndSerialNumberParts as ExactMembers>⟧.all_values ⟦<IssuerAndSerialNumberParts as NotatedMembers>⟧.members_notation
+        ⟦<IssuerAndSerialNumberParts as SerializeMembers>⟧.members ⟦<Self as Struct>⟧.parts
+        (λ m. (record { issuer = m.0; serial_number = m.1 }, refl {a = m})) };
+
+    ghost exact = { Prim.assumption };
 }

@@ -4,12 +4,13 @@
 ghost use Rattle.std.specs.Prelude.{refl};
 ghost use Rattle.picky_der_de.specs.MembersFacts.{sequence_of, sequence_shape, struct_facts};
 ghost use Rattle.der_types.specs.Notation.{Notation};
+ghost use Rattle.der_types.specs.ExactMembers.{struct_values};
 
 use crate::{
     AuthAttributes, CmsVersion, EncryptedContentInfo, MessageAuthenticationCode, OriginatorInfo,
     RecipientInfos, UnauthAttributes,
 };
-use der_types::{Notated, NotatedMembers};
+use der_types::{Exact, ExactMembers, Notated, NotatedMembers};
 use picky_asn1_der::asn1::{ImplicitList0, ImplicitList1, ImplicitList2, Tag};
 use picky_asn1_der::de::Begins;
 use picky_asn1_der::misc::{ReadExt, WriteExt};
@@ -130,4 +131,23 @@ impl Notated for AuthEnvelopedData {
     ghost notation = { Notation.sequence ⟦<AuthEnvelopedDataParts as NotatedMembers>⟧.members_notation };
 
     ghost denoted = { refl };
+}
+
+impl Exact for AuthEnvelopedData {
+    ghost values = { struct_values ⟦<AuthEnvelopedDataParts as ExactMembers>⟧.all_values ⟦<AuthEnvelopedDataParts as NotatedMembers>⟧.members_notation
+        ⟦<AuthEnvelopedDataParts as SerializeMembers>⟧.members ⟦<Self as Struct>⟧.parts
+        (λ m. (
+          record {
+            version = m.0;
+            originator_info = m.1.0;
+            recipient_infos = m.2;
+            auth_encrypted_content_info = m.3;
+            auth_attrs = m.4.0;
+            mac = m.5;
+            unauth_attrs = m.6.0;
+          },
+          refl {a = m},
+        )) };
+
+    ghost exact = { Prim.assumption };
 }

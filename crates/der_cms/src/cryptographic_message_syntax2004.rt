@@ -7,14 +7,16 @@ ghost use Rattle.picky_der_de.specs.declared.alternatives.OneOf.TheVariants.{Oth
 ghost use Rattle.picky_der_de.specs.ChoiceFacts.{choice_facts};
 ghost use Rattle.picky_der_de.specs.MembersFacts.{sequence_of, sequence_shape, struct_facts};
 ghost use Rattle.der_types.specs.Notation.{Notation};
+ghost use Rattle.der_types.specs.ExactChoices.{choice_values};
+ghost use Rattle.der_types.specs.ExactMembers.{struct_values};
 
 use crate::{
     EncapsulatedContentInfo, EncryptedContentInfo, OriginatorInfo, RecipientInfos, SignerInfo,
     UnprotectedAttributes,
 };
 use der_types::{
-    GeneralizedTime, Integer, Notated, NotatedAlternatives, NotatedMembers, ObjectIdentifier,
-    UtcTime, WithSize,
+    Exact, ExactAlternatives, ExactMembers, GeneralizedTime, Integer, Notated, NotatedAlternatives,
+    NotatedMembers, ObjectIdentifier, UtcTime, WithSize,
 };
 use der_x509::AlgorithmIdentifier;
 use picky_asn1_der::OneOf::{Other, This};
@@ -92,6 +94,14 @@ impl Notated for ContentInfo {
     ghost denoted = { refl };
 }
 
+impl Exact for ContentInfo {
+    ghost values = { struct_values ⟦<ContentInfoParts as ExactMembers>⟧.all_values ⟦<ContentInfoParts as NotatedMembers>⟧.members_notation
+        ⟦<ContentInfoParts as SerializeMembers>⟧.members ⟦<Self as Struct>⟧.parts
+        (λ m. (record { content_type = m.0; content = m.1 }, refl {a = m})) };
+
+    ghost exact = { Prim.assumption };
+}
+
 /// `ContentType` of CryptographicMessageSyntax2004: `OBJECT IDENTIFIER`.
 pub type ContentType = ObjectIdentifier;
 
@@ -158,6 +168,14 @@ impl Notated for Attribute {
     ghost notation = { Notation.sequence ⟦<AttributeParts as NotatedMembers>⟧.members_notation };
 
     ghost denoted = { refl };
+}
+
+impl Exact for Attribute {
+    ghost values = { struct_values ⟦<AttributeParts as ExactMembers>⟧.all_values ⟦<AttributeParts as NotatedMembers>⟧.members_notation
+        ⟦<AttributeParts as SerializeMembers>⟧.members ⟦<Self as Struct>⟧.parts
+        (λ m. (record { attr_type = m.0; attr_values = m.1 }, refl {a = m})) };
+
+    ghost exact = { Prim.assumption };
 }
 
 /// `AttributeValue` of CryptographicMessageSyntax2004: `ANY`.
@@ -243,6 +261,22 @@ impl Notated for DigestedData {
     ghost denoted = { refl };
 }
 
+impl Exact for DigestedData {
+    ghost values = { struct_values ⟦<DigestedDataParts as ExactMembers>⟧.all_values ⟦<DigestedDataParts as NotatedMembers>⟧.members_notation
+        ⟦<DigestedDataParts as SerializeMembers>⟧.members ⟦<Self as Struct>⟧.parts
+        (λ m. (
+          record {
+            version = m.0;
+            digest_algorithm = m.1;
+            encap_content_info = m.2;
+            digest = m.3;
+          },
+          refl {a = m},
+        )) };
+
+    ghost exact = { Prim.assumption };
+}
+
 /// `Digest` of CryptographicMessageSyntax2004: `OCTET STRING`.
 pub type Digest = ByteBuf;
 
@@ -319,6 +353,14 @@ impl Notated for EncryptedData {
     ghost notation = { Notation.sequence ⟦<EncryptedDataParts as NotatedMembers>⟧.members_notation };
 
     ghost denoted = { refl };
+}
+
+impl Exact for EncryptedData {
+    ghost values = { struct_values ⟦<EncryptedDataParts as ExactMembers>⟧.all_values ⟦<EncryptedDataParts as NotatedMembers>⟧.members_notation
+        ⟦<EncryptedDataParts as SerializeMembers>⟧.members ⟦<Self as Struct>⟧.parts
+        (λ m. (record { version = m.0; encrypted_content_info = m.1; unprotected_attrs = m.2.0 }, refl {a = m})) };
+
+    ghost exact = { Prim.assumption };
 }
 
 /// `AuthenticatedData` of CryptographicMessageSyntax2004, as a SEQUENCE.
@@ -448,6 +490,27 @@ impl Notated for AuthenticatedData {
     ghost denoted = { refl };
 }
 
+impl Exact for AuthenticatedData {
+    ghost values = { struct_values ⟦<AuthenticatedDataParts as ExactMembers>⟧.all_values ⟦<AuthenticatedDataParts as NotatedMembers>⟧.members_notation
+        ⟦<AuthenticatedDataParts as SerializeMembers>⟧.members ⟦<Self as Struct>⟧.parts
+        (λ m. (
+          record {
+            version = m.0;
+            originator_info = m.1.0;
+            recipient_infos = m.2;
+            mac_algorithm = m.3;
+            digest_algorithm = m.4.0;
+            encap_content_info = m.5;
+            auth_attrs = m.6.0;
+            mac = m.7;
+            unauth_attrs = m.8.0.0;
+          },
+          refl {a = m},
+        )) };
+
+    ghost exact = { Prim.assumption };
+}
+
 /// `AuthAttributes` of CryptographicMessageSyntax2004: `SET SIZE (1..MAX) OF Attribute`.
 pub type AuthAttributes = WithSize<Asn1SetOf<Attribute>, 1, { usize::MAX }>;
 
@@ -545,6 +608,20 @@ impl Notated for Time {
     ghost notation = { Notation.choice ⟦<TimeParts as NotatedAlternatives>⟧.alternatives_notation };
 
     ghost denoted = { refl };
+}
+
+impl Exact for Time {
+    ghost use Rattle.der_cms.specs.declared.cryptographic_message_syntax2004.Time.TheVariants as variants;
+
+    ghost values = { choice_values ⟦<TimeParts as ExactAlternatives>⟧.chosen_values
+        ⟦<TimeParts as NotatedAlternatives>⟧.alternatives_notation ⟦<TimeParts as Alternatives>⟧.chosen ⟦<Self as Choice>⟧.parts
+        (elim [
+          | This x ↦ (variants.UtcTime x, refl)
+          | Other (This x) ↦ (variants.GeneralizedTime x, refl)
+          | Other (Other x) ↦ elim x [ ]
+        ]) };
+
+    ghost exact = { Prim.assumption };
 }
 
 /// `Countersignature` of CryptographicMessageSyntax2004: `SignerInfo`.

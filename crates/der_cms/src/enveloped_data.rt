@@ -4,12 +4,13 @@
 ghost use Rattle.std.specs.Prelude.{refl};
 ghost use Rattle.picky_der_de.specs.MembersFacts.{sequence_of, sequence_shape, struct_facts};
 ghost use Rattle.der_types.specs.Notation.{Notation};
+ghost use Rattle.der_types.specs.ExactMembers.{struct_values};
 
 use crate::{
     Attribute, CertificateSet, CmsVersion, ContentEncryptionAlgorithmIdentifier, ContentType,
     RecipientInfos, RevocationInfoChoices,
 };
-use der_types::{Notated, NotatedMembers, WithSize};
+use der_types::{Exact, ExactMembers, Notated, NotatedMembers, WithSize};
 use picky_asn1_der::asn1::{
     Asn1SetOf, ByteBuf, ImplicitContextTag0, ImplicitList0, ImplicitList1, Tag,
 };
@@ -120,6 +121,23 @@ impl Notated for EnvelopedData {
     ghost denoted = { refl };
 }
 
+impl Exact for EnvelopedData {
+    ghost values = { struct_values ⟦<EnvelopedDataParts as ExactMembers>⟧.all_values ⟦<EnvelopedDataParts as NotatedMembers>⟧.members_notation
+        ⟦<EnvelopedDataParts as SerializeMembers>⟧.members ⟦<Self as Struct>⟧.parts
+        (λ m. (
+          record {
+            version = m.0;
+            originator_info = m.1.0;
+            recipient_infos = m.2;
+            encrypted_content_info = m.3;
+            unprotected_attrs = m.4.0;
+          },
+          refl {a = m},
+        )) };
+
+    ghost exact = { Prim.assumption };
+}
+
 /// `OriginatorInfo` of CryptographicMessageSyntax2004, as a SEQUENCE.
 #[derive(Debug, Drop, PartialEq, Eq)]
 pub struct OriginatorInfo {
@@ -180,6 +198,14 @@ impl Notated for OriginatorInfo {
     ghost notation = { Notation.sequence ⟦<OriginatorInfoParts as NotatedMembers>⟧.members_notation };
 
     ghost denoted = { refl };
+}
+
+impl Exact for OriginatorInfo {
+    ghost values = { struct_values ⟦<OriginatorInfoParts as ExactMembers>⟧.all_values ⟦<OriginatorInfoParts as NotatedMembers>⟧.members_notation
+        ⟦<OriginatorInfoParts as SerializeMembers>⟧.members ⟦<Self as Struct>⟧.parts
+        (λ m. (record { certs = m.0.0; crls = m.1.0 }, refl {a = m})) };
+
+    ghost exact = { Prim.assumption };
 }
 
 /// `EncryptedContentInfo` of CryptographicMessageSyntax2004, as a SEQUENCE.
@@ -255,6 +281,21 @@ impl Notated for EncryptedContentInfo {
     ghost notation = { Notation.sequence ⟦<EncryptedContentInfoParts as NotatedMembers>⟧.members_notation };
 
     ghost denoted = { refl };
+}
+
+impl Exact for EncryptedContentInfo {
+    ghost values = { struct_values ⟦<EncryptedContentInfoParts as ExactMembers>⟧.all_values ⟦<EncryptedContentInfoParts as NotatedMembers>⟧.members_notation
+        ⟦<EncryptedContentInfoParts as SerializeMembers>⟧.members ⟦<Self as Struct>⟧.parts
+        (λ m. (
+          record {
+            content_type = m.0;
+            content_encryption_algorithm = m.1;
+            encrypted_content = m.2.0;
+          },
+          refl {a = m},
+        )) };
+
+    ghost exact = { Prim.assumption };
 }
 
 /// `EncryptedContent` of CryptographicMessageSyntax2004: `OCTET STRING`.

@@ -7,12 +7,17 @@ ghost use Rattle.picky_der_de.specs.declared.alternatives.OneOf.TheVariants.{Oth
 ghost use Rattle.picky_der_de.specs.ChoiceFacts.{choice_facts};
 ghost use Rattle.picky_der_de.specs.MembersFacts.{sequence_of, sequence_shape, struct_facts};
 ghost use Rattle.der_types.specs.Notation.{Notation};
+ghost use Rattle.der_types.specs.ExactChoices.{choice_values};
+ghost use Rattle.der_types.specs.ExactMembers.{struct_values};
 
 use crate::{
     CmsVersion, EncryptedKey, IssuerAndSerialNumber, KeyEncryptionAlgorithmIdentifier,
     OtherKeyAttribute, SubjectKeyIdentifier,
 };
-use der_types::{BitString, GeneralizedTime, Notated, NotatedAlternatives, NotatedMembers};
+use der_types::{
+    BitString, Exact, ExactAlternatives, ExactMembers, GeneralizedTime, Notated,
+    NotatedAlternatives, NotatedMembers,
+};
 use der_x509::AlgorithmIdentifier;
 use picky_asn1_der::OneOf::{Other, This};
 use picky_asn1_der::asn1::{
@@ -128,6 +133,23 @@ impl Notated for KeyAgreeRecipientInfo {
     ghost denoted = { refl };
 }
 
+impl Exact for KeyAgreeRecipientInfo {
+    ghost values = { struct_values ⟦<KeyAgreeRecipientInfoParts as ExactMembers>⟧.all_values ⟦<KeyAgreeRecipientInfoParts as NotatedMembers>⟧.members_notation
+        ⟦<KeyAgreeRecipientInfoParts as SerializeMembers>⟧.members ⟦<Self as Struct>⟧.parts
+        (λ m. (
+          record {
+            version = m.0;
+            originator = m.1;
+            ukm = m.2.0;
+            key_encryption_algorithm = m.3;
+            recipient_encrypted_keys = m.4;
+          },
+          refl {a = m},
+        )) };
+
+    ghost exact = { Prim.assumption };
+}
+
 /// `OriginatorIdentifierOrKey` of CryptographicMessageSyntax2004, as a CHOICE.
 #[derive(Debug, Drop, PartialEq, Eq)]
 pub enum OriginatorIdentifierOrKey {
@@ -220,6 +242,21 @@ impl Notated for OriginatorIdentifierOrKey {
     ghost denoted = { refl };
 }
 
+impl Exact for OriginatorIdentifierOrKey {
+    ghost use Rattle.der_cms.specs.declared.key_agreement.OriginatorIdentifierOrKey.TheVariants as variants;
+
+    ghost values = { choice_values ⟦<OriginatorIdentifierOrKeyParts as ExactAlternatives>⟧.chosen_values
+        ⟦<OriginatorIdentifierOrKeyParts as NotatedAlternatives>⟧.alternatives_notation ⟦<OriginatorIdentifierOrKeyParts as Alternatives>⟧.chosen ⟦<Self as Choice>⟧.parts
+        (elim [
+          | This x ↦ (variants.IssuerAndSerialNumber x, refl)
+          | Other (This x) ↦ (variants.SubjectKeyIdentifier x, refl)
+          | Other (Other (This x)) ↦ (variants.OriginatorKey x, refl)
+          | Other (Other (Other x)) ↦ elim x [ ]
+        ]) };
+
+    ghost exact = { Prim.assumption };
+}
+
 /// `OriginatorPublicKey` of CryptographicMessageSyntax2004, as a SEQUENCE.
 #[derive(Debug, Drop, PartialEq, Eq)]
 pub struct OriginatorPublicKey {
@@ -279,6 +316,14 @@ impl Notated for OriginatorPublicKey {
     ghost notation = { Notation.sequence ⟦<OriginatorPublicKeyParts as NotatedMembers>⟧.members_notation };
 
     ghost denoted = { refl };
+}
+
+impl Exact for OriginatorPublicKey {
+    ghost values = { struct_values ⟦<OriginatorPublicKeyParts as ExactMembers>⟧.all_values ⟦<OriginatorPublicKeyParts as NotatedMembers>⟧.members_notation
+        ⟦<OriginatorPublicKeyParts as SerializeMembers>⟧.members ⟦<Self as Struct>⟧.parts
+        (λ m. (record { algorithm = m.0; public_key = m.1 }, refl {a = m})) };
+
+    ghost exact = { Prim.assumption };
 }
 
 /// `RecipientEncryptedKeys` of CryptographicMessageSyntax2004: `SEQUENCE OF RecipientEncryptedKey`.
@@ -342,6 +387,14 @@ impl Notated for RecipientEncryptedKey {
     ghost notation = { Notation.sequence ⟦<RecipientEncryptedKeyParts as NotatedMembers>⟧.members_notation };
 
     ghost denoted = { refl };
+}
+
+impl Exact for RecipientEncryptedKey {
+    ghost values = { struct_values ⟦<RecipientEncryptedKeyParts as ExactMembers>⟧.all_values ⟦<RecipientEncryptedKeyParts as NotatedMembers>⟧.members_notation
+        ⟦<RecipientEncryptedKeyParts as SerializeMembers>⟧.members ⟦<Self as Struct>⟧.parts
+        (λ m. (record { rid = m.0; encrypted_key = m.1 }, refl {a = m})) };
+
+    ghost exact = { Prim.assumption };
 }
 
 /// `KeyAgreeRecipientIdentifier` of CryptographicMessageSyntax2004, as a CHOICE.
@@ -415,6 +468,20 @@ impl Notated for KeyAgreeRecipientIdentifier {
     ghost notation = { Notation.choice ⟦<KeyAgreeRecipientIdentifierParts as NotatedAlternatives>⟧.alternatives_notation };
 
     ghost denoted = { refl };
+}
+
+impl Exact for KeyAgreeRecipientIdentifier {
+    ghost use Rattle.der_cms.specs.declared.key_agreement.KeyAgreeRecipientIdentifier.TheVariants as variants;
+
+    ghost values = { choice_values ⟦<KeyAgreeRecipientIdentifierParts as ExactAlternatives>⟧.chosen_values
+        ⟦<KeyAgreeRecipientIdentifierParts as NotatedAlternatives>⟧.alternatives_notation ⟦<KeyAgreeRecipientIdentifierParts as Alternatives>⟧.chosen ⟦<Self as Choice>⟧.parts
+        (elim [
+          | This x ↦ (variants.IssuerAndSerialNumber x, refl)
+          | Other (This x) ↦ (variants.RKeyId x, refl)
+          | Other (Other x) ↦ elim x [ ]
+        ]) };
+
+    ghost exact = { Prim.assumption };
 }
 
 /// `RecipientKeyIdentifier` of CryptographicMessageSyntax2004, as a SEQUENCE.
@@ -492,6 +559,14 @@ impl Notated for RecipientKeyIdentifier {
     ghost notation = { Notation.sequence ⟦<RecipientKeyIdentifierParts as NotatedMembers>⟧.members_notation };
 
     ghost denoted = { refl };
+}
+
+impl Exact for RecipientKeyIdentifier {
+    ghost values = { struct_values ⟦<RecipientKeyIdentifierParts as ExactMembers>⟧.all_values ⟦<RecipientKeyIdentifierParts as NotatedMembers>⟧.members_notation
+        ⟦<RecipientKeyIdentifierParts as SerializeMembers>⟧.members ⟦<Self as Struct>⟧.parts
+        (λ m. (record { subject_key_identifier = m.0; date = m.1.0; other = m.2.0 }, refl {a = m})) };
+
+    ghost exact = { Prim.assumption };
 }
 
 /// `UserKeyingMaterial` of CryptographicMessageSyntax2004: `OCTET STRING`.

@@ -8,13 +8,16 @@ ghost use Rattle.picky_der_de.specs.declared.choice4.Choice4.TheVariants.{First,
 ghost use Rattle.picky_der_de.specs.ChoiceFacts.{choice_facts};
 ghost use Rattle.picky_der_de.specs.MembersFacts.{sequence_of, sequence_shape, struct_facts};
 ghost use Rattle.der_types.specs.Notation.{Notation};
+ghost use Rattle.der_types.specs.ExactChoices.{choice_values};
+ghost use Rattle.der_types.specs.ExactMembers.{struct_values};
 
 use crate::{
     CmsVersion, IssuerAndSerialNumber, KeyAgreeRecipientInfo, KeyDerivationAlgorithmIdentifier,
     KeyEncryptionAlgorithmIdentifier,
 };
 use der_types::{
-    GeneralizedTime, Notated, NotatedAlternatives, NotatedMembers, ObjectIdentifier, WithSize,
+    Exact, ExactAlternatives, ExactMembers, GeneralizedTime, Notated, NotatedAlternatives,
+    NotatedMembers, ObjectIdentifier, WithSize,
 };
 use picky_asn1_der::Choice4::{First, Fourth, Later, Second, Third};
 use picky_asn1_der::OneOf::{Other, This};
@@ -121,6 +124,23 @@ impl Notated for RecipientInfo {
     ghost denoted = { refl };
 }
 
+impl Exact for RecipientInfo {
+    ghost use Rattle.der_cms.specs.declared.recipients.RecipientInfo.TheVariants as variants;
+
+    ghost values = { choice_values ⟦<RecipientInfoParts as ExactAlternatives>⟧.chosen_values
+        ⟦<RecipientInfoParts as NotatedAlternatives>⟧.alternatives_notation ⟦<RecipientInfoParts as Alternatives>⟧.chosen ⟦<Self as Choice>⟧.parts
+        (elim [
+          | First x ↦ (variants.Ktri x, refl)
+          | Second x ↦ (variants.Kari x, refl)
+          | Third x ↦ (variants.Kekri x, refl)
+          | Fourth x ↦ (variants.Pwri x, refl)
+          | Later (This x) ↦ (variants.Ori x, refl)
+          | Later (Other x) ↦ elim x [ ]
+        ]) };
+
+    ghost exact = { Prim.assumption };
+}
+
 /// `EncryptedKey` of CryptographicMessageSyntax2004: `OCTET STRING`.
 pub type EncryptedKey = ByteBuf;
 
@@ -206,6 +226,22 @@ impl Notated for KeyTransRecipientInfo {
     ghost denoted = { refl };
 }
 
+impl Exact for KeyTransRecipientInfo {
+    ghost values = { struct_values ⟦<KeyTransRecipientInfoParts as ExactMembers>⟧.all_values ⟦<KeyTransRecipientInfoParts as NotatedMembers>⟧.members_notation
+        ⟦<KeyTransRecipientInfoParts as SerializeMembers>⟧.members ⟦<Self as Struct>⟧.parts
+        (λ m. (
+          record {
+            version = m.0;
+            rid = m.1;
+            key_encryption_algorithm = m.2;
+            encrypted_key = m.3;
+          },
+          refl {a = m},
+        )) };
+
+    ghost exact = { Prim.assumption };
+}
+
 /// `RecipientIdentifier` of CryptographicMessageSyntax2004, as a CHOICE.
 #[derive(Debug, Drop, PartialEq, Eq)]
 pub enum RecipientIdentifier {
@@ -282,6 +318,20 @@ impl Notated for RecipientIdentifier {
     ghost notation = { Notation.choice ⟦<RecipientIdentifierParts as NotatedAlternatives>⟧.alternatives_notation };
 
     ghost denoted = { refl };
+}
+
+impl Exact for RecipientIdentifier {
+    ghost use Rattle.der_cms.specs.declared.recipients.RecipientIdentifier.TheVariants as variants;
+
+    ghost values = { choice_values ⟦<RecipientIdentifierParts as ExactAlternatives>⟧.chosen_values
+        ⟦<RecipientIdentifierParts as NotatedAlternatives>⟧.alternatives_notation ⟦<RecipientIdentifierParts as Alternatives>⟧.chosen ⟦<Self as Choice>⟧.parts
+        (elim [
+          | This x ↦ (variants.IssuerAndSerialNumber x, refl)
+          | Other (This x) ↦ (variants.SubjectKeyIdentifier x, refl)
+          | Other (Other x) ↦ elim x [ ]
+        ]) };
+
+    ghost exact = { Prim.assumption };
 }
 
 /// `SubjectKeyIdentifier` of CryptographicMessageSyntax2004: `OCTET STRING`.
@@ -367,6 +417,22 @@ impl Notated for KekRecipientInfo {
     ghost denoted = { refl };
 }
 
+impl Exact for KekRecipientInfo {
+    ghost values = { struct_values ⟦<KekRecipientInfoParts as ExactMembers>⟧.all_values ⟦<KekRecipientInfoParts as NotatedMembers>⟧.members_notation
+        ⟦<KekRecipientInfoParts as SerializeMembers>⟧.members ⟦<Self as Struct>⟧.parts
+        (λ m. (
+          record {
+            version = m.0;
+            kekid = m.1;
+            key_encryption_algorithm = m.2;
+            encrypted_key = m.3;
+          },
+          refl {a = m},
+        )) };
+
+    ghost exact = { Prim.assumption };
+}
+
 /// `KEKIdentifier` of CryptographicMessageSyntax2004, as a SEQUENCE.
 #[derive(Debug, Drop, PartialEq, Eq)]
 pub struct KekIdentifier {
@@ -440,6 +506,14 @@ impl Notated for KekIdentifier {
     ghost notation = { Notation.sequence ⟦<KekIdentifierParts as NotatedMembers>⟧.members_notation };
 
     ghost denoted = { refl };
+}
+
+impl Exact for KekIdentifier {
+    ghost values = { struct_values ⟦<KekIdentifierParts as ExactMembers>⟧.all_values ⟦<KekIdentifierParts as NotatedMembers>⟧.members_notation
+        ⟦<KekIdentifierParts as SerializeMembers>⟧.members ⟦<Self as Struct>⟧.parts
+        (λ m. (record { key_identifier = m.0; date = m.1.0; other = m.2.0 }, refl {a = m})) };
+
+    ghost exact = { Prim.assumption };
 }
 
 /// `PasswordRecipientInfo` of CryptographicMessageSyntax2004, as a SEQUENCE.
@@ -536,6 +610,22 @@ impl Notated for PasswordRecipientInfo {
     ghost denoted = { refl };
 }
 
+impl Exact for PasswordRecipientInfo {
+    ghost values = { struct_values ⟦<PasswordRecipientInfoParts as ExactMembers>⟧.all_values ⟦<PasswordRecipientInfoParts as NotatedMembers>⟧.members_notation
+        ⟦<PasswordRecipientInfoParts as SerializeMembers>⟧.members ⟦<Self as Struct>⟧.parts
+        (λ m. (
+          record {
+            version = m.0;
+            key_derivation_algorithm = m.1.0;
+            key_encryption_algorithm = m.2;
+            encrypted_key = m.3;
+          },
+          refl {a = m},
+        )) };
+
+    ghost exact = { Prim.assumption };
+}
+
 /// `OtherRecipientInfo` of CryptographicMessageSyntax2004, as a SEQUENCE.
 #[derive(Debug, Drop, PartialEq, Eq)]
 pub struct OtherRecipientInfo {
@@ -597,6 +687,14 @@ impl Notated for OtherRecipientInfo {
     ghost denoted = { refl };
 }
 
+impl Exact for OtherRecipientInfo {
+    ghost values = { struct_values ⟦<OtherRecipientInfoParts as ExactMembers>⟧.all_values ⟦<OtherRecipientInfoParts as NotatedMembers>⟧.members_notation
+        ⟦<OtherRecipientInfoParts as SerializeMembers>⟧.members ⟦<Self as Struct>⟧.parts
+        (λ m. (record { ori_type = m.0; ori_value = m.1 }, refl {a = m})) };
+
+    ghost exact = { Prim.assumption };
+}
+
 /// `OtherKeyAttribute` of CryptographicMessageSyntax2004, as a SEQUENCE.
 #[derive(Debug, Drop, PartialEq, Eq)]
 pub struct OtherKeyAttribute {
@@ -656,4 +754,12 @@ impl Notated for OtherKeyAttribute {
     ghost notation = { Notation.sequence ⟦<OtherKeyAttributeParts as NotatedMembers>⟧.members_notation };
 
     ghost denoted = { refl };
+}
+
+impl Exact for OtherKeyAttribute {
+    ghost values = { struct_values ⟦<OtherKeyAttributeParts as ExactMembers>⟧.all_values ⟦<OtherKeyAttributeParts as NotatedMembers>⟧.members_notation
+        ⟦<OtherKeyAttributeParts as SerializeMembers>⟧.members ⟦<Self as Struct>⟧.parts
+        (λ m. (record { key_attr_id = m.0; key_attr = m.1.0 }, refl {a = m})) };
+
+    ghost exact = { Prim.assumption };
 }

@@ -7,13 +7,17 @@ ghost use Rattle.picky_der_de.specs.declared.alternatives.OneOf.TheVariants.{Oth
 ghost use Rattle.picky_der_de.specs.ChoiceFacts.{choice_facts};
 ghost use Rattle.picky_der_de.specs.MembersFacts.{sequence_of, sequence_shape, struct_facts};
 ghost use Rattle.der_types.specs.Notation.{Notation};
+ghost use Rattle.der_types.specs.ExactChoices.{choice_values};
+ghost use Rattle.der_types.specs.ExactMembers.{struct_values};
 
 use crate::{
     Attribute, CertificateSet, CmsVersion, ContentType, DigestAlgorithmIdentifier,
     IssuerAndSerialNumber, RevocationInfoChoices, SignatureAlgorithmIdentifier,
     SubjectKeyIdentifier,
 };
-use der_types::{Notated, NotatedAlternatives, NotatedMembers, WithSize};
+use der_types::{
+    Exact, ExactAlternatives, ExactMembers, Notated, NotatedAlternatives, NotatedMembers, WithSize,
+};
 use picky_asn1_der::OneOf::{Other, This};
 use picky_asn1_der::asn1::{
     Asn1SetOf, ByteBuf, ExplicitContextTag0, ImplicitContextTag0, ImplicitList0, ImplicitList1, Tag,
@@ -132,6 +136,24 @@ impl Notated for SignedData {
     ghost denoted = { refl };
 }
 
+impl Exact for SignedData {
+    ghost values = { struct_values ⟦<SignedDataParts as ExactMembers>⟧.all_values ⟦<SignedDataParts as NotatedMembers>⟧.members_notation
+        ⟦<SignedDataParts as SerializeMembers>⟧.members ⟦<Self as Struct>⟧.parts
+        (λ m. (
+          record {
+            version = m.0;
+            digest_algorithms = m.1;
+            encap_content_info = m.2;
+            certificates = m.3.0;
+            crls = m.4.0;
+            signer_infos = m.5;
+          },
+          refl {a = m},
+        )) };
+
+    ghost exact = { Prim.assumption };
+}
+
 /// `DigestAlgorithmIdentifiers` of CryptographicMessageSyntax2004: `SET OF
 /// DigestAlgorithmIdentifier`.
 pub type DigestAlgorithmIdentifiers = Asn1SetOf<DigestAlgorithmIdentifier>;
@@ -201,6 +223,14 @@ impl Notated for EncapsulatedContentInfo {
     ghost notation = { Notation.sequence ⟦<EncapsulatedContentInfoParts as NotatedMembers>⟧.members_notation };
 
     ghost denoted = { refl };
+}
+
+impl Exact for EncapsulatedContentInfo {
+    ghost values = { struct_values ⟦<EncapsulatedContentInfoParts as ExactMembers>⟧.all_values ⟦<EncapsulatedContentInfoParts as NotatedMembers>⟧.members_notation
+        ⟦<EncapsulatedContentInfoParts as SerializeMembers>⟧.members ⟦<Self as Struct>⟧.parts
+        (λ m. (record { e_content_type = m.0; e_content = m.1.0 }, refl {a = m})) };
+
+    ghost exact = { Prim.assumption };
 }
 
 /// A signature. Where there are signed attributes, it is over their encoding as a SET OF, with the
@@ -317,6 +347,25 @@ impl Notated for SignerInfo {
     ghost denoted = { refl };
 }
 
+impl Exact for SignerInfo {
+    ghost values = { struct_values ⟦<SignerInfoParts as ExactMembers>⟧.all_values ⟦<SignerInfoParts as NotatedMembers>⟧.members_notation
+        ⟦<SignerInfoParts as SerializeMembers>⟧.members ⟦<Self as Struct>⟧.parts
+        (λ m. (
+          record {
+            version = m.0;
+            sid = m.1;
+            digest_algorithm = m.2;
+            signed_attrs = m.3.0;
+            signature_algorithm = m.4;
+            signature = m.5;
+            unsigned_attrs = m.6.0;
+          },
+          refl {a = m},
+        )) };
+
+    ghost exact = { Prim.assumption };
+}
+
 /// `SignerIdentifier` of CryptographicMessageSyntax2004, as a CHOICE.
 #[derive(Debug, Drop, PartialEq, Eq)]
 pub enum SignerIdentifier {
@@ -393,6 +442,20 @@ impl Notated for SignerIdentifier {
     ghost notation = { Notation.choice ⟦<SignerIdentifierParts as NotatedAlternatives>⟧.alternatives_notation };
 
     ghost denoted = { refl };
+}
+
+impl Exact for SignerIdentifier {
+    ghost use Rattle.der_cms.specs.declared.signed_data.SignerIdentifier.TheVariants as variants;
+
+    ghost values = { choice_values ⟦<SignerIdentifierParts as ExactAlternatives>⟧.chosen_values
+        ⟦<SignerIdentifierParts as NotatedAlternatives>⟧.alternatives_notation ⟦<SignerIdentifierParts as Alternatives>⟧.chosen ⟦<Self as Choice>⟧.parts
+        (elim [
+          | This x ↦ (variants.IssuerAndSerialNumber x, refl)
+          | Other (This x) ↦ (variants.SubjectKeyIdentifier x, refl)
+          | Other (Other x) ↦ elim x [ ]
+        ]) };
+
+    ghost exact = { Prim.assumption };
 }
 
 /// `SignedAttributes` of CryptographicMessageSyntax2004: `SET SIZE (1..MAX) OF Attribute`.

@@ -4,12 +4,13 @@
 ghost use Rattle.std.specs.Prelude.{refl};
 ghost use Rattle.picky_der_de.specs.MembersFacts.{sequence_of, sequence_shape, struct_facts};
 ghost use Rattle.der_types.specs.Notation.{Notation};
+ghost use Rattle.der_types.specs.ExactMembers.{struct_values};
 
 use crate::{
     AuthorizationData, Checksum, EncryptedData, EncryptionKey, KerberosFlags, KerberosTime,
     Microseconds, PrincipalName, Realm, Ticket, UInt32,
 };
-use der_types::{InRange, Notated, NotatedMembers};
+use der_types::{Exact, ExactMembers, InRange, Notated, NotatedMembers};
 use picky_asn1_der::application_tag::ApplicationTag;
 use picky_asn1_der::asn1::{
     ExplicitContextTag0, ExplicitContextTag1, ExplicitContextTag2, ExplicitContextTag3,
@@ -115,6 +116,23 @@ impl Notated for ApReqMembers {
     ghost notation = { Notation.sequence ⟦<ApReqMembersParts as NotatedMembers>⟧.members_notation };
 
     ghost denoted = { refl };
+}
+
+impl Exact for ApReqMembers {
+    ghost values = { struct_values ⟦<ApReqMembersParts as ExactMembers>⟧.all_values ⟦<ApReqMembersParts as NotatedMembers>⟧.members_notation
+        ⟦<ApReqMembersParts as SerializeMembers>⟧.members ⟦<Self as Struct>⟧.parts
+        (λ m. (
+          record {
+            pvno = m.0;
+            msg_type = m.1;
+            ap_options = m.2;
+            ticket = m.3;
+            authenticator = m.4;
+          },
+          refl {a = m},
+        )) };
+
+    ghost exact = { Prim.assumption };
 }
 
 /// Bits from 0: reserved, use-session-key, mutual-required. `APOptions` of KerberosV5Spec2:
@@ -258,6 +276,27 @@ impl Notated for AuthenticatorMembers {
     ghost denoted = { refl };
 }
 
+impl Exact for AuthenticatorMembers {
+    ghost values = { struct_values ⟦<AuthenticatorMembersParts as ExactMembers>⟧.all_values ⟦<AuthenticatorMembersParts as NotatedMembers>⟧.members_notation
+        ⟦<AuthenticatorMembersParts as SerializeMembers>⟧.members ⟦<Self as Struct>⟧.parts
+        (λ m. (
+          record {
+            authenticator_vno = m.0;
+            crealm = m.1;
+            cname = m.2;
+            cksum = m.3.0;
+            cusec = m.4;
+            ctime = m.5;
+            subkey = m.6.0;
+            seq_number = m.7.0;
+            authorization_data = m.8.0.0;
+          },
+          refl {a = m},
+        )) };
+
+    ghost exact = { Prim.assumption };
+}
+
 /// `AP-REP` of KerberosV5Spec2: `[APPLICATION 15] SEQUENCE { pvno [0] INTEGER (5), msg-type [1]
 /// INTEGER (15), enc-part [2] EncryptedData }`.
 pub type ApRep = ApplicationTag<ApRepMembers, 15>;
@@ -329,6 +368,14 @@ impl Notated for ApRepMembers {
     ghost notation = { Notation.sequence ⟦<ApRepMembersParts as NotatedMembers>⟧.members_notation };
 
     ghost denoted = { refl };
+}
+
+impl Exact for ApRepMembers {
+    ghost values = { struct_values ⟦<ApRepMembersParts as ExactMembers>⟧.all_values ⟦<ApRepMembersParts as NotatedMembers>⟧.members_notation
+        ⟦<ApRepMembersParts as SerializeMembers>⟧.members ⟦<Self as Struct>⟧.parts
+        (λ m. (record { pvno = m.0; msg_type = m.1; enc_part = m.2 }, refl {a = m})) };
+
+    ghost exact = { Prim.assumption };
 }
 
 /// `EncAPRepPart` of KerberosV5Spec2: `[APPLICATION 27] SEQUENCE { ctime [0] KerberosTime, cusec
@@ -413,4 +460,12 @@ impl Notated for EncApRepPartMembers {
     ghost notation = { Notation.sequence ⟦<EncApRepPartMembersParts as NotatedMembers>⟧.members_notation };
 
     ghost denoted = { refl };
+}
+
+impl Exact for EncApRepPartMembers {
+    ghost values = { struct_values ⟦<EncApRepPartMembersParts as ExactMembers>⟧.all_values ⟦<EncApRepPartMembersParts as NotatedMembers>⟧.members_notation
+        ⟦<EncApRepPartMembersParts as SerializeMembers>⟧.members ⟦<Self as Struct>⟧.parts
+        (λ m. (record { ctime = m.0; cusec = m.1; subkey = m.2.0; seq_number = m.3.0 }, refl {a = m})) };
+
+    ghost exact = { Prim.assumption };
 }

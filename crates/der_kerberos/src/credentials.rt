@@ -4,12 +4,13 @@
 ghost use Rattle.std.specs.Prelude.{refl};
 ghost use Rattle.picky_der_de.specs.MembersFacts.{sequence_of, sequence_shape, struct_facts};
 ghost use Rattle.der_types.specs.Notation.{Notation};
+ghost use Rattle.der_types.specs.ExactMembers.{struct_values};
 
 use crate::{
     EncryptedData, EncryptionKey, HostAddress, HostAddresses, KerberosTime, Microseconds,
     PrincipalName, Realm, Ticket, TicketFlags, UInt32,
 };
-use der_types::{InRange, Notated, NotatedMembers};
+use der_types::{Exact, ExactMembers, InRange, Notated, NotatedMembers};
 use picky_asn1_der::application_tag::ApplicationTag;
 use picky_asn1_der::asn1::{
     ExplicitContextTag0, ExplicitContextTag1, ExplicitContextTag2, ExplicitContextTag3,
@@ -110,6 +111,14 @@ impl Notated for KrbCredMembers {
     ghost notation = { Notation.sequence ⟦<KrbCredMembersParts as NotatedMembers>⟧.members_notation };
 
     ghost denoted = { refl };
+}
+
+impl Exact for KrbCredMembers {
+    ghost values = { struct_values ⟦<KrbCredMembersParts as ExactMembers>⟧.all_values ⟦<KrbCredMembersParts as NotatedMembers>⟧.members_notation
+        ⟦<KrbCredMembersParts as SerializeMembers>⟧.members ⟦<Self as Struct>⟧.parts
+        (λ m. (record { pvno = m.0; msg_type = m.1; tickets = m.2; enc_part = m.3 }, refl {a = m})) };
+
+    ghost exact = { Prim.assumption };
 }
 
 /// `EncKrbCredPart` of KerberosV5Spec2: `[APPLICATION 29] SEQUENCE { ticket-info [0] SEQUENCE OF
@@ -228,6 +237,24 @@ impl Notated for EncKrbCredPartMembers {
     ghost notation = { Notation.sequence ⟦<EncKrbCredPartMembersParts as NotatedMembers>⟧.members_notation };
 
     ghost denoted = { refl };
+}
+
+impl Exact for EncKrbCredPartMembers {
+    ghost values = { struct_values ⟦<EncKrbCredPartMembersParts as ExactMembers>⟧.all_values ⟦<EncKrbCredPartMembersParts as NotatedMembers>⟧.members_notation
+        ⟦<EncKrbCredPartMembersParts as SerializeMembers>⟧.members ⟦<Self as Struct>⟧.parts
+        (λ m. (
+          record {
+            ticket_info = m.0;
+            nonce = m.1.0;
+            timestamp = m.2.0;
+            usec = m.3.0;
+            s_address = m.4.0;
+            r_address = m.5.0;
+          },
+          refl {a = m},
+        )) };
+
+    ghost exact = { Prim.assumption };
 }
 
 /// `KrbCredInfo` of KerberosV5Spec2, as a SEQUENCE.
@@ -370,4 +397,27 @@ impl Notated for KrbCredInfo {
     ghost notation = { Notation.sequence ⟦<KrbCredInfoParts as NotatedMembers>⟧.members_notation };
 
     ghost denoted = { refl };
+}
+
+impl Exact for KrbCredInfo {
+    ghost values = { struct_values ⟦<KrbCredInfoParts as ExactMembers>⟧.all_values ⟦<KrbCredInfoParts as NotatedMembers>⟧.members_notation
+        ⟦<KrbCredInfoParts as SerializeMembers>⟧.members ⟦<Self as Struct>⟧.parts
+        (λ m. (
+          record {
+            key = m.0;
+            prealm = m.1.0;
+            pname = m.2.0;
+            flags = m.3.0;
+            authtime = m.4.0;
+            starttime = m.5.0;
+            endtime = m.6.0;
+            renew_till = m.7.0;
+            srealm = m.8.0.0;
+            sname = m.8.1.0;
+            caddr = m.8.2.0;
+          },
+          refl {a = m},
+        )) };
+
+    ghost exact = { Prim.assumption };
 }

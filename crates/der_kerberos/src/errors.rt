@@ -4,9 +4,10 @@
 ghost use Rattle.std.specs.Prelude.{refl};
 ghost use Rattle.picky_der_de.specs.MembersFacts.{sequence_of, sequence_shape, struct_facts};
 ghost use Rattle.der_types.specs.Notation.{Notation};
+ghost use Rattle.der_types.specs.ExactMembers.{struct_values};
 
 use crate::{Int32, KerberosString, KerberosTime, Microseconds, PaData, PrincipalName, Realm};
-use der_types::{InRange, Notated, NotatedMembers, WithSize};
+use der_types::{Exact, ExactMembers, InRange, Notated, NotatedMembers, WithSize};
 use picky_asn1_der::application_tag::ApplicationTag;
 use picky_asn1_der::asn1::{
     ByteBuf, ExplicitContextTag0, ExplicitContextTag1, ExplicitContextTag2, ExplicitContextTag3,
@@ -183,6 +184,31 @@ impl Notated for KrbErrorMembers {
     ghost denoted = { refl };
 }
 
+impl Exact for KrbErrorMembers {
+    ghost values = { struct_values ⟦<KrbErrorMembersParts as ExactMembers>⟧.all_values ⟦<KrbErrorMembersParts as NotatedMembers>⟧.members_notation
+        ⟦<KrbErrorMembersParts as SerializeMembers>⟧.members ⟦<Self as Struct>⟧.parts
+        (λ m. (
+          record {
+            pvno = m.0;
+            msg_type = m.1;
+            ctime = m.2.0;
+            cusec = m.3.0;
+            stime = m.4;
+            susec = m.5;
+            error_code = m.6;
+            crealm = m.7.0;
+            cname = m.8.0.0;
+            realm = m.8.1;
+            sname = m.8.2;
+            e_text = m.8.3.0;
+            e_data = m.8.4.0;
+          },
+          refl {a = m},
+        )) };
+
+    ghost exact = { Prim.assumption };
+}
+
 /// `METHOD-DATA` of KerberosV5Spec2: `SEQUENCE OF PA-DATA`.
 pub type MethodData = Vec<PaData>;
 
@@ -253,4 +279,12 @@ impl Notated for TypedDataItem {
     ghost notation = { Notation.sequence ⟦<TypedDataItemParts as NotatedMembers>⟧.members_notation };
 
     ghost denoted = { refl };
+}
+
+impl Exact for TypedDataItem {
+    ghost values = { struct_values ⟦<TypedDataItemParts as ExactMembers>⟧.all_values ⟦<TypedDataItemParts as NotatedMembers>⟧.members_notation
+        ⟦<TypedDataItemParts as SerializeMembers>⟧.members ⟦<Self as Struct>⟧.parts
+        (λ m. (record { data_type = m.0; data_value = m.1.0 }, refl {a = m})) };
+
+    ghost exact = { Prim.assumption };
 }

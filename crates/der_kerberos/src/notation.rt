@@ -14,62 +14,63 @@ use crate::{
     PaEncTimestamp, PaEncTsEnc, PrincipalName, Realm, TgsRep, TgsReq, Ticket, TicketFlags,
     TransitedEncoding, TypedData, UInt32,
 };
-use der_types::Notated;
+use der_types::Exact;
 
-/// Each type has the notation that its module gives it. `specs/Notation.antt` has that notation as a term, below its text.
+/// Each type has exactly the values of the notation that its module gives it. `specs/Notation.antt` has that notation as a term, below
+/// its text.
 pub fn types()
-    ensures ad_and_or { ⟦<AdAndOr as Notated>⟧.notation ≡ notation.AdAndOr }
-    ensures ad_if_relevant { ⟦<AdIfRelevant as Notated>⟧.notation ≡ notation.AdIfRelevant }
-    ensures ad_kdc_issued { ⟦<AdKdcIssued as Notated>⟧.notation ≡ notation.AdKdcIssued }
-    ensures ad_mandatory_for_kdc { ⟦<AdMandatoryForKdc as Notated>⟧.notation ≡ notation.AdMandatoryForKdc }
-    ensures ap_options { ⟦<ApOptions as Notated>⟧.notation ≡ notation.ApOptions }
-    ensures ap_rep { ⟦<ApRep as Notated>⟧.notation ≡ notation.ApRep }
-    ensures ap_req { ⟦<ApReq as Notated>⟧.notation ≡ notation.ApReq }
-    ensures as_rep { ⟦<AsRep as Notated>⟧.notation ≡ notation.AsRep }
-    ensures as_req { ⟦<AsReq as Notated>⟧.notation ≡ notation.AsReq }
-    ensures authenticator { ⟦<Authenticator as Notated>⟧.notation ≡ notation.Authenticator }
-    ensures authorization_data { ⟦<AuthorizationData as Notated>⟧.notation ≡ notation.AuthorizationData }
-    ensures checksum { ⟦<Checksum as Notated>⟧.notation ≡ notation.Checksum }
-    ensures enc_ap_rep_part { ⟦<EncApRepPart as Notated>⟧.notation ≡ notation.EncApRepPart }
-    ensures enc_as_rep_part { ⟦<EncAsRepPart as Notated>⟧.notation ≡ notation.EncAsRepPart }
-    ensures enc_kdc_rep_part { ⟦<EncKdcRepPart as Notated>⟧.notation ≡ notation.EncKdcRepPart }
-    ensures enc_krb_cred_part { ⟦<EncKrbCredPart as Notated>⟧.notation ≡ notation.EncKrbCredPart }
-    ensures enc_krb_priv_part { ⟦<EncKrbPrivPart as Notated>⟧.notation ≡ notation.EncKrbPrivPart }
-    ensures enc_tgs_rep_part { ⟦<EncTgsRepPart as Notated>⟧.notation ≡ notation.EncTgsRepPart }
-    ensures enc_ticket_part { ⟦<EncTicketPart as Notated>⟧.notation ≡ notation.EncTicketPart }
-    ensures encrypted_data { ⟦<EncryptedData as Notated>⟧.notation ≡ notation.EncryptedData }
-    ensures encryption_key { ⟦<EncryptionKey as Notated>⟧.notation ≡ notation.EncryptionKey }
-    ensures etype_info { ⟦<EtypeInfo as Notated>⟧.notation ≡ notation.EtypeInfo }
-    ensures etype_info2 { ⟦<EtypeInfo2 as Notated>⟧.notation ≡ notation.EtypeInfo2 }
-    ensures etype_info2_entry { ⟦<EtypeInfo2Entry as Notated>⟧.notation ≡ notation.EtypeInfo2Entry }
-    ensures etype_info_entry { ⟦<EtypeInfoEntry as Notated>⟧.notation ≡ notation.EtypeInfoEntry }
-    ensures host_address { ⟦<HostAddress as Notated>⟧.notation ≡ notation.HostAddress }
-    ensures host_addresses { ⟦<HostAddresses as Notated>⟧.notation ≡ notation.HostAddresses }
-    ensures int32 { ⟦<Int32 as Notated>⟧.notation ≡ notation.Int32 }
-    ensures kdc_options { ⟦<KdcOptions as Notated>⟧.notation ≡ notation.KdcOptions }
-    ensures kdc_req_body { ⟦<KdcReqBody as Notated>⟧.notation ≡ notation.KdcReqBody }
-    ensures kerberos_flags { ⟦<KerberosFlags as Notated>⟧.notation ≡ notation.KerberosFlags }
-    ensures kerberos_string { ⟦<KerberosString as Notated>⟧.notation ≡ notation.KerberosString }
-    ensures kerberos_time { ⟦<KerberosTime as Notated>⟧.notation ≡ notation.KerberosTime }
-    ensures krb_cred { ⟦<KrbCred as Notated>⟧.notation ≡ notation.KrbCred }
-    ensures krb_cred_info { ⟦<KrbCredInfo as Notated>⟧.notation ≡ notation.KrbCredInfo }
-    ensures krb_error { ⟦<KrbError as Notated>⟧.notation ≡ notation.KrbError }
-    ensures krb_priv { ⟦<KrbPriv as Notated>⟧.notation ≡ notation.KrbPriv }
-    ensures krb_safe { ⟦<KrbSafe as Notated>⟧.notation ≡ notation.KrbSafe }
-    ensures krb_safe_body { ⟦<KrbSafeBody as Notated>⟧.notation ≡ notation.KrbSafeBody }
-    ensures last_req { ⟦<LastReq as Notated>⟧.notation ≡ notation.LastReq }
-    ensures method_data { ⟦<MethodData as Notated>⟧.notation ≡ notation.MethodData }
-    ensures microseconds { ⟦<Microseconds as Notated>⟧.notation ≡ notation.Microseconds }
-    ensures pa_data { ⟦<PaData as Notated>⟧.notation ≡ notation.PaData }
-    ensures pa_enc_timestamp { ⟦<PaEncTimestamp as Notated>⟧.notation ≡ notation.PaEncTimestamp }
-    ensures pa_enc_ts_enc { ⟦<PaEncTsEnc as Notated>⟧.notation ≡ notation.PaEncTsEnc }
-    ensures principal_name { ⟦<PrincipalName as Notated>⟧.notation ≡ notation.PrincipalName }
-    ensures realm { ⟦<Realm as Notated>⟧.notation ≡ notation.Realm }
-    ensures tgs_rep { ⟦<TgsRep as Notated>⟧.notation ≡ notation.TgsRep }
-    ensures tgs_req { ⟦<TgsReq as Notated>⟧.notation ≡ notation.TgsReq }
-    ensures ticket { ⟦<Ticket as Notated>⟧.notation ≡ notation.Ticket }
-    ensures ticket_flags { ⟦<TicketFlags as Notated>⟧.notation ≡ notation.TicketFlags }
-    ensures transited_encoding { ⟦<TransitedEncoding as Notated>⟧.notation ≡ notation.TransitedEncoding }
-    ensures typed_data { ⟦<TypedData as Notated>⟧.notation ≡ notation.TypedData }
-    ensures u_int32 { ⟦<UInt32 as Notated>⟧.notation ≡ notation.UInt32 }
+    ensures ad_and_or { ⟦<AdAndOr as Exact>⟧.values.notation ≡ notation.AdAndOr }
+    ensures ad_if_relevant { ⟦<AdIfRelevant as Exact>⟧.values.notation ≡ notation.AdIfRelevant }
+    ensures ad_kdc_issued { ⟦<AdKdcIssued as Exact>⟧.values.notation ≡ notation.AdKdcIssued }
+    ensures ad_mandatory_for_kdc { ⟦<AdMandatoryForKdc as Exact>⟧.values.notation ≡ notation.AdMandatoryForKdc }
+    ensures ap_options { ⟦<ApOptions as Exact>⟧.values.notation ≡ notation.ApOptions }
+    ensures ap_rep { ⟦<ApRep as Exact>⟧.values.notation ≡ notation.ApRep }
+    ensures ap_req { ⟦<ApReq as Exact>⟧.values.notation ≡ notation.ApReq }
+    ensures as_rep { ⟦<AsRep as Exact>⟧.values.notation ≡ notation.AsRep }
+    ensures as_req { ⟦<AsReq as Exact>⟧.values.notation ≡ notation.AsReq }
+    ensures authenticator { ⟦<Authenticator as Exact>⟧.values.notation ≡ notation.Authenticator }
+    ensures authorization_data { ⟦<AuthorizationData as Exact>⟧.values.notation ≡ notation.AuthorizationData }
+    ensures checksum { ⟦<Checksum as Exact>⟧.values.notation ≡ notation.Checksum }
+    ensures enc_ap_rep_part { ⟦<EncApRepPart as Exact>⟧.values.notation ≡ notation.EncApRepPart }
+    ensures enc_as_rep_part { ⟦<EncAsRepPart as Exact>⟧.values.notation ≡ notation.EncAsRepPart }
+    ensures enc_kdc_rep_part { ⟦<EncKdcRepPart as Exact>⟧.values.notation ≡ notation.EncKdcRepPart }
+    ensures enc_krb_cred_part { ⟦<EncKrbCredPart as Exact>⟧.values.notation ≡ notation.EncKrbCredPart }
+    ensures enc_krb_priv_part { ⟦<EncKrbPrivPart as Exact>⟧.values.notation ≡ notation.EncKrbPrivPart }
+    ensures enc_tgs_rep_part { ⟦<EncTgsRepPart as Exact>⟧.values.notation ≡ notation.EncTgsRepPart }
+    ensures enc_ticket_part { ⟦<EncTicketPart as Exact>⟧.values.notation ≡ notation.EncTicketPart }
+    ensures encrypted_data { ⟦<EncryptedData as Exact>⟧.values.notation ≡ notation.EncryptedData }
+    ensures encryption_key { ⟦<EncryptionKey as Exact>⟧.values.notation ≡ notation.EncryptionKey }
+    ensures etype_info { ⟦<EtypeInfo as Exact>⟧.values.notation ≡ notation.EtypeInfo }
+    ensures etype_info2 { ⟦<EtypeInfo2 as Exact>⟧.values.notation ≡ notation.EtypeInfo2 }
+    ensures etype_info2_entry { ⟦<EtypeInfo2Entry as Exact>⟧.values.notation ≡ notation.EtypeInfo2Entry }
+    ensures etype_info_entry { ⟦<EtypeInfoEntry as Exact>⟧.values.notation ≡ notation.EtypeInfoEntry }
+    ensures host_address { ⟦<HostAddress as Exact>⟧.values.notation ≡ notation.HostAddress }
+    ensures host_addresses { ⟦<HostAddresses as Exact>⟧.values.notation ≡ notation.HostAddresses }
+    ensures int32 { ⟦<Int32 as Exact>⟧.values.notation ≡ notation.Int32 }
+    ensures kdc_options { ⟦<KdcOptions as Exact>⟧.values.notation ≡ notation.KdcOptions }
+    ensures kdc_req_body { ⟦<KdcReqBody as Exact>⟧.values.notation ≡ notation.KdcReqBody }
+    ensures kerberos_flags { ⟦<KerberosFlags as Exact>⟧.values.notation ≡ notation.KerberosFlags }
+    ensures kerberos_string { ⟦<KerberosString as Exact>⟧.values.notation ≡ notation.KerberosString }
+    ensures kerberos_time { ⟦<KerberosTime as Exact>⟧.values.notation ≡ notation.KerberosTime }
+    ensures krb_cred { ⟦<KrbCred as Exact>⟧.values.notation ≡ notation.KrbCred }
+    ensures krb_cred_info { ⟦<KrbCredInfo as Exact>⟧.values.notation ≡ notation.KrbCredInfo }
+    ensures krb_error { ⟦<KrbError as Exact>⟧.values.notation ≡ notation.KrbError }
+    ensures krb_priv { ⟦<KrbPriv as Exact>⟧.values.notation ≡ notation.KrbPriv }
+    ensures krb_safe { ⟦<KrbSafe as Exact>⟧.values.notation ≡ notation.KrbSafe }
+    ensures krb_safe_body { ⟦<KrbSafeBody as Exact>⟧.values.notation ≡ notation.KrbSafeBody }
+    ensures last_req { ⟦<LastReq as Exact>⟧.values.notation ≡ notation.LastReq }
+    ensures method_data { ⟦<MethodData as Exact>⟧.values.notation ≡ notation.MethodData }
+    ensures microseconds { ⟦<Microseconds as Exact>⟧.values.notation ≡ notation.Microseconds }
+    ensures pa_data { ⟦<PaData as Exact>⟧.values.notation ≡ notation.PaData }
+    ensures pa_enc_timestamp { ⟦<PaEncTimestamp as Exact>⟧.values.notation ≡ notation.PaEncTimestamp }
+    ensures pa_enc_ts_enc { ⟦<PaEncTsEnc as Exact>⟧.values.notation ≡ notation.PaEncTsEnc }
+    ensures principal_name { ⟦<PrincipalName as Exact>⟧.values.notation ≡ notation.PrincipalName }
+    ensures realm { ⟦<Realm as Exact>⟧.values.notation ≡ notation.Realm }
+    ensures tgs_rep { ⟦<TgsRep as Exact>⟧.values.notation ≡ notation.TgsRep }
+    ensures tgs_req { ⟦<TgsReq as Exact>⟧.values.notation ≡ notation.TgsReq }
+    ensures ticket { ⟦<Ticket as Exact>⟧.values.notation ≡ notation.Ticket }
+    ensures ticket_flags { ⟦<TicketFlags as Exact>⟧.values.notation ≡ notation.TicketFlags }
+    ensures transited_encoding { ⟦<TransitedEncoding as Exact>⟧.values.notation ≡ notation.TransitedEncoding }
+    ensures typed_data { ⟦<TypedData as Exact>⟧.values.notation ≡ notation.TypedData }
+    ensures u_int32 { ⟦<UInt32 as Exact>⟧.values.notation ≡ notation.UInt32 }
 {}

@@ -4,9 +4,10 @@
 ghost use Rattle.std.specs.Prelude.{refl};
 ghost use Rattle.picky_der_de.specs.MembersFacts.{sequence_of, sequence_shape, struct_facts};
 ghost use Rattle.der_types.specs.Notation.{Notation};
+ghost use Rattle.der_types.specs.ExactMembers.{struct_values};
 
 use crate::{EncryptedData, Int32, KerberosString, KerberosTime, Microseconds};
-use der_types::{Notated, NotatedMembers, WithSize};
+use der_types::{Exact, ExactMembers, Notated, NotatedMembers, WithSize};
 use picky_asn1_der::asn1::{
     ByteBuf, ExplicitContextTag0, ExplicitContextTag1, ExplicitContextTag2, Tag,
 };
@@ -86,6 +87,14 @@ impl Notated for PaEncTsEnc {
     ghost denoted = { refl };
 }
 
+impl Exact for PaEncTsEnc {
+    ghost values = { struct_values ⟦<PaEncTsEncParts as ExactMembers>⟧.all_values ⟦<PaEncTsEncParts as NotatedMembers>⟧.members_notation
+        ⟦<PaEncTsEncParts as SerializeMembers>⟧.members ⟦<Self as Struct>⟧.parts
+        (λ m. (record { patimestamp = m.0; pausec = m.1.0 }, refl {a = m})) };
+
+    ghost exact = { Prim.assumption };
+}
+
 /// `ETYPE-INFO-ENTRY` of KerberosV5Spec2, as a SEQUENCE.
 #[derive(Debug, Drop, PartialEq, Eq)]
 pub struct EtypeInfoEntry {
@@ -146,6 +155,14 @@ impl Notated for EtypeInfoEntry {
     ghost notation = { Notation.sequence ⟦<EtypeInfoEntryParts as NotatedMembers>⟧.members_notation };
 
     ghost denoted = { refl };
+}
+
+impl Exact for EtypeInfoEntry {
+    ghost values = { struct_values ⟦<EtypeInfoEntryParts as ExactMembers>⟧.all_values ⟦<EtypeInfoEntryParts as NotatedMembers>⟧.members_notation
+        ⟦<EtypeInfoEntryParts as SerializeMembers>⟧.members ⟦<Self as Struct>⟧.parts
+        (λ m. (record { etype = m.0; salt = m.1.0 }, refl {a = m})) };
+
+    ghost exact = { Prim.assumption };
 }
 
 /// `ETYPE-INFO` of KerberosV5Spec2: `SEQUENCE OF ETYPE-INFO-ENTRY`.
@@ -226,6 +243,14 @@ impl Notated for EtypeInfo2Entry {
     ghost notation = { Notation.sequence ⟦<EtypeInfo2EntryParts as NotatedMembers>⟧.members_notation };
 
     ghost denoted = { refl };
+}
+
+impl Exact for EtypeInfo2Entry {
+    ghost values = { struct_values ⟦<EtypeInfo2EntryParts as ExactMembers>⟧.all_values ⟦<EtypeInfo2EntryParts as NotatedMembers>⟧.members_notation
+        ⟦<EtypeInfo2EntryParts as SerializeMembers>⟧.members ⟦<Self as Struct>⟧.parts
+        (λ m. (record { etype = m.0; salt = m.1.0; s2kparams = m.2.0 }, refl {a = m})) };
+
+    ghost exact = { Prim.assumption };
 }
 
 /// `ETYPE-INFO2` of KerberosV5Spec2: `SEQUENCE SIZE (1..MAX) OF ETYPE-INFO2-ENTRY`.

@@ -4,12 +4,13 @@
 ghost use Rattle.std.specs.Prelude.{refl};
 ghost use Rattle.picky_der_de.specs.MembersFacts.{sequence_of, sequence_shape, struct_facts};
 ghost use Rattle.der_types.specs.Notation.{Notation};
+ghost use Rattle.der_types.specs.ExactMembers.{struct_values};
 
 use crate::{
     EncryptedData, EncryptionKey, HostAddresses, Int32, KerberosTime, PaData, PrincipalName, Realm,
     Ticket, TicketFlags, UInt32,
 };
-use der_types::{InRange, Notated, NotatedMembers};
+use der_types::{Exact, ExactMembers, InRange, Notated, NotatedMembers};
 use picky_asn1_der::application_tag::ApplicationTag;
 use picky_asn1_der::asn1::{
     ExplicitContextTag0, ExplicitContextTag1, ExplicitContextTag2, ExplicitContextTag3,
@@ -138,6 +139,25 @@ impl Notated for AsRepMembers {
     ghost denoted = { refl };
 }
 
+impl Exact for AsRepMembers {
+    ghost values = { struct_values ⟦<AsRepMembersParts as ExactMembers>⟧.all_values ⟦<AsRepMembersParts as NotatedMembers>⟧.members_notation
+        ⟦<AsRepMembersParts as SerializeMembers>⟧.members ⟦<Self as Struct>⟧.parts
+        (λ m. (
+          record {
+            pvno = m.0;
+            msg_type = m.1;
+            padata = m.2.0;
+            crealm = m.3;
+            cname = m.4;
+            ticket = m.5;
+            enc_part = m.6;
+          },
+          refl {a = m},
+        )) };
+
+    ghost exact = { Prim.assumption };
+}
+
 /// `TGS-REP` of KerberosV5Spec2: `[APPLICATION 13] SEQUENCE { pvno [0] INTEGER (5), msg-type [1]
 /// INTEGER (13), padata [2] SEQUENCE OF PA-DATA OPTIONAL, crealm [3] Realm, cname [4]
 /// PrincipalName, ticket [5] Ticket, enc-part [6] EncryptedData }`.
@@ -249,6 +269,25 @@ impl Notated for TgsRepMembers {
     ghost notation = { Notation.sequence ⟦<TgsRepMembersParts as NotatedMembers>⟧.members_notation };
 
     ghost denoted = { refl };
+}
+
+impl Exact for TgsRepMembers {
+    ghost values = { struct_values ⟦<TgsRepMembersParts as ExactMembers>⟧.all_values ⟦<TgsRepMembersParts as NotatedMembers>⟧.members_notation
+        ⟦<TgsRepMembersParts as SerializeMembers>⟧.members ⟦<Self as Struct>⟧.parts
+        (λ m. (
+          record {
+            pvno = m.0;
+            msg_type = m.1;
+            padata = m.2.0;
+            crealm = m.3;
+            cname = m.4;
+            ticket = m.5;
+            enc_part = m.6;
+          },
+          refl {a = m},
+        )) };
+
+    ghost exact = { Prim.assumption };
 }
 
 /// `EncASRepPart` of KerberosV5Spec2: `[APPLICATION 25] EncKDCRepPart`.
@@ -427,6 +466,31 @@ impl Notated for EncKdcRepPart {
     ghost denoted = { refl };
 }
 
+impl Exact for EncKdcRepPart {
+    ghost values = { struct_values ⟦<EncKdcRepPartParts as ExactMembers>⟧.all_values ⟦<EncKdcRepPartParts as NotatedMembers>⟧.members_notation
+        ⟦<EncKdcRepPartParts as SerializeMembers>⟧.members ⟦<Self as Struct>⟧.parts
+        (λ m. (
+          record {
+            key = m.0;
+            last_req = m.1;
+            nonce = m.2;
+            key_expiration = m.3.0;
+            flags = m.4;
+            authtime = m.5;
+            starttime = m.6.0;
+            endtime = m.7;
+            renew_till = m.8.0.0;
+            srealm = m.8.1;
+            sname = m.8.2;
+            caddr = m.8.3.0;
+            encrypted_pa_data = m.8.4.0;
+          },
+          refl {a = m},
+        )) };
+
+    ghost exact = { Prim.assumption };
+}
+
 /// `LastReq` of KerberosV5Spec2: `SEQUENCE OF SEQUENCE { lr-type [0] Int32, lr-value [1]
 /// KerberosTime }`.
 pub type LastReq = Vec<LastReqItem>;
@@ -491,4 +555,12 @@ impl Notated for LastReqItem {
     ghost notation = { Notation.sequence ⟦<LastReqItemParts as NotatedMembers>⟧.members_notation };
 
     ghost denoted = { refl };
+}
+
+impl Exact for LastReqItem {
+    ghost values = { struct_values ⟦<LastReqItemParts as ExactMembers>⟧.all_values ⟦<LastReqItemParts as NotatedMembers>⟧.members_notation
+        ⟦<LastReqItemParts as SerializeMembers>⟧.members ⟦<Self as Struct>⟧.parts
+        (λ m. (record { lr_type = m.0; lr_value = m.1 }, refl {a = m})) };
+
+    ghost exact = { Prim.assumption };
 }

@@ -4,12 +4,13 @@
 ghost use Rattle.std.specs.Prelude.{refl};
 ghost use Rattle.picky_der_de.specs.MembersFacts.{sequence_of, sequence_shape, struct_facts};
 ghost use Rattle.der_types.specs.Notation.{Notation};
+ghost use Rattle.der_types.specs.ExactMembers.{struct_values};
 
 use crate::{
     EncryptedData, HostAddresses, Int32, KerberosFlags, KerberosTime, PaData, PrincipalName, Realm,
     Ticket, UInt32,
 };
-use der_types::{InRange, Notated, NotatedMembers};
+use der_types::{Exact, ExactMembers, InRange, Notated, NotatedMembers};
 use picky_asn1_der::application_tag::ApplicationTag;
 use picky_asn1_der::asn1::{
     ExplicitContextTag0, ExplicitContextTag1, ExplicitContextTag2, ExplicitContextTag3,
@@ -116,6 +117,14 @@ impl Notated for AsReqMembers {
     ghost denoted = { refl };
 }
 
+impl Exact for AsReqMembers {
+    ghost values = { struct_values ⟦<AsReqMembersParts as ExactMembers>⟧.all_values ⟦<AsReqMembersParts as NotatedMembers>⟧.members_notation
+        ⟦<AsReqMembersParts as SerializeMembers>⟧.members ⟦<Self as Struct>⟧.parts
+        (λ m. (record { pvno = m.0; msg_type = m.1; padata = m.2.0; req_body = m.3 }, refl {a = m})) };
+
+    ghost exact = { Prim.assumption };
+}
+
 /// `TGS-REQ` of KerberosV5Spec2: `[APPLICATION 12] SEQUENCE { pvno [1] INTEGER (5), msg-type [2]
 /// INTEGER (12), padata [3] SEQUENCE OF PA-DATA OPTIONAL, req-body [4] KDC-REQ-BODY }`.
 ///
@@ -202,6 +211,14 @@ impl Notated for TgsReqMembers {
     ghost notation = { Notation.sequence ⟦<TgsReqMembersParts as NotatedMembers>⟧.members_notation };
 
     ghost denoted = { refl };
+}
+
+impl Exact for TgsReqMembers {
+    ghost values = { struct_values ⟦<TgsReqMembersParts as ExactMembers>⟧.all_values ⟦<TgsReqMembersParts as NotatedMembers>⟧.members_notation
+        ⟦<TgsReqMembersParts as SerializeMembers>⟧.members ⟦<Self as Struct>⟧.parts
+        (λ m. (record { pvno = m.0; msg_type = m.1; padata = m.2.0; req_body = m.3 }, refl {a = m})) };
+
+    ghost exact = { Prim.assumption };
 }
 
 /// `KDC-REQ-BODY` of KerberosV5Spec2, as a SEQUENCE.
@@ -361,6 +378,30 @@ impl Notated for KdcReqBody {
     ghost notation = { Notation.sequence ⟦<KdcReqBodyParts as NotatedMembers>⟧.members_notation };
 
     ghost denoted = { refl };
+}
+
+impl Exact for KdcReqBody {
+    ghost values = { struct_values ⟦<KdcReqBodyParts as ExactMembers>⟧.all_values ⟦<KdcReqBodyParts as NotatedMembers>⟧.members_notation
+        ⟦<KdcReqBodyParts as SerializeMembers>⟧.members ⟦<Self as Struct>⟧.parts
+        (λ m. (
+          record {
+            kdc_options = m.0;
+            cname = m.1.0;
+            realm = m.2;
+            sname = m.3.0;
+            from = m.4.0;
+            till = m.5;
+            rtime = m.6.0;
+            nonce = m.7;
+            etype = m.8.0;
+            addresses = m.8.1.0;
+            enc_authorization_data = m.8.2.0;
+            additional_tickets = m.8.3.0;
+          },
+          refl {a = m},
+        )) };
+
+    ghost exact = { Prim.assumption };
 }
 
 /// Bits from 0: reserved, forwardable, forwarded, proxiable, proxy, allow-postdate, postdated,

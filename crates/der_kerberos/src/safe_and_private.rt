@@ -4,9 +4,10 @@
 ghost use Rattle.std.specs.Prelude.{refl};
 ghost use Rattle.picky_der_de.specs.MembersFacts.{sequence_of, sequence_shape, struct_facts};
 ghost use Rattle.der_types.specs.Notation.{Notation};
+ghost use Rattle.der_types.specs.ExactMembers.{struct_values};
 
 use crate::{Checksum, EncryptedData, HostAddress, KerberosTime, Microseconds, UInt32};
-use der_types::{InRange, Notated, NotatedMembers};
+use der_types::{Exact, ExactMembers, InRange, Notated, NotatedMembers};
 use picky_asn1_der::application_tag::ApplicationTag;
 use picky_asn1_der::asn1::{
     ByteBuf, ExplicitContextTag0, ExplicitContextTag1, ExplicitContextTag2, ExplicitContextTag3,
@@ -97,6 +98,14 @@ impl Notated for KrbSafeMembers {
     ghost notation = { Notation.sequence ⟦<KrbSafeMembersParts as NotatedMembers>⟧.members_notation };
 
     ghost denoted = { refl };
+}
+
+impl Exact for KrbSafeMembers {
+    ghost values = { struct_values ⟦<KrbSafeMembersParts as ExactMembers>⟧.all_values ⟦<KrbSafeMembersParts as NotatedMembers>⟧.members_notation
+        ⟦<KrbSafeMembersParts as SerializeMembers>⟧.members ⟦<Self as Struct>⟧.parts
+        (λ m. (record { pvno = m.0; msg_type = m.1; safe_body = m.2; cksum = m.3 }, refl {a = m})) };
+
+    ghost exact = { Prim.assumption };
 }
 
 /// `KRB-SAFE-BODY` of KerberosV5Spec2, as a SEQUENCE.
@@ -205,6 +214,24 @@ impl Notated for KrbSafeBody {
     ghost denoted = { refl };
 }
 
+impl Exact for KrbSafeBody {
+    ghost values = { struct_values ⟦<KrbSafeBodyParts as ExactMembers>⟧.all_values ⟦<KrbSafeBodyParts as NotatedMembers>⟧.members_notation
+        ⟦<KrbSafeBodyParts as SerializeMembers>⟧.members ⟦<Self as Struct>⟧.parts
+        (λ m. (
+          record {
+            user_data = m.0;
+            timestamp = m.1.0;
+            usec = m.2.0;
+            seq_number = m.3.0;
+            s_address = m.4;
+            r_address = m.5.0;
+          },
+          refl {a = m},
+        )) };
+
+    ghost exact = { Prim.assumption };
+}
+
 /// `KRB-PRIV` of KerberosV5Spec2: `[APPLICATION 21] SEQUENCE { pvno [0] INTEGER (5), msg-type [1]
 /// INTEGER (21), enc-part [3] EncryptedData }`.
 pub type KrbPriv = ApplicationTag<KrbPrivMembers, 21>;
@@ -276,6 +303,14 @@ impl Notated for KrbPrivMembers {
     ghost notation = { Notation.sequence ⟦<KrbPrivMembersParts as NotatedMembers>⟧.members_notation };
 
     ghost denoted = { refl };
+}
+
+impl Exact for KrbPrivMembers {
+    ghost values = { struct_values ⟦<KrbPrivMembersParts as ExactMembers>⟧.all_values ⟦<KrbPrivMembersParts as NotatedMembers>⟧.members_notation
+        ⟦<KrbPrivMembersParts as SerializeMembers>⟧.members ⟦<Self as Struct>⟧.parts
+        (λ m. (record { pvno = m.0; msg_type = m.1; enc_part = m.2 }, refl {a = m})) };
+
+    ghost exact = { Prim.assumption };
 }
 
 /// `EncKrbPrivPart` of KerberosV5Spec2: `[APPLICATION 28] SEQUENCE { user-data [0] OCTET STRING,
@@ -389,4 +424,22 @@ impl Notated for EncKrbPrivPartMembers {
     ghost notation = { Notation.sequence ⟦<EncKrbPrivPartMembersParts as NotatedMembers>⟧.members_notation };
 
     ghost denoted = { refl };
+}
+
+impl Exact for EncKrbPrivPartMembers {
+    ghost values = { struct_values ⟦<EncKrbPrivPartMembersParts as ExactMembers>⟧.all_values ⟦<EncKrbPrivPartMembersParts as NotatedMembers>⟧.members_notation
+        ⟦<EncKrbPrivPartMembersParts as SerializeMembers>⟧.members ⟦<Self as Struct>⟧.parts
+        (λ m. (
+          record {
+            user_data = m.0;
+            timestamp = m.1.0;
+            usec = m.2.0;
+            seq_number = m.3.0;
+            s_address = m.4;
+            r_address = m.5.0;
+          },
+          refl {a = m},
+        )) };
+
+    ghost exact = { Prim.assumption };
 }

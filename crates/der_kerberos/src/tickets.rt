@@ -4,12 +4,13 @@
 ghost use Rattle.std.specs.Prelude.{refl};
 ghost use Rattle.picky_der_de.specs.MembersFacts.{sequence_of, sequence_shape, struct_facts};
 ghost use Rattle.der_types.specs.Notation.{Notation};
+ghost use Rattle.der_types.specs.ExactMembers.{struct_values};
 
 use crate::{
     AuthorizationData, EncryptedData, EncryptionKey, HostAddresses, Int32, KerberosFlags,
     KerberosTime, PrincipalName, Realm,
 };
-use der_types::{InRange, Notated, NotatedMembers};
+use der_types::{Exact, ExactMembers, InRange, Notated, NotatedMembers};
 use picky_asn1_der::application_tag::ApplicationTag;
 use picky_asn1_der::asn1::{
     ByteBuf, ExplicitContextTag0, ExplicitContextTag1, ExplicitContextTag2, ExplicitContextTag3,
@@ -103,6 +104,14 @@ impl Notated for TicketMembers {
     ghost notation = { Notation.sequence ⟦<TicketMembersParts as NotatedMembers>⟧.members_notation };
 
     ghost denoted = { refl };
+}
+
+impl Exact for TicketMembers {
+    ghost values = { struct_values ⟦<TicketMembersParts as ExactMembers>⟧.all_values ⟦<TicketMembersParts as NotatedMembers>⟧.members_notation
+        ⟦<TicketMembersParts as SerializeMembers>⟧.members ⟦<Self as Struct>⟧.parts
+        (λ m. (record { tkt_vno = m.0; realm = m.1; sname = m.2; enc_part = m.3 }, refl {a = m})) };
+
+    ghost exact = { Prim.assumption };
 }
 
 /// `EncTicketPart` of KerberosV5Spec2: `[APPLICATION 3] SEQUENCE { flags [0] TicketFlags, key [1]
@@ -247,6 +256,29 @@ impl Notated for EncTicketPartMembers {
     ghost denoted = { refl };
 }
 
+impl Exact for EncTicketPartMembers {
+    ghost values = { struct_values ⟦<EncTicketPartMembersParts as ExactMembers>⟧.all_values ⟦<EncTicketPartMembersParts as NotatedMembers>⟧.members_notation
+        ⟦<EncTicketPartMembersParts as SerializeMembers>⟧.members ⟦<Self as Struct>⟧.parts
+        (λ m. (
+          record {
+            flags = m.0;
+            key = m.1;
+            crealm = m.2;
+            cname = m.3;
+            transited = m.4;
+            authtime = m.5;
+            starttime = m.6.0;
+            endtime = m.7;
+            renew_till = m.8.0.0;
+            caddr = m.8.1.0;
+            authorization_data = m.8.2.0;
+          },
+          refl {a = m},
+        )) };
+
+    ghost exact = { Prim.assumption };
+}
+
 /// `TransitedEncoding` of KerberosV5Spec2, as a SEQUENCE.
 #[derive(Debug, Drop, PartialEq, Eq)]
 pub struct TransitedEncoding {
@@ -303,6 +335,14 @@ impl Notated for TransitedEncoding {
     ghost notation = { Notation.sequence ⟦<TransitedEncodingParts as NotatedMembers>⟧.members_notation };
 
     ghost denoted = { refl };
+}
+
+impl Exact for TransitedEncoding {
+    ghost values = { struct_values ⟦<TransitedEncodingParts as ExactMembers>⟧.all_values ⟦<TransitedEncodingParts as NotatedMembers>⟧.members_notation
+        ⟦<TransitedEncodingParts as SerializeMembers>⟧.members ⟦<Self as Struct>⟧.parts
+        (λ m. (record { tr_type = m.0; contents = m.1 }, refl {a = m})) };
+
+    ghost exact = { Prim.assumption };
 }
 
 /// Bits from 0: reserved, forwardable, forwarded, proxiable, proxy, may-postdate, postdated,

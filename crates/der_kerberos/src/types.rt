@@ -4,9 +4,11 @@
 ghost use Rattle.std.specs.Prelude.{refl};
 ghost use Rattle.picky_der_de.specs.MembersFacts.{sequence_of, sequence_shape, struct_facts};
 ghost use Rattle.der_types.specs.Notation.{Notation};
+ghost use Rattle.der_types.specs.ExactMembers.{struct_values};
 
 use der_types::{
-    BitString, GeneralString, GeneralizedTime, InRange, Notated, NotatedMembers, WithSize,
+    BitString, Exact, ExactMembers, GeneralString, GeneralizedTime, InRange, Notated,
+    NotatedMembers, WithSize,
 };
 use picky_asn1_der::asn1::{
     ByteBuf, ExplicitContextTag0, ExplicitContextTag1, ExplicitContextTag2, ExplicitContextTag3,
@@ -106,6 +108,14 @@ impl Notated for PrincipalName {
     ghost denoted = { refl };
 }
 
+impl Exact for PrincipalName {
+    ghost values = { struct_values ⟦<PrincipalNameParts as ExactMembers>⟧.all_values ⟦<PrincipalNameParts as NotatedMembers>⟧.members_notation
+        ⟦<PrincipalNameParts as SerializeMembers>⟧.members ⟦<Self as Struct>⟧.parts
+        (λ m. (record { name_type = m.0; name_string = m.1 }, refl {a = m})) };
+
+    ghost exact = { Prim.assumption };
+}
+
 /// `YYYYMMDDHHMMSSZ`, without a fraction of a second. `KerberosTime` of KerberosV5Spec2:
 /// `GeneralizedTime (SIZE (15))`.
 pub type KerberosTime = WithSize<GeneralizedTime, 15, 15>;
@@ -166,6 +176,14 @@ impl Notated for HostAddress {
     ghost notation = { Notation.sequence ⟦<HostAddressParts as NotatedMembers>⟧.members_notation };
 
     ghost denoted = { refl };
+}
+
+impl Exact for HostAddress {
+    ghost values = { struct_values ⟦<HostAddressParts as ExactMembers>⟧.all_values ⟦<HostAddressParts as NotatedMembers>⟧.members_notation
+        ⟦<HostAddressParts as SerializeMembers>⟧.members ⟦<Self as Struct>⟧.parts
+        (λ m. (record { addr_type = m.0; address = m.1 }, refl {a = m})) };
+
+    ghost exact = { Prim.assumption };
 }
 
 /// `HostAddresses` of KerberosV5Spec2: `SEQUENCE OF HostAddress`.
@@ -235,6 +253,14 @@ impl Notated for AuthorizationDataItem {
     ghost denoted = { refl };
 }
 
+impl Exact for AuthorizationDataItem {
+    ghost values = { struct_values ⟦<AuthorizationDataItemParts as ExactMembers>⟧.all_values ⟦<AuthorizationDataItemParts as NotatedMembers>⟧.members_notation
+        ⟦<AuthorizationDataItemParts as SerializeMembers>⟧.members ⟦<Self as Struct>⟧.parts
+        (λ m. (record { ad_type = m.0; ad_data = m.1 }, refl {a = m})) };
+
+    ghost exact = { Prim.assumption };
+}
+
 /// `PA-DATA` of KerberosV5Spec2, as a SEQUENCE.
 #[derive(Debug, Drop, PartialEq, Eq)]
 pub struct PaData {
@@ -294,6 +320,14 @@ impl Notated for PaData {
     ghost notation = { Notation.sequence ⟦<PaDataParts as NotatedMembers>⟧.members_notation };
 
     ghost denoted = { refl };
+}
+
+impl Exact for PaData {
+    ghost values = { struct_values ⟦<PaDataParts as ExactMembers>⟧.all_values ⟦<PaDataParts as NotatedMembers>⟧.members_notation
+        ⟦<PaDataParts as SerializeMembers>⟧.members ⟦<Self as Struct>⟧.parts
+        (λ m. (record { padata_type = m.0; padata_value = m.1 }, refl {a = m})) };
+
+    ghost exact = { Prim.assumption };
 }
 
 /// `KerberosFlags` of KerberosV5Spec2: `BIT STRING (SIZE (32..MAX))`.
@@ -368,6 +402,14 @@ impl Notated for EncryptedData {
     ghost denoted = { refl };
 }
 
+impl Exact for EncryptedData {
+    ghost values = { struct_values ⟦<EncryptedDataParts as ExactMembers>⟧.all_values ⟦<EncryptedDataParts as NotatedMembers>⟧.members_notation
+        ⟦<EncryptedDataParts as SerializeMembers>⟧.members ⟦<Self as Struct>⟧.parts
+        (λ m. (record { etype = m.0; kvno = m.1.0; cipher = m.2 }, refl {a = m})) };
+
+    ghost exact = { Prim.assumption };
+}
+
 /// `EncryptionKey` of KerberosV5Spec2, as a SEQUENCE.
 #[derive(Debug, Drop, PartialEq, Eq)]
 pub struct EncryptionKey {
@@ -424,6 +466,14 @@ impl Notated for EncryptionKey {
     ghost notation = { Notation.sequence ⟦<EncryptionKeyParts as NotatedMembers>⟧.members_notation };
 
     ghost denoted = { refl };
+}
+
+impl Exact for EncryptionKey {
+    ghost values = { struct_values ⟦<EncryptionKeyParts as ExactMembers>⟧.all_values ⟦<EncryptionKeyParts as NotatedMembers>⟧.members_notation
+        ⟦<EncryptionKeyParts as SerializeMembers>⟧.members ⟦<Self as Struct>⟧.parts
+        (λ m. (record { keytype = m.0; keyvalue = m.1 }, refl {a = m})) };
+
+    ghost exact = { Prim.assumption };
 }
 
 /// `Checksum` of KerberosV5Spec2, as a SEQUENCE.
@@ -485,6 +535,14 @@ impl Notated for Checksum {
     ghost notation = { Notation.sequence ⟦<ChecksumParts as NotatedMembers>⟧.members_notation };
 
     ghost denoted = { refl };
+}
+
+impl Exact for Checksum {
+    ghost values = { struct_values ⟦<ChecksumParts as ExactMembers>⟧.all_values ⟦<ChecksumParts as NotatedMembers>⟧.members_notation
+        ⟦<ChecksumParts as SerializeMembers>⟧.members ⟦<Self as Struct>⟧.parts
+        (λ m. (record { cksumtype = m.0; checksum = m.1 }, refl {a = m})) };
+
+    ghost exact = { Prim.assumption };
 }
 
 /// `AD-IF-RELEVANT` of KerberosV5Spec2: `AuthorizationData`.
@@ -572,6 +630,14 @@ impl Notated for AdKdcIssued {
     ghost denoted = { refl };
 }
 
+impl Exact for AdKdcIssued {
+    ghost values = { struct_values ⟦<AdKdcIssuedParts as ExactMembers>⟧.all_values ⟦<AdKdcIssuedParts as NotatedMembers>⟧.members_notation
+        ⟦<AdKdcIssuedParts as SerializeMembers>⟧.members ⟦<Self as Struct>⟧.parts
+        (λ m. (record { ad_checksum = m.0; i_realm = m.1.0; i_sname = m.2.0; elements = m.3 }, refl {a = m})) };
+
+    ghost exact = { Prim.assumption };
+}
+
 /// `AD-AND-OR` of KerberosV5Spec2, as a SEQUENCE.
 #[derive(Debug, Drop, PartialEq, Eq)]
 pub struct AdAndOr {
@@ -635,6 +701,14 @@ impl Notated for AdAndOr {
     ghost notation = { Notation.sequence ⟦<AdAndOrParts as NotatedMembers>⟧.members_notation };
 
     ghost denoted = { refl };
+}
+
+impl Exact for AdAndOr {
+    ghost values = { struct_values ⟦<AdAndOrParts as ExactMembers>⟧.all_values ⟦<AdAndOrParts as NotatedMembers>⟧.members_notation
+        ⟦<AdAndOrParts as SerializeMembers>⟧.members ⟦<Self as Struct>⟧.parts
+        (λ m. (record { condition_count = m.0; elements = m.1 }, refl {a = m})) };
+
+    ghost exact = { Prim.assumption };
 }
 
 /// `AD-MANDATORY-FOR-KDC` of KerberosV5Spec2: `AuthorizationData`.

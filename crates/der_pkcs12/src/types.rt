@@ -4,10 +4,13 @@
 ghost use Rattle.std.specs.Prelude.{refl};
 ghost use Rattle.picky_der_de.specs.MembersFacts.{sequence_of, sequence_shape, struct_facts};
 ghost use Rattle.der_types.specs.Notation.{Notation};
+ghost use Rattle.der_types.specs.ExactMembers.{struct_values};
 
 use der_cms::ContentInfo;
 use der_pkix::{EncryptedPrivateKeyInfo, PrivateKeyInfo};
-use der_types::{InRange, Integer, Notated, NotatedMembers, ObjectIdentifier, OtherThan};
+use der_types::{
+    Exact, ExactMembers, InRange, Integer, Notated, NotatedMembers, ObjectIdentifier, OtherThan,
+};
 use der_x509::AlgorithmIdentifier;
 use picky_asn1_der::asn1::{Asn1SetOf, ByteBuf, ExplicitContextTag0, Tag};
 use picky_asn1_der::de::Begins;
@@ -89,6 +92,14 @@ impl Notated for Pfx {
     ghost denoted = { refl };
 }
 
+impl Exact for Pfx {
+    ghost values = { struct_values ⟦<PfxParts as ExactMembers>⟧.all_values ⟦<PfxParts as NotatedMembers>⟧.members_notation
+        ⟦<PfxParts as SerializeMembers>⟧.members ⟦<Self as Struct>⟧.parts
+        (λ m. (record { version = m.0; auth_safe = m.1; mac_data = m.2.0 }, refl {a = m})) };
+
+    ghost exact = { Prim.assumption };
+}
+
 /// What authenticates the content by a password. `MacData` of PKCS-12, as a SEQUENCE.
 #[derive(Debug, Drop, PartialEq, Eq)]
 pub struct MacData {
@@ -155,6 +166,14 @@ impl Notated for MacData {
     ghost denoted = { refl };
 }
 
+impl Exact for MacData {
+    ghost values = { struct_values ⟦<MacDataParts as ExactMembers>⟧.all_values ⟦<MacDataParts as NotatedMembers>⟧.members_notation
+        ⟦<MacDataParts as SerializeMembers>⟧.members ⟦<Self as Struct>⟧.parts
+        (λ m. (record { mac = m.0; mac_salt = m.1; iterations = m.2.0 }, refl {a = m})) };
+
+    ghost exact = { Prim.assumption };
+}
+
 /// Defined in RFC 2315, 9.4. `DigestInfo` of PKCS-12, as a SEQUENCE.
 #[derive(Debug, Drop, PartialEq, Eq)]
 pub struct DigestInfo {
@@ -214,6 +233,14 @@ impl Notated for DigestInfo {
     ghost notation = { Notation.sequence ⟦<DigestInfoParts as NotatedMembers>⟧.members_notation };
 
     ghost denoted = { refl };
+}
+
+impl Exact for DigestInfo {
+    ghost values = { struct_values ⟦<DigestInfoParts as ExactMembers>⟧.all_values ⟦<DigestInfoParts as NotatedMembers>⟧.members_notation
+        ⟦<DigestInfoParts as SerializeMembers>⟧.members ⟦<Self as Struct>⟧.parts
+        (λ m. (record { digest_algorithm = m.0; digest = m.1 }, refl {a = m})) };
+
+    ghost exact = { Prim.assumption };
 }
 
 /// Messages of the kinds id-data, id-encryptedData and id-envelopedData, whose contents are
@@ -298,6 +325,14 @@ impl Notated for SafeBag {
     ghost denoted = { refl };
 }
 
+impl Exact for SafeBag {
+    ghost values = { struct_values ⟦<SafeBagParts as ExactMembers>⟧.all_values ⟦<SafeBagParts as NotatedMembers>⟧.members_notation
+        ⟦<SafeBagParts as SerializeMembers>⟧.members ⟦<Self as Struct>⟧.parts
+        (λ m. (record { bag_id = m.0; bag_value = m.1; bag_attributes = m.2.0 }, refl {a = m})) };
+
+    ghost exact = { Prim.assumption };
+}
+
 /// `PKCS12Attribute` of PKCS-12, as a SEQUENCE.
 #[derive(Debug, Drop, PartialEq, Eq)]
 pub struct Pkcs12Attribute {
@@ -357,6 +392,14 @@ impl Notated for Pkcs12Attribute {
     ghost notation = { Notation.sequence ⟦<Pkcs12AttributeParts as NotatedMembers>⟧.members_notation };
 
     ghost denoted = { refl };
+}
+
+impl Exact for Pkcs12Attribute {
+    ghost values = { struct_values ⟦<Pkcs12AttributeParts as ExactMembers>⟧.all_values ⟦<Pkcs12AttributeParts as NotatedMembers>⟧.members_notation
+        ⟦<Pkcs12AttributeParts as SerializeMembers>⟧.members ⟦<Self as Struct>⟧.parts
+        (λ m. (record { attr_id = m.0; attr_values = m.1 }, refl {a = m})) };
+
+    ghost exact = { Prim.assumption };
 }
 
 /// `KeyBag` of PKCS-12: `PrivateKeyInfo`.
@@ -426,6 +469,14 @@ impl Notated for CertBag {
     ghost denoted = { refl };
 }
 
+impl Exact for CertBag {
+    ghost values = { struct_values ⟦<CertBagParts as ExactMembers>⟧.all_values ⟦<CertBagParts as NotatedMembers>⟧.members_notation
+        ⟦<CertBagParts as SerializeMembers>⟧.members ⟦<Self as Struct>⟧.parts
+        (λ m. (record { cert_id = m.0; cert_value = m.1 }, refl {a = m})) };
+
+    ghost exact = { Prim.assumption };
+}
+
 /// `CRLBag` of PKCS-12, as a SEQUENCE.
 #[derive(Debug, Drop, PartialEq, Eq)]
 pub struct CrlBag {
@@ -482,6 +533,14 @@ impl Notated for CrlBag {
     ghost notation = { Notation.sequence ⟦<CrlBagParts as NotatedMembers>⟧.members_notation };
 
     ghost denoted = { refl };
+}
+
+impl Exact for CrlBag {
+    ghost values = { struct_values ⟦<CrlBagParts as ExactMembers>⟧.all_values ⟦<CrlBagParts as NotatedMembers>⟧.members_notation
+        ⟦<CrlBagParts as SerializeMembers>⟧.members ⟦<Self as Struct>⟧.parts
+        (λ m. (record { crl_id = m.0; crl_value = m.1 }, refl {a = m})) };
+
+    ghost exact = { Prim.assumption };
 }
 
 /// `SecretBag` of PKCS-12, as a SEQUENCE.
@@ -545,6 +604,14 @@ impl Notated for SecretBag {
     ghost denoted = { refl };
 }
 
+impl Exact for SecretBag {
+    ghost values = { struct_values ⟦<SecretBagParts as ExactMembers>⟧.all_values ⟦<SecretBagParts as NotatedMembers>⟧.members_notation
+        ⟦<SecretBagParts as SerializeMembers>⟧.members ⟦<Self as Struct>⟧.parts
+        (λ m. (record { secret_type_id = m.0; secret_value = m.1 }, refl {a = m})) };
+
+    ghost exact = { Prim.assumption };
+}
+
 /// RFC 7292 writes this name with a small letter. `PKCS-12PbeParams` of PKCS-12, as a SEQUENCE.
 #[derive(Debug, Drop, PartialEq, Eq)]
 pub struct Pkcs12PbeParams {
@@ -601,4 +668,12 @@ impl Notated for Pkcs12PbeParams {
     ghost notation = { Notation.sequence ⟦<Pkcs12PbeParamsParts as NotatedMembers>⟧.members_notation };
 
     ghost denoted = { refl };
+}
+
+impl Exact for Pkcs12PbeParams {
+    ghost values = { struct_values ⟦<Pkcs12PbeParamsParts as ExactMembers>⟧.all_values ⟦<Pkcs12PbeParamsParts as NotatedMembers>⟧.members_notation
+        ⟦<Pkcs12PbeParamsParts as SerializeMembers>⟧.members ⟦<Self as Struct>⟧.parts
+        (λ m. (record { salt = m.0; iterations = m.1 }, refl {a = m})) };
+
+    ghost exact = { Prim.assumption };
 }

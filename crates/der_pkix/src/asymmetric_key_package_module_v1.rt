@@ -3,13 +3,20 @@
 //! Types of AsymmetricKeyPackageModuleV1.
 ghost use Rattle.std.proofs.Common.{lit≤};
 ghost use Rattle.std.specs.Prelude.{[], refl, ◌∷◌, ◌≡◌};
+ghost use Rattle.picky_der_core.specs.Equality.{IsKept};
 ghost use Rattle.picky_der_de.specs.MembersFacts.{sequence_of, sequence_shape, struct_facts};
 ghost use Rattle.der_types.specs.ContentsFacts.{contents_facts, contents_of, contents_shape};
 ghost use Rattle.der_types.specs.Notation.{Notation};
+ghost use Rattle.der_types.specs.ExactContents.{own_contents};
+ghost use Rattle.der_types.specs.ExactEnumerated.{named_values};
+ghost use Rattle.der_types.specs.ExactMembers.{struct_values};
 ghost use Rattle.der_pkix.specs.Enumerations.{is_key_version, key_version_number, same_key_version};
 
 use crate::Attribute;
-use der_types::{BitString, Contents, Notated, NotatedMembers, WithSize, deserialize_contents_as};
+use der_types::{
+    BitString, Contents, Exact, ExactContents, ExactMembers, Notated, NotatedMembers, WithSize,
+    deserialize_contents_as,
+};
 use der_x509::AlgorithmIdentifier;
 use picky_asn1_der::asn1::{Asn1SetOf, ByteBuf, ImplicitContextTag1, ImplicitList0, Tag};
 use picky_asn1_der::de::Begins;
@@ -124,6 +131,23 @@ impl Notated for OneAsymmetricKey {
     ghost denoted = { refl };
 }
 
+impl Exact for OneAsymmetricKey {
+    ghost values = { struct_values ⟦<OneAsymmetricKeyParts as ExactMembers>⟧.all_values ⟦<OneAsymmetricKeyParts as NotatedMembers>⟧.members_notation
+        ⟦<OneAsymmetricKeyParts as SerializeMembers>⟧.members ⟦<Self as Struct>⟧.parts
+        (λ m. (
+          record {
+            version = m.0;
+            private_key_algorithm = m.1;
+            private_key = m.2;
+            attributes = m.3.0;
+            public_key = m.4.0;
+          },
+          refl {a = m},
+        )) };
+
+    ghost exact = { Prim.assumption };
+}
+
 /// The name of RFC 5208, whose type had no public key. `PrivateKeyInfo` of
 /// AsymmetricKeyPackageModuleV1: `OneAsymmetricKey`.
 pub type PrivateKeyInfo = OneAsymmetricKey;
@@ -139,6 +163,11 @@ pub enum KeyVersion {
 }
 
 impl KeyVersion {
+    /// A copy is the same.
+    pub fn copies()
+        ensures { IsKept ⟦<KeyVersion as Clone>⟧.is_clone (λ it. it) }
+    {}
+
     // The number of the value.
     fn number(self) -> u8
         ensures { result ≡ key_version_number self }
@@ -228,6 +257,23 @@ impl Notated for KeyVersion {
     ghost denoted = { refl };
 }
 
+impl Exact for KeyVersion {
+    ghost use Rattle.der_pkix.specs.declared.asymmetric_key_package_module_v1.KeyVersion.TheVariants as variants;
+
+    ghost values = { named_values (variants.V1 ∷ variants.V2 ∷ []) key_version_number (elim [
+      | variants.V1 ↦ record { listed = refl; small = refl }
+      | variants.V2 ↦ record { listed = refl; small = refl }
+    ]) };
+
+    ghost exact = { Prim.assumption };
+}
+
+impl ExactContents for KeyVersion {
+    ghost own_contents = { own_contents 0x02 (λ it. key_version_number it ∷ []) (lit≤ tt) };
+
+    ghost exact_contents = { Prim.assumption };
+}
+
 /// `PrivateKeyAlgorithmIdentifier` of AsymmetricKeyPackageModuleV1: `AlgorithmIdentifier`.
 pub type PrivateKeyAlgorithmIdentifier = AlgorithmIdentifier;
 
@@ -302,4 +348,12 @@ impl Notated for EncryptedPrivateKeyInfo {
     ghost notation = { Notation.sequence ⟦<EncryptedPrivateKeyInfoParts as NotatedMembers>⟧.members_notation };
 
     ghost denoted = { refl };
+}
+
+impl Exact for EncryptedPrivateKeyInfo {
+    ghost values = { struct_values ⟦<EncryptedPrivateKeyInfoParts as ExactMembers>⟧.all_values ⟦<EncryptedPrivateKeyInfoParts as NotatedMembers>⟧.members_notation
+        ⟦<EncryptedPrivateKeyInfoParts as SerializeMembers>⟧.members ⟦<Self as Struct>⟧.parts
+        (λ m. (record { encryption_algorithm = m.0; encrypted_data = m.1 }, refl {a = m})) };
+
+    ghost exact = { Prim.assumption };
 }

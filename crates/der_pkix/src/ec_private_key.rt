@@ -4,8 +4,11 @@
 ghost use Rattle.std.specs.Prelude.{refl};
 ghost use Rattle.picky_der_de.specs.MembersFacts.{sequence_of, sequence_shape, struct_facts};
 ghost use Rattle.der_types.specs.Notation.{Notation};
+ghost use Rattle.der_types.specs.ExactMembers.{struct_values};
 
-use der_types::{BitString, InRange, Notated, NotatedMembers, ObjectIdentifier};
+use der_types::{
+    BitString, Exact, ExactMembers, InRange, Notated, NotatedMembers, ObjectIdentifier,
+};
 use picky_asn1_der::asn1::{ByteBuf, ExplicitContextTag0, ExplicitContextTag1, Tag};
 use picky_asn1_der::de::Begins;
 use picky_asn1_der::misc::{ReadExt, WriteExt};
@@ -99,6 +102,14 @@ impl Notated for EcPrivateKey {
     ghost notation = { Notation.sequence ⟦<EcPrivateKeyParts as NotatedMembers>⟧.members_notation };
 
     ghost denoted = { refl };
+}
+
+impl Exact for EcPrivateKey {
+    ghost values = { struct_values ⟦<EcPrivateKeyParts as ExactMembers>⟧.all_values ⟦<EcPrivateKeyParts as NotatedMembers>⟧.members_notation
+        ⟦<EcPrivateKeyParts as SerializeMembers>⟧.members ⟦<Self as Struct>⟧.parts
+        (λ m. (record { version = m.0; private_key = m.1; parameters = m.2.0; public_key = m.3.0 }, refl {a = m})) };
+
+    ghost exact = { Prim.assumption };
 }
 
 /// The name of the curve. RFC 5480 has a CHOICE with this alternative alone, whose encoding is the

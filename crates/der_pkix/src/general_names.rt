@@ -3,14 +3,17 @@
 //! Types of PKIX1Implicit88.
 ghost use Rattle.std.specs.Prelude.{refl};
 ghost use Rattle.picky_der_core.specs.Shape.{Shape};
-ghost use Rattle.picky_der_de.specs.declared.alternatives.OneOf.TheVariants.{This};
+ghost use Rattle.picky_der_de.specs.declared.alternatives.OneOf.TheVariants.{Other, This};
 ghost use Rattle.picky_der_de.specs.declared.choice4.Choice4.TheVariants.{First, Fourth, Later, Second, Third};
 ghost use Rattle.picky_der_de.specs.ChoiceFacts.{choice_facts};
 ghost use Rattle.picky_der_de.specs.MembersFacts.{sequence_of, sequence_shape, struct_facts};
 ghost use Rattle.der_types.specs.Notation.{Notation};
+ghost use Rattle.der_types.specs.ExactChoices.{choice_values};
+ghost use Rattle.der_types.specs.ExactMembers.{struct_values};
 
 use der_types::{
-    Ia5String, Notated, NotatedAlternatives, NotatedMembers, ObjectIdentifier, WithSize,
+    Exact, ExactAlternatives, ExactMembers, Ia5String, Notated, NotatedAlternatives,
+    NotatedMembers, ObjectIdentifier, WithSize,
 };
 use der_x509::Name;
 use picky_asn1_der::Choice4::{First, Fourth, Later, Second, Third};
@@ -155,6 +158,27 @@ impl Notated for GeneralName {
     ghost denoted = { refl };
 }
 
+impl Exact for GeneralName {
+    ghost use Rattle.der_pkix.specs.declared.general_names.GeneralName.TheVariants as variants;
+
+    ghost values = { choice_values ⟦<GeneralNameParts as ExactAlternatives>⟧.chosen_values
+        ⟦<GeneralNameParts as NotatedAlternatives>⟧.alternatives_notation ⟦<GeneralNameParts as Alternatives>⟧.chosen ⟦<Self as Choice>⟧.parts
+        (elim [
+          | First x ↦ (variants.OtherName x, refl)
+          | Second x ↦ (variants.Rfc822Name x, refl)
+          | Third x ↦ (variants.DnsName x, refl)
+          | Fourth x ↦ (variants.X400Address x, refl)
+          | Later (First x) ↦ (variants.DirectoryName x, refl)
+          | Later (Second x) ↦ (variants.EdiPartyName x, refl)
+          | Later (Third x) ↦ (variants.UniformResourceIdentifier x, refl)
+          | Later (Fourth x) ↦ (variants.IpAddress x, refl)
+          | Later (Later (This x)) ↦ (variants.RegisteredId x, refl)
+          | Later (Later (Other x)) ↦ elim x [ ]
+        ]) };
+
+    ghost exact = { Prim.assumption };
+}
+
 /// `AnotherName` of PKIX1Implicit88, as a SEQUENCE.
 #[derive(Debug, Drop, PartialEq, Eq)]
 pub struct AnotherName {
@@ -211,6 +235,14 @@ impl Notated for AnotherName {
     ghost notation = { Notation.sequence ⟦<AnotherNameParts as NotatedMembers>⟧.members_notation };
 
     ghost denoted = { refl };
+}
+
+impl Exact for AnotherName {
+    ghost values = { struct_values ⟦<AnotherNameParts as ExactMembers>⟧.all_values ⟦<AnotherNameParts as NotatedMembers>⟧.members_notation
+        ⟦<AnotherNameParts as SerializeMembers>⟧.members ⟦<Self as Struct>⟧.parts
+        (λ m. (record { type_id = m.0; value = m.1 }, refl {a = m})) };
+
+    ghost exact = { Prim.assumption };
 }
 
 /// An X.400 address and an EDI name, by their members. The module that defines these isn't here.

@@ -3,18 +3,23 @@
 //! Types of PKIXAttributeCertificate-2008.
 ghost use Rattle.std.proofs.Common.{lit≤};
 ghost use Rattle.std.specs.Prelude.{[], refl, ◌∷◌, ◌≡◌};
+ghost use Rattle.picky_der_core.specs.Equality.{IsKept};
 ghost use Rattle.picky_der_core.specs.Shape.{Shape};
 ghost use Rattle.picky_der_de.specs.declared.alternatives.OneOf.TheVariants.{Other, This};
 ghost use Rattle.picky_der_de.specs.ChoiceFacts.{choice_facts};
 ghost use Rattle.picky_der_de.specs.MembersFacts.{sequence_of, sequence_shape, struct_facts};
 ghost use Rattle.der_types.specs.ContentsFacts.{contents_facts, contents_of, contents_shape};
 ghost use Rattle.der_types.specs.Notation.{Notation};
+ghost use Rattle.der_types.specs.ExactChoices.{choice_values};
+ghost use Rattle.der_types.specs.ExactContents.{own_contents};
+ghost use Rattle.der_types.specs.ExactEnumerated.{enumerated_values};
+ghost use Rattle.der_types.specs.ExactMembers.{struct_values};
 ghost use Rattle.der_pkix.specs.Enumerations.{digested_object_type_number, is_digested_object_type, same_digested_object_type};
 
 use crate::GeneralNames;
 use der_types::{
-    BitString, Contents, Notated, NotatedAlternatives, NotatedMembers, ObjectIdentifier,
-    deserialize_contents_as,
+    BitString, Contents, Exact, ExactAlternatives, ExactContents, ExactMembers, Notated,
+    NotatedAlternatives, NotatedMembers, ObjectIdentifier, deserialize_contents_as,
 };
 use der_x509::{AlgorithmIdentifier, CertificateSerialNumber, UniqueIdentifier};
 use picky_asn1_der::OneOf::{Other, This};
@@ -113,6 +118,21 @@ impl Notated for Holder {
     ghost denoted = { refl };
 }
 
+impl Exact for Holder {
+    ghost values = { struct_values ⟦<HolderParts as ExactMembers>⟧.all_values ⟦<HolderParts as NotatedMembers>⟧.members_notation
+        ⟦<HolderParts as SerializeMembers>⟧.members ⟦<Self as Struct>⟧.parts
+        (λ m. (
+          record {
+            base_certificate_id = m.0.0;
+            entity_name = m.1.0;
+            object_digest_info = m.2.0;
+          },
+          refl {a = m},
+        )) };
+
+    ghost exact = { Prim.assumption };
+}
+
 /// `ObjectDigestInfo` of PKIXAttributeCertificate-2008, as a SEQUENCE.
 #[derive(Debug, Drop, PartialEq, Eq)]
 pub struct ObjectDigestInfo {
@@ -205,6 +225,22 @@ impl Notated for ObjectDigestInfo {
     ghost denoted = { refl };
 }
 
+impl Exact for ObjectDigestInfo {
+    ghost values = { struct_values ⟦<ObjectDigestInfoParts as ExactMembers>⟧.all_values ⟦<ObjectDigestInfoParts as NotatedMembers>⟧.members_notation
+        ⟦<ObjectDigestInfoParts as SerializeMembers>⟧.members ⟦<Self as Struct>⟧.parts
+        (λ m. (
+          record {
+            digested_object_type = m.0;
+            other_object_type_id = m.1.0;
+            digest_algorithm = m.2;
+            object_digest = m.3;
+          },
+          refl {a = m},
+        )) };
+
+    ghost exact = { Prim.assumption };
+}
+
 /// RFC 5755 gives this type no name. `DigestedObjectType` of PKIXAttributeCertificate-2008, as an
 /// ENUMERATED. Every other content is refused with `InvalidData`.
 #[derive(Debug, Clone, Copy, PartialEq, Eq)]
@@ -218,6 +254,11 @@ pub enum DigestedObjectType {
 }
 
 impl DigestedObjectType {
+    /// A copy is the same.
+    pub fn copies()
+        ensures { IsKept ⟦<DigestedObjectType as Clone>⟧.is_clone (λ it. it) }
+    {}
+
     // The number of the value.
     fn number(self) -> u8
         ensures { result ≡ digested_object_type_number self }
@@ -311,6 +352,28 @@ impl Notated for DigestedObjectType {
     ghost denoted = { refl };
 }
 
+impl Exact for DigestedObjectType {
+    ghost use Rattle.der_pkix.specs.declared.holders.DigestedObjectType.TheVariants as variants;
+
+    ghost values = { enumerated_values (
+        variants.PublicKey ∷
+        variants.PublicKeyCert ∷
+        variants.OtherObjectTypes ∷
+        []) digested_object_type_number (elim [
+          | variants.PublicKey ↦ record { listed = refl; small = refl }
+          | variants.PublicKeyCert ↦ record { listed = refl; small = refl }
+          | variants.OtherObjectTypes ↦ record { listed = refl; small = refl }
+        ]) };
+
+    ghost exact = { Prim.assumption };
+}
+
+impl ExactContents for DigestedObjectType {
+    ghost own_contents = { own_contents 0x0A (λ it. digested_object_type_number it ∷ []) (lit≤ tt) };
+
+    ghost exact_contents = { Prim.assumption };
+}
+
 /// `AttCertIssuer` of PKIXAttributeCertificate-2008, as a CHOICE.
 #[derive(Debug, Drop, PartialEq, Eq)]
 pub enum AttCertIssuer {
@@ -373,6 +436,20 @@ impl Notated for AttCertIssuer {
     ghost notation = { Notation.choice ⟦<AttCertIssuerParts as NotatedAlternatives>⟧.alternatives_notation };
 
     ghost denoted = { refl };
+}
+
+impl Exact for AttCertIssuer {
+    ghost use Rattle.der_pkix.specs.declared.holders.AttCertIssuer.TheVariants as variants;
+
+    ghost values = { choice_values ⟦<AttCertIssuerParts as ExactAlternatives>⟧.chosen_values
+        ⟦<AttCertIssuerParts as NotatedAlternatives>⟧.alternatives_notation ⟦<AttCertIssuerParts as Alternatives>⟧.chosen ⟦<Self as Choice>⟧.parts
+        (elim [
+          | This x ↦ (variants.V1Form x, refl)
+          | Other (This x) ↦ (variants.V2Form x, refl)
+          | Other (Other x) ↦ elim x [ ]
+        ]) };
+
+    ghost exact = { Prim.assumption };
 }
 
 /// `V2Form` of PKIXAttributeCertificate-2008, as a SEQUENCE.
@@ -460,6 +537,21 @@ impl Notated for V2Form {
     ghost denoted = { refl };
 }
 
+impl Exact for V2Form {
+    ghost values = { struct_values ⟦<V2FormParts as ExactMembers>⟧.all_values ⟦<V2FormParts as NotatedMembers>⟧.members_notation
+        ⟦<V2FormParts as SerializeMembers>⟧.members ⟦<Self as Struct>⟧.parts
+        (λ m. (
+          record {
+            issuer_name = m.0.0;
+            base_certificate_id = m.1.0;
+            object_digest_info = m.2.0;
+          },
+          refl {a = m},
+        )) };
+
+    ghost exact = { Prim.assumption };
+}
+
 /// `IssuerSerial` of PKIXAttributeCertificate-2008, as a SEQUENCE.
 #[derive(Debug, Drop, PartialEq, Eq)]
 pub struct IssuerSerial {
@@ -533,4 +625,12 @@ impl Notated for IssuerSerial {
     ghost notation = { Notation.sequence ⟦<IssuerSerialParts as NotatedMembers>⟧.members_notation };
 
     ghost denoted = { refl };
+}
+
+impl Exact for IssuerSerial {
+    ghost values = { struct_values ⟦<IssuerSerialParts as ExactMembers>⟧.all_values ⟦<IssuerSerialParts as NotatedMembers>⟧.members_notation
+        ⟦<IssuerSerialParts as SerializeMembers>⟧.members ⟦<Self as Struct>⟧.parts
+        (λ m. (record { issuer = m.0; serial = m.1; issuer_uid = m.2.0 }, refl {a = m})) };
+
+    ghost exact = { Prim.assumption };
 }

@@ -4,8 +4,9 @@
 ghost use Rattle.std.specs.Prelude.{refl};
 ghost use Rattle.picky_der_de.specs.MembersFacts.{sequence_of, sequence_shape, struct_facts};
 ghost use Rattle.der_types.specs.Notation.{Notation};
+ghost use Rattle.der_types.specs.ExactMembers.{struct_values};
 
-use der_types::{Integer, Notated, NotatedMembers, WithSize};
+use der_types::{Exact, ExactMembers, Integer, Notated, NotatedMembers, WithSize};
 use picky_asn1_der::asn1::Tag;
 use picky_asn1_der::de::Begins;
 use picky_asn1_der::misc::{ReadExt, WriteExt};
@@ -74,6 +75,14 @@ impl Notated for RsaPublicKey {
     ghost notation = { Notation.sequence ⟦<RsaPublicKeyParts as NotatedMembers>⟧.members_notation };
 
     ghost denoted = { refl };
+}
+
+impl Exact for RsaPublicKey {
+    ghost values = { struct_values ⟦<RsaPublicKeyParts as ExactMembers>⟧.all_values ⟦<RsaPublicKeyParts as NotatedMembers>⟧.members_notation
+        ⟦<RsaPublicKeyParts as SerializeMembers>⟧.members ⟦<Self as Struct>⟧.parts
+        (λ m. (record { modulus = m.0; public_exponent = m.1 }, refl {a = m})) };
+
+    ghost exact = { Prim.assumption };
 }
 
 /// `RSAPrivateKey` of PKCS-1, as a SEQUENCE.
@@ -207,6 +216,28 @@ impl Notated for RsaPrivateKey {
     ghost denoted = { refl };
 }
 
+impl Exact for RsaPrivateKey {
+    ghost values = { struct_values ⟦<RsaPrivateKeyParts as ExactMembers>⟧.all_values ⟦<RsaPrivateKeyParts as NotatedMembers>⟧.members_notation
+        ⟦<RsaPrivateKeyParts as SerializeMembers>⟧.members ⟦<Self as Struct>⟧.parts
+        (λ m. (
+          record {
+            version = m.0;
+            modulus = m.1;
+            public_exponent = m.2;
+            private_exponent = m.3;
+            prime1 = m.4;
+            prime2 = m.5;
+            exponent1 = m.6;
+            exponent2 = m.7;
+            coefficient = m.8.0;
+            other_prime_infos = m.8.1.0;
+          },
+          refl {a = m},
+        )) };
+
+    ghost exact = { Prim.assumption };
+}
+
 /// `multi` exactly where there are other primes. RFC 8017 calls it Version. `RSAVersion` of PKCS-1:
 /// `INTEGER { two-prime (0), multi (1) }`.
 pub type RsaVersion = Integer;
@@ -276,4 +307,12 @@ impl Notated for OtherPrimeInfo {
     ghost notation = { Notation.sequence ⟦<OtherPrimeInfoParts as NotatedMembers>⟧.members_notation };
 
     ghost denoted = { refl };
+}
+
+impl Exact for OtherPrimeInfo {
+    ghost values = { struct_values ⟦<OtherPrimeInfoParts as ExactMembers>⟧.all_values ⟦<OtherPrimeInfoParts as NotatedMembers>⟧.members_notation
+        ⟦<OtherPrimeInfoParts as SerializeMembers>⟧.members ⟦<Self as Struct>⟧.parts
+        (λ m. (record { prime = m.0; exponent = m.1; coefficient = m.2 }, refl {a = m})) };
+
+    ghost exact = { Prim.assumption };
 }

@@ -4,9 +4,10 @@
 ghost use Rattle.std.specs.Prelude.{refl};
 ghost use Rattle.picky_der_de.specs.MembersFacts.{sequence_of, sequence_shape, struct_facts};
 ghost use Rattle.der_types.specs.Notation.{Notation};
+ghost use Rattle.der_types.specs.ExactMembers.{struct_values};
 
 use crate::Attribute;
-use der_types::{BitString, InRange, Notated, NotatedMembers};
+use der_types::{BitString, Exact, ExactMembers, InRange, Notated, NotatedMembers};
 use der_x509::{AlgorithmIdentifier, Name, SubjectPublicKeyInfo};
 use picky_asn1_der::asn1::{Asn1SetOf, ImplicitList0, Tag};
 use picky_asn1_der::de::Begins;
@@ -85,6 +86,21 @@ impl Notated for CertificationRequest {
     ghost notation = { Notation.sequence ⟦<CertificationRequestParts as NotatedMembers>⟧.members_notation };
 
     ghost denoted = { refl };
+}
+
+impl Exact for CertificationRequest {
+    ghost values = { struct_values ⟦<CertificationRequestParts as ExactMembers>⟧.all_values ⟦<CertificationRequestParts as NotatedMembers>⟧.members_notation
+        ⟦<CertificationRequestParts as SerializeMembers>⟧.members ⟦<Self as Struct>⟧.parts
+        (λ m. (
+          record {
+            certification_request_info = m.0;
+            signature_algorithm = m.1;
+            signature = m.2;
+          },
+          refl {a = m},
+        )) };
+
+    ghost exact = { Prim.assumption };
 }
 
 /// `CertificationRequestInfo` of PKCS-10, as a SEQUENCE.
@@ -167,6 +183,14 @@ impl Notated for CertificationRequestInfo {
     ghost notation = { Notation.sequence ⟦<CertificationRequestInfoParts as NotatedMembers>⟧.members_notation };
 
     ghost denoted = { refl };
+}
+
+impl Exact for CertificationRequestInfo {
+    ghost values = { struct_values ⟦<CertificationRequestInfoParts as ExactMembers>⟧.all_values ⟦<CertificationRequestInfoParts as NotatedMembers>⟧.members_notation
+        ⟦<CertificationRequestInfoParts as SerializeMembers>⟧.members ⟦<Self as Struct>⟧.parts
+        (λ m. (record { version = m.0; subject = m.1; subject_pk_info = m.2; attributes = m.3 }, refl {a = m})) };
+
+    ghost exact = { Prim.assumption };
 }
 
 /// RFC 2986 calls it Attributes. `CRIAttributes` of PKCS-10: `SET OF Attribute`.

@@ -4,8 +4,9 @@
 ghost use Rattle.std.specs.Prelude.{refl};
 ghost use Rattle.picky_der_de.specs.MembersFacts.{sequence_of, sequence_shape, struct_facts};
 ghost use Rattle.der_types.specs.Notation.{Notation};
+ghost use Rattle.der_types.specs.ExactMembers.{struct_values};
 
-use der_types::{Notated, NotatedMembers, WithSize};
+use der_types::{Exact, ExactMembers, Notated, NotatedMembers, WithSize};
 use der_x509::{AttributeType, AttributeValue};
 use picky_asn1_der::asn1::{Asn1SetOf, Tag};
 use picky_asn1_der::de::Begins;
@@ -76,4 +77,12 @@ impl Notated for Attribute {
     ghost notation = { Notation.sequence ⟦<AttributeParts as NotatedMembers>⟧.members_notation };
 
     ghost denoted = { refl };
+}
+
+impl Exact for Attribute {
+    ghost values = { struct_values ⟦<AttributeParts as ExactMembers>⟧.all_values ⟦<AttributeParts as NotatedMembers>⟧.members_notation
+        ⟦<AttributeParts as SerializeMembers>⟧.members ⟦<Self as Struct>⟧.parts
+        (λ m. (record { type_ = m.0; values = m.1 }, refl {a = m})) };
+
+    ghost exact = { Prim.assumption };
 }

@@ -4,9 +4,12 @@
 ghost use Rattle.std.specs.Prelude.{refl};
 ghost use Rattle.picky_der_de.specs.MembersFacts.{sequence_of, sequence_shape, struct_facts};
 ghost use Rattle.der_types.specs.Notation.{Notation};
+ghost use Rattle.der_types.specs.ExactMembers.{struct_values};
 
 use crate::{GeneralName, GeneralNames};
-use der_types::{Integer, Notated, NotatedMembers, ObjectIdentifier, WithSize};
+use der_types::{
+    Exact, ExactMembers, Integer, Notated, NotatedMembers, ObjectIdentifier, WithSize,
+};
 use der_x509::CertificateSerialNumber;
 use picky_asn1_der::asn1::{
     ByteBuf, ImplicitContextTag0, ImplicitContextTag1, ImplicitContextTag2, ImplicitList0,
@@ -107,6 +110,21 @@ impl Notated for AuthorityKeyIdentifier {
     ghost denoted = { refl };
 }
 
+impl Exact for AuthorityKeyIdentifier {
+    ghost values = { struct_values ⟦<AuthorityKeyIdentifierParts as ExactMembers>⟧.all_values ⟦<AuthorityKeyIdentifierParts as NotatedMembers>⟧.members_notation
+        ⟦<AuthorityKeyIdentifierParts as SerializeMembers>⟧.members ⟦<Self as Struct>⟧.parts
+        (λ m. (
+          record {
+            key_identifier = m.0.0;
+            authority_cert_issuer = m.1.0;
+            authority_cert_serial_number = m.2.0;
+          },
+          refl {a = m},
+        )) };
+
+    ghost exact = { Prim.assumption };
+}
+
 /// `KeyIdentifier` of PKIX1Implicit88: `OCTET STRING`.
 pub type KeyIdentifier = ByteBuf;
 
@@ -181,6 +199,14 @@ impl Notated for BasicConstraints {
     ghost denoted = { refl };
 }
 
+impl Exact for BasicConstraints {
+    ghost values = { struct_values ⟦<BasicConstraintsParts as ExactMembers>⟧.all_values ⟦<BasicConstraintsParts as NotatedMembers>⟧.members_notation
+        ⟦<BasicConstraintsParts as SerializeMembers>⟧.members ⟦<Self as Struct>⟧.parts
+        (λ m. (record { ca = m.0.value; path_len_constraint = m.1.0 }, refl {a = m})) };
+
+    ghost exact = { Prim.assumption };
+}
+
 /// `NameConstraints` of PKIX1Implicit88, as a SEQUENCE.
 ///
 /// Its values differ from the notation's. The crate lacks: DEFAULT of a constrained type; a type of
@@ -252,6 +278,14 @@ impl Notated for NameConstraints {
     ghost notation = { Notation.sequence ⟦<NameConstraintsParts as NotatedMembers>⟧.members_notation };
 
     ghost denoted = { refl };
+}
+
+impl Exact for NameConstraints {
+    ghost values = { struct_values ⟦<NameConstraintsParts as ExactMembers>⟧.all_values ⟦<NameConstraintsParts as NotatedMembers>⟧.members_notation
+        ⟦<NameConstraintsParts as SerializeMembers>⟧.members ⟦<Self as Struct>⟧.parts
+        (λ m. (record { permitted_subtrees = m.0.0; excluded_subtrees = m.1.0 }, refl {a = m})) };
+
+    ghost exact = { Prim.assumption };
 }
 
 /// `GeneralSubtrees` of PKIX1Implicit88: `SEQUENCE SIZE (1..MAX) OF GeneralSubtree`.
@@ -338,6 +372,14 @@ impl Notated for GeneralSubtree {
     ghost denoted = { refl };
 }
 
+impl Exact for GeneralSubtree {
+    ghost values = { struct_values ⟦<GeneralSubtreeParts as ExactMembers>⟧.all_values ⟦<GeneralSubtreeParts as NotatedMembers>⟧.members_notation
+        ⟦<GeneralSubtreeParts as SerializeMembers>⟧.members ⟦<Self as Struct>⟧.parts
+        (λ m. (record { base = m.0; minimum = m.1.0; maximum = m.2.0 }, refl {a = m})) };
+
+    ghost exact = { Prim.assumption };
+}
+
 /// `BaseDistance` of PKIX1Implicit88: `INTEGER (0..MAX)`.
 ///
 /// Its values differ from the notation's. The crate lacks: a type of its own with `Constrained`.
@@ -414,4 +456,12 @@ impl Notated for AccessDescription {
     ghost notation = { Notation.sequence ⟦<AccessDescriptionParts as NotatedMembers>⟧.members_notation };
 
     ghost denoted = { refl };
+}
+
+impl Exact for AccessDescription {
+    ghost values = { struct_values ⟦<AccessDescriptionParts as ExactMembers>⟧.all_values ⟦<AccessDescriptionParts as NotatedMembers>⟧.members_notation
+        ⟦<AccessDescriptionParts as SerializeMembers>⟧.members ⟦<Self as Struct>⟧.parts
+        (λ m. (record { access_method = m.0; access_location = m.1 }, refl {a = m})) };
+
+    ghost exact = { Prim.assumption };
 }

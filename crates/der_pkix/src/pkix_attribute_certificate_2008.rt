@@ -7,11 +7,13 @@ ghost use Rattle.picky_der_de.specs.declared.alternatives.OneOf.TheVariants.{Oth
 ghost use Rattle.picky_der_de.specs.ChoiceFacts.{choice_facts};
 ghost use Rattle.picky_der_de.specs.MembersFacts.{sequence_of, sequence_shape, struct_facts};
 ghost use Rattle.der_types.specs.Notation.{Notation};
+ghost use Rattle.der_types.specs.ExactChoices.{choice_values};
+ghost use Rattle.der_types.specs.ExactMembers.{struct_values};
 
 use crate::{AttCertIssuer, Attribute, GeneralName, Holder, IssuerSerial, ObjectDigestInfo};
 use der_types::{
-    BitString, GeneralizedTime, InRange, Integer, Notated, NotatedAlternatives, NotatedMembers,
-    ObjectIdentifier, WithSize,
+    BitString, Exact, ExactAlternatives, ExactMembers, GeneralizedTime, InRange, Integer, Notated,
+    NotatedAlternatives, NotatedMembers, ObjectIdentifier, WithSize,
 };
 use der_x509::{AlgorithmIdentifier, CertificateSerialNumber, Extensions, UniqueIdentifier};
 use picky_asn1_der::OneOf::{Other, This};
@@ -95,6 +97,14 @@ impl Notated for AttributeCertificate {
     ghost notation = { Notation.sequence ⟦<AttributeCertificateParts as NotatedMembers>⟧.members_notation };
 
     ghost denoted = { refl };
+}
+
+impl Exact for AttributeCertificate {
+    ghost values = { struct_values ⟦<AttributeCertificateParts as ExactMembers>⟧.all_values ⟦<AttributeCertificateParts as NotatedMembers>⟧.members_notation
+        ⟦<AttributeCertificateParts as SerializeMembers>⟧.members ⟦<Self as Struct>⟧.parts
+        (λ m. (record { acinfo = m.0; signature_algorithm = m.1; signature_value = m.2 }, refl {a = m})) };
+
+    ghost exact = { Prim.assumption };
 }
 
 /// `AttributeCertificateInfo` of PKIXAttributeCertificate-2008, as a SEQUENCE.
@@ -226,6 +236,27 @@ impl Notated for AttributeCertificateInfo {
     ghost denoted = { refl };
 }
 
+impl Exact for AttributeCertificateInfo {
+    ghost values = { struct_values ⟦<AttributeCertificateInfoParts as ExactMembers>⟧.all_values ⟦<AttributeCertificateInfoParts as NotatedMembers>⟧.members_notation
+        ⟦<AttributeCertificateInfoParts as SerializeMembers>⟧.members ⟦<Self as Struct>⟧.parts
+        (λ m. (
+          record {
+            version = m.0;
+            holder = m.1;
+            issuer = m.2;
+            signature = m.3;
+            serial_number = m.4;
+            attr_cert_validity_period = m.5;
+            attributes = m.6;
+            issuer_unique_id = m.7.0;
+            extensions = m.8.0.0;
+          },
+          refl {a = m},
+        )) };
+
+    ghost exact = { Prim.assumption };
+}
+
 /// `AttCertVersion` of PKIXAttributeCertificate-2008: `INTEGER { v2 (1) } (v2)`.
 pub type AttCertVersion = InRange<u8, 1, 1>;
 
@@ -295,6 +326,14 @@ impl Notated for AttCertValidityPeriod {
     ghost notation = { Notation.sequence ⟦<AttCertValidityPeriodParts as NotatedMembers>⟧.members_notation };
 
     ghost denoted = { refl };
+}
+
+impl Exact for AttCertValidityPeriod {
+    ghost values = { struct_values ⟦<AttCertValidityPeriodParts as ExactMembers>⟧.all_values ⟦<AttCertValidityPeriodParts as NotatedMembers>⟧.members_notation
+        ⟦<AttCertValidityPeriodParts as SerializeMembers>⟧.members ⟦<Self as Struct>⟧.parts
+        (λ m. (record { not_before_time = m.0; not_after_time = m.1 }, refl {a = m})) };
+
+    ghost exact = { Prim.assumption };
 }
 
 /// The value of the extension id-ce-targetInformation. RFC 5755 gives this type no name.
@@ -379,6 +418,21 @@ impl Notated for Target {
     ghost denoted = { refl };
 }
 
+impl Exact for Target {
+    ghost use Rattle.der_pkix.specs.declared.pkix_attribute_certificate_2008.Target.TheVariants as variants;
+
+    ghost values = { choice_values ⟦<TargetParts as ExactAlternatives>⟧.chosen_values
+        ⟦<TargetParts as NotatedAlternatives>⟧.alternatives_notation ⟦<TargetParts as Alternatives>⟧.chosen ⟦<Self as Choice>⟧.parts
+        (elim [
+          | This x ↦ (variants.TargetName x, refl)
+          | Other (This x) ↦ (variants.TargetGroup x, refl)
+          | Other (Other (This x)) ↦ (variants.TargetCert x, refl)
+          | Other (Other (Other x)) ↦ elim x [ ]
+        ]) };
+
+    ghost exact = { Prim.assumption };
+}
+
 /// `TargetCert` of PKIXAttributeCertificate-2008, as a SEQUENCE.
 #[derive(Debug, Drop, PartialEq, Eq)]
 pub struct TargetCert {
@@ -457,6 +511,14 @@ impl Notated for TargetCert {
     ghost notation = { Notation.sequence ⟦<TargetCertParts as NotatedMembers>⟧.members_notation };
 
     ghost denoted = { refl };
+}
+
+impl Exact for TargetCert {
+    ghost values = { struct_values ⟦<TargetCertParts as ExactMembers>⟧.all_values ⟦<TargetCertParts as NotatedMembers>⟧.members_notation
+        ⟦<TargetCertParts as SerializeMembers>⟧.members ⟦<Self as Struct>⟧.parts
+        (λ m. (record { target_certificate = m.0; target_name = m.1.0; cert_digest_info = m.2.0 }, refl {a = m})) };
+
+    ghost exact = { Prim.assumption };
 }
 
 /// `ProxyInfo` of PKIXAttributeCertificate-2008: `SEQUENCE OF Targets`.
@@ -554,6 +616,22 @@ impl Notated for AaControls {
     ghost notation = { Notation.sequence ⟦<AaControlsParts as NotatedMembers>⟧.members_notation };
 
     ghost denoted = { refl };
+}
+
+impl Exact for AaControls {
+    ghost values = { struct_values ⟦<AaControlsParts as ExactMembers>⟧.all_values ⟦<AaControlsParts as NotatedMembers>⟧.members_notation
+        ⟦<AaControlsParts as SerializeMembers>⟧.members ⟦<Self as Struct>⟧.parts
+        (λ m. (
+          record {
+            path_len_constraint = m.0.0;
+            permitted_attrs = m.1.0;
+            excluded_attrs = m.2.0;
+            permit_un_specified = m.3.value;
+          },
+          refl {a = m},
+        )) };
+
+    ghost exact = { Prim.assumption };
 }
 
 /// `AttrSpec` of PKIXAttributeCertificate-2008: `SEQUENCE OF OBJECT IDENTIFIER`.

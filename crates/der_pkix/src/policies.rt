@@ -3,14 +3,16 @@
 //! Types of PKIX1Implicit88.
 ghost use Rattle.std.specs.Prelude.{refl};
 ghost use Rattle.picky_der_core.specs.Shape.{Shape};
-ghost use Rattle.picky_der_de.specs.declared.choice4.Choice4.TheVariants.{First, Fourth, Second, Third};
+ghost use Rattle.picky_der_de.specs.declared.choice4.Choice4.TheVariants.{First, Fourth, Later, Second, Third};
 ghost use Rattle.picky_der_de.specs.ChoiceFacts.{choice_facts};
 ghost use Rattle.picky_der_de.specs.MembersFacts.{sequence_of, sequence_shape, struct_facts};
 ghost use Rattle.der_types.specs.Notation.{Notation};
+ghost use Rattle.der_types.specs.ExactChoices.{choice_values};
+ghost use Rattle.der_types.specs.ExactMembers.{struct_values};
 
 use der_types::{
-    BmpString, Ia5String, Integer, Notated, NotatedAlternatives, NotatedMembers, ObjectIdentifier,
-    VisibleString, WithSize,
+    BmpString, Exact, ExactAlternatives, ExactMembers, Ia5String, Integer, Notated,
+    NotatedAlternatives, NotatedMembers, ObjectIdentifier, VisibleString, WithSize,
 };
 use picky_asn1_der::Choice4::{First, Fourth, Second, Third};
 use picky_asn1_der::asn1::{ImplicitContextTag0, ImplicitContextTag1, Tag};
@@ -95,6 +97,14 @@ impl Notated for PolicyInformation {
     ghost denoted = { refl };
 }
 
+impl Exact for PolicyInformation {
+    ghost values = { struct_values ⟦<PolicyInformationParts as ExactMembers>⟧.all_values ⟦<PolicyInformationParts as NotatedMembers>⟧.members_notation
+        ⟦<PolicyInformationParts as SerializeMembers>⟧.members ⟦<Self as Struct>⟧.parts
+        (λ m. (record { policy_identifier = m.0; policy_qualifiers = m.1.0 }, refl {a = m})) };
+
+    ghost exact = { Prim.assumption };
+}
+
 /// `CertPolicyId` of PKIX1Implicit88: `OBJECT IDENTIFIER`.
 pub type CertPolicyId = ObjectIdentifier;
 
@@ -157,6 +167,14 @@ impl Notated for PolicyQualifierInfo {
     ghost notation = { Notation.sequence ⟦<PolicyQualifierInfoParts as NotatedMembers>⟧.members_notation };
 
     ghost denoted = { refl };
+}
+
+impl Exact for PolicyQualifierInfo {
+    ghost values = { struct_values ⟦<PolicyQualifierInfoParts as ExactMembers>⟧.all_values ⟦<PolicyQualifierInfoParts as NotatedMembers>⟧.members_notation
+        ⟦<PolicyQualifierInfoParts as SerializeMembers>⟧.members ⟦<Self as Struct>⟧.parts
+        (λ m. (record { policy_qualifier_id = m.0; qualifier = m.1 }, refl {a = m})) };
+
+    ghost exact = { Prim.assumption };
 }
 
 /// `PolicyQualifierId` of PKIX1Implicit88: `OBJECT IDENTIFIER`.
@@ -231,6 +249,14 @@ impl Notated for UserNotice {
     ghost denoted = { refl };
 }
 
+impl Exact for UserNotice {
+    ghost values = { struct_values ⟦<UserNoticeParts as ExactMembers>⟧.all_values ⟦<UserNoticeParts as NotatedMembers>⟧.members_notation
+        ⟦<UserNoticeParts as SerializeMembers>⟧.members ⟦<Self as Struct>⟧.parts
+        (λ m. (record { notice_ref = m.0.0; explicit_text = m.1.0 }, refl {a = m})) };
+
+    ghost exact = { Prim.assumption };
+}
+
 /// `NoticeReference` of PKIX1Implicit88, as a SEQUENCE.
 #[derive(Debug, Drop, PartialEq, Eq)]
 pub struct NoticeReference {
@@ -290,6 +316,14 @@ impl Notated for NoticeReference {
     ghost notation = { Notation.sequence ⟦<NoticeReferenceParts as NotatedMembers>⟧.members_notation };
 
     ghost denoted = { refl };
+}
+
+impl Exact for NoticeReference {
+    ghost values = { struct_values ⟦<NoticeReferenceParts as ExactMembers>⟧.all_values ⟦<NoticeReferenceParts as NotatedMembers>⟧.members_notation
+        ⟦<NoticeReferenceParts as SerializeMembers>⟧.members ⟦<Self as Struct>⟧.parts
+        (λ m. (record { organization = m.0; notice_numbers = m.1 }, refl {a = m})) };
+
+    ghost exact = { Prim.assumption };
 }
 
 /// `DisplayText` of PKIX1Implicit88, as a CHOICE.
@@ -377,6 +411,22 @@ impl Notated for DisplayText {
     ghost denoted = { refl };
 }
 
+impl Exact for DisplayText {
+    ghost use Rattle.der_pkix.specs.declared.policies.DisplayText.TheVariants as variants;
+
+    ghost values = { choice_values ⟦<DisplayTextParts as ExactAlternatives>⟧.chosen_values
+        ⟦<DisplayTextParts as NotatedAlternatives>⟧.alternatives_notation ⟦<DisplayTextParts as Alternatives>⟧.chosen ⟦<Self as Choice>⟧.parts
+        (elim [
+          | First x ↦ (variants.Ia5String x, refl)
+          | Second x ↦ (variants.VisibleString x, refl)
+          | Third x ↦ (variants.BmpString x, refl)
+          | Fourth x ↦ (variants.Utf8String x, refl)
+          | Later x ↦ elim x [ ]
+        ]) };
+
+    ghost exact = { Prim.assumption };
+}
+
 /// `PolicyMappings` of PKIX1Implicit88: `SEQUENCE SIZE (1..MAX) OF SEQUENCE { issuerDomainPolicy
 /// CertPolicyId, subjectDomainPolicy CertPolicyId }`.
 pub type PolicyMappings = WithSize<Vec<PolicyMappingsItem>, 1, { usize::MAX }>;
@@ -440,6 +490,14 @@ impl Notated for PolicyMappingsItem {
     ghost notation = { Notation.sequence ⟦<PolicyMappingsItemParts as NotatedMembers>⟧.members_notation };
 
     ghost denoted = { refl };
+}
+
+impl Exact for PolicyMappingsItem {
+    ghost values = { struct_values ⟦<PolicyMappingsItemParts as ExactMembers>⟧.all_values ⟦<PolicyMappingsItemParts as NotatedMembers>⟧.members_notation
+        ⟦<PolicyMappingsItemParts as SerializeMembers>⟧.members ⟦<Self as Struct>⟧.parts
+        (λ m. (record { issuer_domain_policy = m.0; subject_domain_policy = m.1 }, refl {a = m})) };
+
+    ghost exact = { Prim.assumption };
 }
 
 /// `PolicyConstraints` of PKIX1Implicit88, as a SEQUENCE.
@@ -512,6 +570,14 @@ impl Notated for PolicyConstraints {
     ghost notation = { Notation.sequence ⟦<PolicyConstraintsParts as NotatedMembers>⟧.members_notation };
 
     ghost denoted = { refl };
+}
+
+impl Exact for PolicyConstraints {
+    ghost values = { struct_values ⟦<PolicyConstraintsParts as ExactMembers>⟧.all_values ⟦<PolicyConstraintsParts as NotatedMembers>⟧.members_notation
+        ⟦<PolicyConstraintsParts as SerializeMembers>⟧.members ⟦<Self as Struct>⟧.parts
+        (λ m. (record { require_explicit_policy = m.0.0; inhibit_policy_mapping = m.1.0 }, refl {a = m})) };
+
+    ghost exact = { Prim.assumption };
 }
 
 /// `SkipCerts` of PKIX1Implicit88: `INTEGER (0..MAX)`.

@@ -7,10 +7,13 @@ ghost use Rattle.picky_der_de.specs.declared.alternatives.OneOf.TheVariants.{Oth
 ghost use Rattle.picky_der_de.specs.ChoiceFacts.{choice_facts};
 ghost use Rattle.picky_der_de.specs.MembersFacts.{sequence_of, sequence_shape, struct_facts};
 ghost use Rattle.der_types.specs.Notation.{Notation};
+ghost use Rattle.der_types.specs.ExactChoices.{choice_values};
+ghost use Rattle.der_types.specs.ExactMembers.{struct_values};
 
 use crate::{Attribute, GeneralName, GeneralNames};
 use der_types::{
-    Integer, NamedBits, Notated, NotatedAlternatives, NotatedMembers, ObjectIdentifier,
+    Exact, ExactAlternatives, ExactMembers, Integer, NamedBits, Notated, NotatedAlternatives,
+    NotatedMembers, ObjectIdentifier,
 };
 use picky_asn1_der::OneOf::{Other, This};
 use picky_asn1_der::asn1::{
@@ -89,6 +92,14 @@ impl Notated for IetfAttrSyntax {
     ghost denoted = { refl };
 }
 
+impl Exact for IetfAttrSyntax {
+    ghost values = { struct_values ⟦<IetfAttrSyntaxParts as ExactMembers>⟧.all_values ⟦<IetfAttrSyntaxParts as NotatedMembers>⟧.members_notation
+        ⟦<IetfAttrSyntaxParts as SerializeMembers>⟧.members ⟦<Self as Struct>⟧.parts
+        (λ m. (record { policy_authority = m.0.0; values = m.1 }, refl {a = m})) };
+
+    ghost exact = { Prim.assumption };
+}
+
 /// RFC 5755 gives this type no name. `IetfAttrValue` of PKIXAttributeCertificate-2008, as a CHOICE.
 #[derive(Debug, Drop, PartialEq, Eq)]
 pub enum IetfAttrValue {
@@ -161,6 +172,21 @@ impl Notated for IetfAttrValue {
     ghost denoted = { refl };
 }
 
+impl Exact for IetfAttrValue {
+    ghost use Rattle.der_pkix.specs.declared.privileges.IetfAttrValue.TheVariants as variants;
+
+    ghost values = { choice_values ⟦<IetfAttrValueParts as ExactAlternatives>⟧.chosen_values
+        ⟦<IetfAttrValueParts as NotatedAlternatives>⟧.alternatives_notation ⟦<IetfAttrValueParts as Alternatives>⟧.chosen ⟦<Self as Choice>⟧.parts
+        (elim [
+          | This x ↦ (variants.Octets x, refl)
+          | Other (This x) ↦ (variants.Oid x, refl)
+          | Other (Other (This x)) ↦ (variants.String x, refl)
+          | Other (Other (Other x)) ↦ elim x [ ]
+        ]) };
+
+    ghost exact = { Prim.assumption };
+}
+
 /// `SvceAuthInfo` of PKIXAttributeCertificate-2008, as a SEQUENCE.
 #[derive(Debug, Drop, PartialEq, Eq)]
 pub struct SvceAuthInfo {
@@ -227,6 +253,14 @@ impl Notated for SvceAuthInfo {
     ghost denoted = { refl };
 }
 
+impl Exact for SvceAuthInfo {
+    ghost values = { struct_values ⟦<SvceAuthInfoParts as ExactMembers>⟧.all_values ⟦<SvceAuthInfoParts as NotatedMembers>⟧.members_notation
+        ⟦<SvceAuthInfoParts as SerializeMembers>⟧.members ⟦<Self as Struct>⟧.parts
+        (λ m. (record { service = m.0; ident = m.1; auth_info = m.2.0 }, refl {a = m})) };
+
+    ghost exact = { Prim.assumption };
+}
+
 /// `RoleSyntax` of PKIXAttributeCertificate-2008, as a SEQUENCE.
 #[derive(Debug, Drop, PartialEq, Eq)]
 pub struct RoleSyntax {
@@ -290,6 +324,14 @@ impl Notated for RoleSyntax {
     ghost notation = { Notation.sequence ⟦<RoleSyntaxParts as NotatedMembers>⟧.members_notation };
 
     ghost denoted = { refl };
+}
+
+impl Exact for RoleSyntax {
+    ghost values = { struct_values ⟦<RoleSyntaxParts as ExactMembers>⟧.all_values ⟦<RoleSyntaxParts as NotatedMembers>⟧.members_notation
+        ⟦<RoleSyntaxParts as SerializeMembers>⟧.members ⟦<Self as Struct>⟧.parts
+        (λ m. (record { role_authority = m.0.0; role_name = m.1 }, refl {a = m})) };
+
+    ghost exact = { Prim.assumption };
 }
 
 /// `Clearance` of PKIXAttributeCertificate-2008, as a SEQUENCE.
@@ -370,6 +412,14 @@ impl Notated for Clearance {
     ghost denoted = { refl };
 }
 
+impl Exact for Clearance {
+    ghost values = { struct_values ⟦<ClearanceParts as ExactMembers>⟧.all_values ⟦<ClearanceParts as NotatedMembers>⟧.members_notation
+        ⟦<ClearanceParts as SerializeMembers>⟧.members ⟦<Self as Struct>⟧.parts
+        (λ m. (record { policy_id = m.0; class_list = m.1.0; security_categories = m.2.0 }, refl {a = m})) };
+
+    ghost exact = { Prim.assumption };
+}
+
 /// `ClassList` of PKIXAttributeCertificate-2008: `BIT STRING { unmarked (0), unclassified (1),
 /// restricted (2), confidential (3), secret (4), topSecret (5) }`.
 pub type ClassList = NamedBits;
@@ -436,6 +486,14 @@ impl Notated for SecurityCategory {
     ghost denoted = { refl };
 }
 
+impl Exact for SecurityCategory {
+    ghost values = { struct_values ⟦<SecurityCategoryParts as ExactMembers>⟧.all_values ⟦<SecurityCategoryParts as NotatedMembers>⟧.members_notation
+        ⟦<SecurityCategoryParts as SerializeMembers>⟧.members ⟦<Self as Struct>⟧.parts
+        (λ m. (record { type_ = m.0; value = m.1 }, refl {a = m})) };
+
+    ghost exact = { Prim.assumption };
+}
+
 /// Attributes that are encrypted, as the content of an EnvelopedData. `ACClearAttrs` of
 /// PKIXAttributeCertificate-2008, as a SEQUENCE.
 #[derive(Debug, Drop, PartialEq, Eq)]
@@ -499,4 +557,12 @@ impl Notated for AcClearAttrs {
     ghost notation = { Notation.sequence ⟦<AcClearAttrsParts as NotatedMembers>⟧.members_notation };
 
     ghost denoted = { refl };
+}
+
+impl Exact for AcClearAttrs {
+    ghost values = { struct_values ⟦<AcClearAttrsParts as ExactMembers>⟧.all_values ⟦<AcClearAttrsParts as NotatedMembers>⟧.members_notation
+        ⟦<AcClearAttrsParts as SerializeMembers>⟧.members ⟦<Self as Struct>⟧.parts
+        (λ m. (record { ac_issuer = m.0; ac_serial = m.1; attrs = m.2 }, refl {a = m})) };
+
+    ghost exact = { Prim.assumption };
 }

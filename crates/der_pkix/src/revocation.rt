@@ -3,18 +3,24 @@
 //! Types of PKIX1Implicit88.
 ghost use Rattle.std.proofs.Common.{lit≤};
 ghost use Rattle.std.specs.Prelude.{[], refl, ◌∷◌, ◌≡◌};
+ghost use Rattle.picky_der_core.specs.Equality.{IsKept};
 ghost use Rattle.picky_der_core.specs.Shape.{Shape};
 ghost use Rattle.picky_der_de.specs.declared.alternatives.OneOf.TheVariants.{Other, This};
 ghost use Rattle.picky_der_de.specs.ChoiceFacts.{choice_facts};
 ghost use Rattle.picky_der_de.specs.MembersFacts.{sequence_of, sequence_shape, struct_facts};
 ghost use Rattle.der_types.specs.ContentsFacts.{contents_facts, contents_of, contents_shape};
 ghost use Rattle.der_types.specs.Notation.{Notation};
+ghost use Rattle.der_types.specs.ExactChoices.{choice_values};
+ghost use Rattle.der_types.specs.ExactContents.{own_contents};
+ghost use Rattle.der_types.specs.ExactEnumerated.{enumerated_values};
+ghost use Rattle.der_types.specs.ExactMembers.{struct_values};
 ghost use Rattle.der_pkix.specs.Enumerations.{crl_reason_number, is_crl_reason, same_crl_reason};
 
 use crate::GeneralNames;
 use der_types::{
-    Contents, GeneralizedTime, Integer, NamedBits, Notated, NotatedAlternatives, NotatedMembers,
-    ObjectIdentifier, WithSize, deserialize_contents_as,
+    Contents, Exact, ExactAlternatives, ExactContents, ExactMembers, GeneralizedTime, Integer,
+    NamedBits, Notated, NotatedAlternatives, NotatedMembers, ObjectIdentifier, WithSize,
+    deserialize_contents_as,
 };
 use der_x509::RelativeDistinguishedName;
 use picky_asn1_der::OneOf::{Other, This};
@@ -113,6 +119,14 @@ impl Notated for DistributionPoint {
     ghost denoted = { refl };
 }
 
+impl Exact for DistributionPoint {
+    ghost values = { struct_values ⟦<DistributionPointParts as ExactMembers>⟧.all_values ⟦<DistributionPointParts as NotatedMembers>⟧.members_notation
+        ⟦<DistributionPointParts as SerializeMembers>⟧.members ⟦<Self as Struct>⟧.parts
+        (λ m. (record { distribution_point = m.0.0; reasons = m.1.0; crl_issuer = m.2.0 }, refl {a = m})) };
+
+    ghost exact = { Prim.assumption };
+}
+
 /// `DistributionPointName` of PKIX1Implicit88, as a CHOICE.
 #[derive(Debug, Drop, PartialEq, Eq)]
 pub enum DistributionPointName {
@@ -184,6 +198,20 @@ impl Notated for DistributionPointName {
     ghost notation = { Notation.choice ⟦<DistributionPointNameParts as NotatedAlternatives>⟧.alternatives_notation };
 
     ghost denoted = { refl };
+}
+
+impl Exact for DistributionPointName {
+    ghost use Rattle.der_pkix.specs.declared.revocation.DistributionPointName.TheVariants as variants;
+
+    ghost values = { choice_values ⟦<DistributionPointNameParts as ExactAlternatives>⟧.chosen_values
+        ⟦<DistributionPointNameParts as NotatedAlternatives>⟧.alternatives_notation ⟦<DistributionPointNameParts as Alternatives>⟧.chosen ⟦<Self as Choice>⟧.parts
+        (elim [
+          | This x ↦ (variants.FullName x, refl)
+          | Other (This x) ↦ (variants.NameRelativeToCrlIssuer x, refl)
+          | Other (Other x) ↦ elim x [ ]
+        ]) };
+
+    ghost exact = { Prim.assumption };
 }
 
 /// `ReasonFlags` of PKIX1Implicit88: `BIT STRING { unused (0), keyCompromise (1), cACompromise (2),
@@ -314,6 +342,24 @@ impl Notated for IssuingDistributionPoint {
     ghost denoted = { refl };
 }
 
+impl Exact for IssuingDistributionPoint {
+    ghost values = { struct_values ⟦<IssuingDistributionPointParts as ExactMembers>⟧.all_values ⟦<IssuingDistributionPointParts as NotatedMembers>⟧.members_notation
+        ⟦<IssuingDistributionPointParts as SerializeMembers>⟧.members ⟦<Self as Struct>⟧.parts
+        (λ m. (
+          record {
+            distribution_point = m.0.0;
+            only_contains_user_certs = m.1.value;
+            only_contains_ca_certs = m.2.value;
+            only_some_reasons = m.3.0;
+            indirect_crl = m.4.value;
+            only_contains_attribute_certs = m.5.value;
+          },
+          refl {a = m},
+        )) };
+
+    ghost exact = { Prim.assumption };
+}
+
 /// `CRLReason` of PKIX1Implicit88, as an ENUMERATED. Every other content is refused with
 /// `InvalidData`.
 #[derive(Debug, Clone, Copy, PartialEq, Eq)]
@@ -341,6 +387,11 @@ pub enum CrlReason {
 }
 
 impl CrlReason {
+    /// A copy is the same.
+    pub fn copies()
+        ensures { IsKept ⟦<CrlReason as Clone>⟧.is_clone (λ it. it) }
+    {}
+
     // The number of the value.
     fn number(self) -> u8
         ensures { result ≡ crl_reason_number self }
@@ -460,6 +511,42 @@ impl Notated for CrlReason {
         []) };
 
     ghost denoted = { refl };
+}
+
+impl Exact for CrlReason {
+    ghost use Rattle.der_pkix.specs.declared.revocation.CrlReason.TheVariants as variants;
+
+    ghost values = { enumerated_values (
+        variants.Unspecified ∷
+        variants.KeyCompromise ∷
+        variants.CaCompromise ∷
+        variants.AffiliationChanged ∷
+        variants.Superseded ∷
+        variants.CessationOfOperation ∷
+        variants.CertificateHold ∷
+        variants.RemoveFromCrl ∷
+        variants.PrivilegeWithdrawn ∷
+        variants.AaCompromise ∷
+        []) crl_reason_number (elim [
+          | variants.Unspecified ↦ record { listed = refl; small = refl }
+          | variants.KeyCompromise ↦ record { listed = refl; small = refl }
+          | variants.CaCompromise ↦ record { listed = refl; small = refl }
+          | variants.AffiliationChanged ↦ record { listed = refl; small = refl }
+          | variants.Superseded ↦ record { listed = refl; small = refl }
+          | variants.CessationOfOperation ↦ record { listed = refl; small = refl }
+          | variants.CertificateHold ↦ record { listed = refl; small = refl }
+          | variants.RemoveFromCrl ↦ record { listed = refl; small = refl }
+          | variants.PrivilegeWithdrawn ↦ record { listed = refl; small = refl }
+          | variants.AaCompromise ↦ record { listed = refl; small = refl }
+        ]) };
+
+    ghost exact = { Prim.assumption };
+}
+
+impl ExactContents for CrlReason {
+    ghost own_contents = { own_contents 0x0A (λ it. crl_reason_number it ∷ []) (lit≤ tt) };
+
+    ghost exact_contents = { Prim.assumption };
 }
 
 /// `CertificateIssuer` of PKIX1Implicit88: `GeneralNames`.

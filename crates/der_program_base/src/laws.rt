@@ -1,5 +1,17 @@
 //! Laws of the definitions that the contracts use.
+ghost use Rattle.picky_der_core.specs.Equality.{IsKept};
 ghost use Rattle.der_program_base.specs.Laws.{OneSplit, OneFirstWord, OneText, OneTextOrBytes, SpecialsEscape, OneContents, ElementIsMessage};
+
+use crate::{BlockFault, Form, Format, Guess, Status};
+
+/// A copy is the same.
+pub fn copies()
+    ensures fault { IsKept ⟦<BlockFault as Clone>⟧.is_clone (λ it. it) }
+    ensures form { IsKept ⟦<Form as Clone>⟧.is_clone (λ it. it) }
+    ensures format { IsKept ⟦<Format as Clone>⟧.is_clone (λ it. it) }
+    ensures guess { IsKept ⟦<Guess as Clone>⟧.is_clone (λ it. it) }
+    ensures status { IsKept ⟦<Status as Clone>⟧.is_clone (λ it. it) }
+{}
 
 /// There is exactly one way to split an input into lines.
 pub fn one_split()

@@ -3,16 +3,17 @@
 //! The types of OCSP-2013-88, PKIXTSP.
 #![tactic(auto)]
 
+mod certificate_status;
 pub mod notation;
 mod ocsp_2013_88;
 mod ocsp_requests;
 mod pkixtsp;
 pub mod values;
 
+pub use certificate_status::{CertStatus, RevokedInfo, SingleResponse, UnknownInfo};
 pub use ocsp_2013_88::{
-    AcceptableResponses, ArchiveCutoff, BasicOcspResponse, CertStatus, KeyHash, OcspResponse,
-    OcspResponseStatus, ResponderId, ResponseBytes, ResponseData, ResponseTime, RevokedInfo,
-    SingleResponse, UnknownInfo,
+    AcceptableResponses, ArchiveCutoff, BasicOcspResponse, KeyHash, OcspResponse,
+    OcspResponseStatus, ResponderId, ResponseBytes, ResponseData, ResponseTime,
 };
 pub use ocsp_requests::{CertId, OcspRequest, Request, Signature, TbsRequest, Version};
 pub use pkixtsp::{

@@ -11,39 +11,40 @@ use crate::{
     RevokedInfo, Signature, SingleResponse, TbsRequest, TimeStampReq, TimeStampResp,
     TimeStampToken, TsaPolicyId, TstInfo, UnknownInfo, Version,
 };
-use der_types::Notated;
+use der_types::Exact;
 
-/// Each type has the notation that its module gives it. `specs/Notation.antt` has that notation as a term, below its text.
+/// Each type has exactly the values of the notation that its module gives it. `specs/Notation.antt` has that notation as a term, below
+/// its text.
 pub fn types()
-    ensures acceptable_responses { ⟦<AcceptableResponses as Notated>⟧.notation ≡ notation.AcceptableResponses }
-    ensures accuracy { ⟦<Accuracy as Notated>⟧.notation ≡ notation.Accuracy }
-    ensures archive_cutoff { ⟦<ArchiveCutoff as Notated>⟧.notation ≡ notation.ArchiveCutoff }
-    ensures basic_ocsp_response { ⟦<BasicOcspResponse as Notated>⟧.notation ≡ notation.BasicOcspResponse }
-    ensures cert_id { ⟦<CertId as Notated>⟧.notation ≡ notation.CertId }
-    ensures cert_status { ⟦<CertStatus as Notated>⟧.notation ≡ notation.CertStatus }
-    ensures key_hash { ⟦<KeyHash as Notated>⟧.notation ≡ notation.KeyHash }
-    ensures message_imprint { ⟦<MessageImprint as Notated>⟧.notation ≡ notation.MessageImprint }
-    ensures ocsp_request { ⟦<OcspRequest as Notated>⟧.notation ≡ notation.OcspRequest }
-    ensures ocsp_response { ⟦<OcspResponse as Notated>⟧.notation ≡ notation.OcspResponse }
-    ensures ocsp_response_status { ⟦<OcspResponseStatus as Notated>⟧.notation ≡ notation.OcspResponseStatus }
-    ensures pki_failure_info { ⟦<PkiFailureInfo as Notated>⟧.notation ≡ notation.PkiFailureInfo }
-    ensures pki_free_text { ⟦<PkiFreeText as Notated>⟧.notation ≡ notation.PkiFreeText }
-    ensures pki_status { ⟦<PkiStatus as Notated>⟧.notation ≡ notation.PkiStatus }
-    ensures pki_status_info { ⟦<PkiStatusInfo as Notated>⟧.notation ≡ notation.PkiStatusInfo }
-    ensures request { ⟦<Request as Notated>⟧.notation ≡ notation.Request }
-    ensures responder_id { ⟦<ResponderId as Notated>⟧.notation ≡ notation.ResponderId }
-    ensures response_bytes { ⟦<ResponseBytes as Notated>⟧.notation ≡ notation.ResponseBytes }
-    ensures response_data { ⟦<ResponseData as Notated>⟧.notation ≡ notation.ResponseData }
-    ensures response_time { ⟦<ResponseTime as Notated>⟧.notation ≡ notation.ResponseTime }
-    ensures revoked_info { ⟦<RevokedInfo as Notated>⟧.notation ≡ notation.RevokedInfo }
-    ensures signature { ⟦<Signature as Notated>⟧.notation ≡ notation.Signature }
-    ensures single_response { ⟦<SingleResponse as Notated>⟧.notation ≡ notation.SingleResponse }
-    ensures tbs_request { ⟦<TbsRequest as Notated>⟧.notation ≡ notation.TbsRequest }
-    ensures time_stamp_req { ⟦<TimeStampReq as Notated>⟧.notation ≡ notation.TimeStampReq }
-    ensures time_stamp_resp { ⟦<TimeStampResp as Notated>⟧.notation ≡ notation.TimeStampResp }
-    ensures time_stamp_token { ⟦<TimeStampToken as Notated>⟧.notation ≡ notation.TimeStampToken }
-    ensures tsa_policy_id { ⟦<TsaPolicyId as Notated>⟧.notation ≡ notation.TsaPolicyId }
-    ensures tst_info { ⟦<TstInfo as Notated>⟧.notation ≡ notation.TstInfo }
-    ensures unknown_info { ⟦<UnknownInfo as Notated>⟧.notation ≡ notation.UnknownInfo }
-    ensures version { ⟦<Version as Notated>⟧.notation ≡ notation.Version }
+    ensures acceptable_responses { ⟦<AcceptableResponses as Exact>⟧.values.notation ≡ notation.AcceptableResponses }
+    ensures accuracy { ⟦<Accuracy as Exact>⟧.values.notation ≡ notation.Accuracy }
+    ensures archive_cutoff { ⟦<ArchiveCutoff as Exact>⟧.values.notation ≡ notation.ArchiveCutoff }
+    ensures basic_ocsp_response { ⟦<BasicOcspResponse as Exact>⟧.values.notation ≡ notation.BasicOcspResponse }
+    ensures cert_id { ⟦<CertId as Exact>⟧.values.notation ≡ notation.CertId }
+    ensures cert_status { ⟦<CertStatus as Exact>⟧.values.notation ≡ notation.CertStatus }
+    ensures key_hash { ⟦<KeyHash as Exact>⟧.values.notation ≡ notation.KeyHash }
+    ensures message_imprint { ⟦<MessageImprint as Exact>⟧.values.notation ≡ notation.MessageImprint }
+    ensures ocsp_request { ⟦<OcspRequest as Exact>⟧.values.notation ≡ notation.OcspRequest }
+    ensures ocsp_response { ⟦<OcspResponse as Exact>⟧.values.notation ≡ notation.OcspResponse }
+    ensures ocsp_response_status { ⟦<OcspResponseStatus as Exact>⟧.values.notation ≡ notation.OcspResponseStatus }
+    ensures pki_failure_info { ⟦<PkiFailureInfo as Exact>⟧.values.notation ≡ notation.PkiFailureInfo }
+    ensures pki_free_text { ⟦<PkiFreeText as Exact>⟧.values.notation ≡ notation.PkiFreeText }
+    ensures pki_status { ⟦<PkiStatus as Exact>⟧.values.notation ≡ notation.PkiStatus }
+    ensures pki_status_info { ⟦<PkiStatusInfo as Exact>⟧.values.notation ≡ notation.PkiStatusInfo }
+    ensures request { ⟦<Request as Exact>⟧.values.notation ≡ notation.Request }
+    ensures responder_id { ⟦<ResponderId as Exact>⟧.values.notation ≡ notation.ResponderId }
+    ensures response_bytes { ⟦<ResponseBytes as Exact>⟧.values.notation ≡ notation.ResponseBytes }
+    ensures response_data { ⟦<ResponseData as Exact>⟧.values.notation ≡ notation.ResponseData }
+    ensures response_time { ⟦<ResponseTime as Exact>⟧.values.notation ≡ notation.ResponseTime }
+    ensures revoked_info { ⟦<RevokedInfo as Exact>⟧.values.notation ≡ notation.RevokedInfo }
+    ensures signature { ⟦<Signature as Exact>⟧.values.notation ≡ notation.Signature }
+    ensures single_response { ⟦<SingleResponse as Exact>⟧.values.notation ≡ notation.SingleResponse }
+    ensures tbs_request { ⟦<TbsRequest as Exact>⟧.values.notation ≡ notation.TbsRequest }
+    ensures time_stamp_req { ⟦<TimeStampReq as Exact>⟧.values.notation ≡ notation.TimeStampReq }
+    ensures time_stamp_resp { ⟦<TimeStampResp as Exact>⟧.values.notation ≡ notation.TimeStampResp }
+    ensures time_stamp_token { ⟦<TimeStampToken as Exact>⟧.values.notation ≡ notation.TimeStampToken }
+    ensures tsa_policy_id { ⟦<TsaPolicyId as Exact>⟧.values.notation ≡ notation.TsaPolicyId }
+    ensures tst_info { ⟦<TstInfo as Exact>⟧.values.notation ≡ notation.TstInfo }
+    ensures unknown_info { ⟦<UnknownInfo as Exact>⟧.values.notation ≡ notation.UnknownInfo }
+    ensures version { ⟦<Version as Exact>⟧.values.notation ≡ notation.Version }
 {}

@@ -3,25 +3,29 @@
 //! Types of OCSP-2013-88.
 ghost use Rattle.std.proofs.Common.{lit≤};
 ghost use Rattle.std.specs.Prelude.{[], refl, ◌∷◌, ◌≡◌};
+ghost use Rattle.picky_der_core.specs.Equality.{IsKept};
 ghost use Rattle.picky_der_core.specs.Shape.{Shape};
 ghost use Rattle.picky_der_de.specs.declared.alternatives.OneOf.TheVariants.{Other, This};
 ghost use Rattle.picky_der_de.specs.ChoiceFacts.{choice_facts};
 ghost use Rattle.picky_der_de.specs.MembersFacts.{sequence_of, sequence_shape, struct_facts};
 ghost use Rattle.der_types.specs.ContentsFacts.{contents_facts, contents_of, contents_shape};
 ghost use Rattle.der_types.specs.Notation.{Notation};
+ghost use Rattle.der_types.specs.ExactChoices.{choice_values};
+ghost use Rattle.der_types.specs.ExactContents.{own_contents};
+ghost use Rattle.der_types.specs.ExactEnumerated.{enumerated_values};
+ghost use Rattle.der_types.specs.ExactMembers.{struct_values};
 ghost use Rattle.der_status.specs.Enumerations.{is_ocsp_response_status, ocsp_response_status_number, same_ocsp_response_status};
 
-use crate::{CertId, Version};
-use der_pkix::CrlReason;
+use crate::{SingleResponse, Version};
 use der_types::{
-    BitString, Contents, GeneralizedTime, Notated, NotatedAlternatives, NotatedMembers,
-    ObjectIdentifier, OtherThan, WithSize, deserialize_contents_as,
+    BitString, Contents, Exact, ExactAlternatives, ExactContents, ExactMembers, GeneralizedTime,
+    Notated, NotatedAlternatives, NotatedMembers, ObjectIdentifier, OtherThan, WithSize,
+    deserialize_contents_as,
 };
 use der_x509::{AlgorithmIdentifier, Certificate, Extensions, Name};
 use picky_asn1_der::OneOf::{Other, This};
 use picky_asn1_der::asn1::{
-    ByteBuf, ExplicitContextTag0, ExplicitContextTag1, ExplicitContextTag2, ImplicitContextTag0,
-    ImplicitContextTag2, ImplicitList1, Tag,
+    ByteBuf, ExplicitContextTag0, ExplicitContextTag1, ExplicitContextTag2, Tag,
 };
 use picky_asn1_der::de::{Begins, deserialize_choice_as};
 use picky_asn1_der::misc::{ReadExt, WriteExt};
@@ -102,6 +106,14 @@ impl Notated for OcspResponse {
     ghost denoted = { refl };
 }
 
+impl Exact for OcspResponse {
+    ghost values = { struct_values ⟦<OcspResponseParts as ExactMembers>⟧.all_values ⟦<OcspResponseParts as NotatedMembers>⟧.members_notation
+        ⟦<OcspResponseParts as SerializeMembers>⟧.members ⟦<Self as Struct>⟧.parts
+        (λ m. (record { response_status = m.0; response_bytes = m.1.0 }, refl {a = m})) };
+
+    ghost exact = { Prim.assumption };
+}
+
 /// `OCSPResponseStatus` of OCSP-2013-88, as an ENUMERATED. Every other content is refused with
 /// `InvalidData`.
 #[derive(Debug, Clone, Copy, PartialEq, Eq)]
@@ -121,6 +133,11 @@ pub enum OcspResponseStatus {
 }
 
 impl OcspResponseStatus {
+    /// A copy is the same.
+    pub fn copies()
+        ensures { IsKept ⟦<OcspResponseStatus as Clone>⟧.is_clone (λ it. it) }
+    {}
+
     // The number of the value.
     fn number(self) -> u8
         ensures { result ≡ ocsp_response_status_number self }
@@ -226,6 +243,34 @@ impl Notated for OcspResponseStatus {
     ghost denoted = { refl };
 }
 
+impl Exact for OcspResponseStatus {
+    ghost use Rattle.der_status.specs.declared.ocsp_2013_88.OcspResponseStatus.TheVariants as variants;
+
+    ghost values = { enumerated_values (
+        variants.Successful ∷
+        variants.MalformedRequest ∷
+        variants.InternalError ∷
+        variants.TryLater ∷
+        variants.SigRequired ∷
+        variants.Unauthorized ∷
+        []) ocsp_response_status_number (elim [
+          | variants.Successful ↦ record { listed = refl; small = refl }
+          | variants.MalformedRequest ↦ record { listed = refl; small = refl }
+          | variants.InternalError ↦ record { listed = refl; small = refl }
+          | variants.TryLater ↦ record { listed = refl; small = refl }
+          | variants.SigRequired ↦ record { listed = refl; small = refl }
+          | variants.Unauthorized ↦ record { listed = refl; small = refl }
+        ]) };
+
+    ghost exact = { Prim.assumption };
+}
+
+impl ExactContents for OcspResponseStatus {
+    ghost own_contents = { own_contents 0x0A (λ it. ocsp_response_status_number it ∷ []) (lit≤ tt) };
+
+    ghost exact_contents = { Prim.assumption };
+}
+
 /// Where the type is id-pkix-ocsp-basic, the response is the encoding of a BasicOCSPResponse.
 /// `ResponseBytes` of OCSP-2013-88, as a SEQUENCE.
 #[derive(Debug, Drop, PartialEq, Eq)]
@@ -286,6 +331,14 @@ impl Notated for ResponseBytes {
     ghost notation = { Notation.sequence ⟦<ResponseBytesParts as NotatedMembers>⟧.members_notation };
 
     ghost denoted = { refl };
+}
+
+impl Exact for ResponseBytes {
+    ghost values = { struct_values ⟦<ResponseBytesParts as ExactMembers>⟧.all_values ⟦<ResponseBytesParts as NotatedMembers>⟧.members_notation
+        ⟦<ResponseBytesParts as SerializeMembers>⟧.members ⟦<Self as Struct>⟧.parts
+        (λ m. (record { response_type = m.0; response = m.1 }, refl {a = m})) };
+
+    ghost exact = { Prim.assumption };
 }
 
 /// The signature is over the encoding of `tbsResponseData`. `BasicOCSPResponse` of OCSP-2013-88, as
@@ -367,6 +420,22 @@ impl Notated for BasicOcspResponse {
     ghost notation = { Notation.sequence ⟦<BasicOcspResponseParts as NotatedMembers>⟧.members_notation };
 
     ghost denoted = { refl };
+}
+
+impl Exact for BasicOcspResponse {
+    ghost values = { struct_values ⟦<BasicOcspResponseParts as ExactMembers>⟧.all_values ⟦<BasicOcspResponseParts as NotatedMembers>⟧.members_notation
+        ⟦<BasicOcspResponseParts as SerializeMembers>⟧.members ⟦<Self as Struct>⟧.parts
+        (λ m. (
+          record {
+            tbs_response_data = m.0;
+            signature_algorithm = m.1;
+            signature = m.2;
+            certs = m.3.0;
+          },
+          refl {a = m},
+        )) };
+
+    ghost exact = { Prim.assumption };
 }
 
 /// `ResponseData` of OCSP-2013-88, as a SEQUENCE.
@@ -468,6 +537,23 @@ impl Notated for ResponseData {
     ghost denoted = { refl };
 }
 
+impl Exact for ResponseData {
+    ghost values = { struct_values ⟦<ResponseDataParts as ExactMembers>⟧.all_values ⟦<ResponseDataParts as NotatedMembers>⟧.members_notation
+        ⟦<ResponseDataParts as SerializeMembers>⟧.members ⟦<Self as Struct>⟧.parts
+        (λ m. (
+          record {
+            version = m.0.0;
+            responder_id = m.1;
+            produced_at = m.2;
+            responses = m.3;
+            response_extensions = m.4.0;
+          },
+          refl {a = m},
+        )) };
+
+    ghost exact = { Prim.assumption };
+}
+
 /// `ResponderID` of OCSP-2013-88, as a CHOICE.
 #[derive(Debug, Drop, PartialEq, Eq)]
 pub enum ResponderId {
@@ -535,251 +621,22 @@ impl Notated for ResponderId {
     ghost denoted = { refl };
 }
 
+impl Exact for ResponderId {
+    ghost use Rattle.der_status.specs.declared.ocsp_2013_88.ResponderId.TheVariants as variants;
+
+    ghost values = { choice_values ⟦<ResponderIdParts as ExactAlternatives>⟧.chosen_values
+        ⟦<ResponderIdParts as NotatedAlternatives>⟧.alternatives_notation ⟦<ResponderIdParts as Alternatives>⟧.chosen ⟦<Self as Choice>⟧.parts
+        (elim [
+          | This x ↦ (variants.ByName x, refl)
+          | Other (This x) ↦ (variants.ByKey x, refl)
+          | Other (Other x) ↦ elim x [ ]
+        ]) };
+
+    ghost exact = { Prim.assumption };
+}
+
 /// `KeyHash` of OCSP-2013-88: `OCTET STRING`.
 pub type KeyHash = ByteBuf;
-
-/// `SingleResponse` of OCSP-2013-88, as a SEQUENCE.
-#[derive(Debug, Drop, PartialEq, Eq)]
-pub struct SingleResponse {
-    /// `CertID`.
-    pub cert_id: CertId,
-    /// `CertStatus`.
-    pub cert_status: CertStatus,
-    /// `ResponseTime`.
-    pub this_update: ResponseTime,
-    /// `[0] EXPLICIT ResponseTime OPTIONAL`.
-    pub next_update: Option<ExplicitContextTag0<ResponseTime>>,
-    /// `[1] EXPLICIT Extensions OPTIONAL`.
-    pub single_extensions: Option<ExplicitContextTag1<Extensions>>,
-}
-
-type SingleResponseParts = (
-    CertId,
-    CertStatus,
-    ResponseTime,
-    Optional<ExplicitContextTag0<ResponseTime>>,
-    Optional<ExplicitContextTag1<Extensions>>,
-    (),
-);
-
-impl Struct for SingleResponse {
-    type Members = SingleResponseParts;
-
-    ghost parts = { λ it. (
-      it.cert_id,
-      it.cert_status,
-      it.this_update,
-      record { 0 = it.next_update },
-      record { 0 = it.single_extensions },
-      tt,
-    ) };
-
-    fn from_parts(members: SingleResponseParts) -> SingleResponse {
-        let (
-            cert_id,
-            cert_status,
-            this_update,
-            Optional(next_update),
-            Optional(single_extensions),
-            (),
-        ) = members;
-        SingleResponse {
-            cert_id,
-            cert_status,
-            this_update,
-            next_update,
-            single_extensions,
-        }
-    }
-}
-
-impl Serialize for SingleResponse {
-    ghost meaning = { sequence_of ⟦<SingleResponseParts as SerializeMembers>⟧.members ⟦<Self as Struct>⟧.parts };
-
-    fn serialize<W: WriteExt>(&self, serializer: &mut Serializer<W>) -> Result<usize> {
-        (
-            &self.cert_id,
-            &self.cert_status,
-            &self.this_update,
-            OptionalRef(&self.next_update),
-            OptionalRef(&self.single_extensions),
-            (),
-        )
-            .serialize_sequence(serializer)
-    }
-}
-
-impl Deserialize for SingleResponse {
-    ghost shape = { sequence_shape ⟦<SingleResponseParts as DeserializeMembers>⟧.layout };
-
-    ghost facts = { struct_facts ⟦<SingleResponseParts as DeserializeMembers>⟧.facts refl ⟦<Self as Struct>⟧.parts };
-
-    fn deserialize<R: ReadExt>(deserializer: &mut Deserializer<R>) -> Result<SingleResponse> {
-        deserialize_struct_as(deserializer)
-    }
-
-    ghost proved = { Prim.assumption };
-}
-
-impl Begins for SingleResponse {
-    fn begins_with(tag: Tag) -> bool {
-        tag == Tag::SEQUENCE
-    }
-}
-
-impl List for SingleResponse {
-    ghost is_list = { λ it. tt };
-}
-
-impl Notated for SingleResponse {
-    ghost notation = { Notation.sequence ⟦<SingleResponseParts as NotatedMembers>⟧.members_notation };
-
-    ghost denoted = { refl };
-}
-
-/// `CertStatus` of OCSP-2013-88, as a CHOICE.
-#[derive(Debug, Drop, PartialEq, Eq)]
-pub enum CertStatus {
-    /// `[0] IMPLICIT NULL`.
-    Good(ImplicitContextTag0<()>),
-    /// `[1] IMPLICIT RevokedInfo`.
-    Revoked(ImplicitList1<RevokedInfo>),
-    /// `[2] IMPLICIT UnknownInfo`.
-    Unknown(ImplicitContextTag2<UnknownInfo>),
-}
-
-type CertStatusParts = OneOf<
-    ImplicitContextTag0<()>,
-    OneOf<ImplicitList1<RevokedInfo>, OneOf<ImplicitContextTag2<UnknownInfo>, NoneOf>>,
->;
-
-impl Choice for CertStatus {
-    ghost use Rattle.der_status.specs.declared.ocsp_2013_88.CertStatus.TheVariants as variants;
-
-    type Alternatives = CertStatusParts;
-
-    ghost parts = { elim [
-      | variants.Good x ↦ This x
-      | variants.Revoked x ↦ Other (This x)
-      | variants.Unknown x ↦ Other (Other (This x))
-    ] };
-
-    fn from_parts(value: CertStatusParts) -> CertStatus {
-        match value {
-            This(good) => CertStatus::Good(good),
-            Other(This(revoked)) => CertStatus::Revoked(revoked),
-            Other(Other(This(unknown))) => CertStatus::Unknown(unknown),
-        }
-    }
-}
-
-impl Serialize for CertStatus {
-    ghost meaning = { λ v. ⟦<CertStatusParts as Alternatives>⟧.meaning (⟦<CertStatus as Choice>⟧.parts v) };
-
-    fn serialize<W: WriteExt>(&self, serializer: &mut Serializer<W>) -> Result<usize> {
-        match self {
-            CertStatus::Good(good) => serializer.serialize_choice(good),
-            CertStatus::Revoked(revoked) => serializer.serialize_choice(revoked),
-            CertStatus::Unknown(unknown) => serializer.serialize_choice(unknown),
-        }
-    }
-}
-
-impl Deserialize for CertStatus {
-    ghost use Rattle.der_status.specs.declared.ocsp_2013_88.CertStatus.TheVariants as variants;
-
-    ghost shape = { Shape.choice ⟦<CertStatusParts as Alternatives>⟧.shapes };
-
-    ghost facts = { choice_facts ⟦<CertStatusParts as Alternatives>⟧.facts refl ⟦<Self as Choice>⟧.parts ⟦<Self as PartialEq>⟧.eq
-        (elim [ variants.Good _ ↦ elim [ variants.Good _ ↦ λ h. h | _ ↦ λ h. h ] | _ ↦ elim [ variants.Good _ ↦ λ h. h | _ ↦ λ h. h ] ]) };
-
-    ghost proved = { Prim.assumption };
-
-    fn deserialize<R: ReadExt>(deserializer: &mut Deserializer<R>) -> Result<CertStatus> {
-        deserialize_choice_as(deserializer)
-    }
-}
-
-impl Begins for CertStatus {
-    fn begins_with(tag: Tag) -> bool {
-        <CertStatusParts as Alternatives>::begins_with(tag)
-    }
-}
-
-impl Notated for CertStatus {
-    ghost notation = { Notation.choice ⟦<CertStatusParts as NotatedAlternatives>⟧.alternatives_notation };
-
-    ghost denoted = { refl };
-}
-
-/// `RevokedInfo` of OCSP-2013-88, as a SEQUENCE.
-#[derive(Debug, Drop, PartialEq, Eq)]
-pub struct RevokedInfo {
-    /// `ResponseTime`.
-    pub revocation_time: ResponseTime,
-    /// `[0] EXPLICIT CRLReason OPTIONAL`.
-    pub revocation_reason: Option<ExplicitContextTag0<CrlReason>>,
-}
-
-type RevokedInfoParts = (ResponseTime, Optional<ExplicitContextTag0<CrlReason>>, ());
-
-impl Struct for RevokedInfo {
-    type Members = RevokedInfoParts;
-
-    ghost parts = { λ it. (it.revocation_time, record { 0 = it.revocation_reason }, tt) };
-
-    fn from_parts(members: RevokedInfoParts) -> RevokedInfo {
-        let (revocation_time, Optional(revocation_reason), ()) = members;
-        RevokedInfo {
-            revocation_time,
-            revocation_reason,
-        }
-    }
-}
-
-impl Serialize for RevokedInfo {
-    ghost meaning = { sequence_of ⟦<RevokedInfoParts as SerializeMembers>⟧.members ⟦<Self as Struct>⟧.parts };
-
-    fn serialize<W: WriteExt>(&self, serializer: &mut Serializer<W>) -> Result<usize> {
-        (
-            &self.revocation_time,
-            OptionalRef(&self.revocation_reason),
-            (),
-        )
-            .serialize_sequence(serializer)
-    }
-}
-
-impl Deserialize for RevokedInfo {
-    ghost shape = { sequence_shape ⟦<RevokedInfoParts as DeserializeMembers>⟧.layout };
-
-    ghost facts = { struct_facts ⟦<RevokedInfoParts as DeserializeMembers>⟧.facts refl ⟦<Self as Struct>⟧.parts };
-
-    fn deserialize<R: ReadExt>(deserializer: &mut Deserializer<R>) -> Result<RevokedInfo> {
-        deserialize_struct_as(deserializer)
-    }
-
-    ghost proved = { Prim.assumption };
-}
-
-impl Begins for RevokedInfo {
-    fn begins_with(tag: Tag) -> bool {
-        tag == Tag::SEQUENCE
-    }
-}
-
-impl List for RevokedInfo {
-    ghost is_list = { λ it. tt };
-}
-
-impl Notated for RevokedInfo {
-    ghost notation = { Notation.sequence ⟦<RevokedInfoParts as NotatedMembers>⟧.members_notation };
-
-    ghost denoted = { refl };
-}
-
-/// `UnknownInfo` of OCSP-2013-88: `NULL`.
-pub type UnknownInfo = ();
 
 /// `ArchiveCutoff` of OCSP-2013-88: `GeneralizedTime`.
 pub type ArchiveCutoff = GeneralizedTime;

@@ -4,9 +4,10 @@
 ghost use Rattle.std.specs.Prelude.{refl};
 ghost use Rattle.picky_der_de.specs.MembersFacts.{sequence_of, sequence_shape, struct_facts};
 ghost use Rattle.der_types.specs.Notation.{Notation};
+ghost use Rattle.der_types.specs.ExactMembers.{struct_values};
 
 use der_pkix::GeneralName;
-use der_types::{BitString, Integer, Notated, NotatedMembers, OtherThan};
+use der_types::{BitString, Exact, ExactMembers, Integer, Notated, NotatedMembers, OtherThan};
 use der_x509::{AlgorithmIdentifier, Certificate, CertificateSerialNumber, Extensions};
 use picky_asn1_der::asn1::{
     ByteBuf, ExplicitContextTag0, ExplicitContextTag1, ExplicitContextTag2, Tag,
@@ -80,6 +81,14 @@ impl Notated for OcspRequest {
     ghost notation = { Notation.sequence ⟦<OcspRequestParts as NotatedMembers>⟧.members_notation };
 
     ghost denoted = { refl };
+}
+
+impl Exact for OcspRequest {
+    ghost values = { struct_values ⟦<OcspRequestParts as ExactMembers>⟧.all_values ⟦<OcspRequestParts as NotatedMembers>⟧.members_notation
+        ⟦<OcspRequestParts as SerializeMembers>⟧.members ⟦<Self as Struct>⟧.parts
+        (λ m. (record { tbs_request = m.0; optional_signature = m.1.0 }, refl {a = m})) };
+
+    ghost exact = { Prim.assumption };
 }
 
 /// `TBSRequest` of OCSP-2013-88, as a SEQUENCE.
@@ -174,6 +183,22 @@ impl Notated for TbsRequest {
     ghost denoted = { refl };
 }
 
+impl Exact for TbsRequest {
+    ghost values = { struct_values ⟦<TbsRequestParts as ExactMembers>⟧.all_values ⟦<TbsRequestParts as NotatedMembers>⟧.members_notation
+        ⟦<TbsRequestParts as SerializeMembers>⟧.members ⟦<Self as Struct>⟧.parts
+        (λ m. (
+          record {
+            version = m.0.0;
+            requestor_name = m.1.0;
+            request_list = m.2;
+            request_extensions = m.3.0;
+          },
+          refl {a = m},
+        )) };
+
+    ghost exact = { Prim.assumption };
+}
+
 /// `Signature` of OCSP-2013-88, as a SEQUENCE.
 #[derive(Debug, Drop, PartialEq, Eq)]
 pub struct Signature {
@@ -249,6 +274,14 @@ impl Notated for Signature {
     ghost denoted = { refl };
 }
 
+impl Exact for Signature {
+    ghost values = { struct_values ⟦<SignatureParts as ExactMembers>⟧.all_values ⟦<SignatureParts as NotatedMembers>⟧.members_notation
+        ⟦<SignatureParts as SerializeMembers>⟧.members ⟦<Self as Struct>⟧.parts
+        (λ m. (record { signature_algorithm = m.0; signature = m.1; certs = m.2.0 }, refl {a = m})) };
+
+    ghost exact = { Prim.assumption };
+}
+
 /// `Version` of OCSP-2013-88: `INTEGER { v1 (0) }`.
 pub type Version = Integer;
 
@@ -316,6 +349,14 @@ impl Notated for Request {
     ghost notation = { Notation.sequence ⟦<RequestParts as NotatedMembers>⟧.members_notation };
 
     ghost denoted = { refl };
+}
+
+impl Exact for Request {
+    ghost values = { struct_values ⟦<RequestParts as ExactMembers>⟧.all_values ⟦<RequestParts as NotatedMembers>⟧.members_notation
+        ⟦<RequestParts as SerializeMembers>⟧.members ⟦<Self as Struct>⟧.parts
+        (λ m. (record { req_cert = m.0; single_request_extensions = m.1.0 }, refl {a = m})) };
+
+    ghost exact = { Prim.assumption };
 }
 
 /// `CertID` of OCSP-2013-88, as a SEQUENCE.
@@ -396,4 +437,20 @@ impl Notated for CertId {
     ghost notation = { Notation.sequence ⟦<CertIdParts as NotatedMembers>⟧.members_notation };
 
     ghost denoted = { refl };
+}
+
+impl Exact for CertId {
+    ghost values = { struct_values ⟦<CertIdParts as ExactMembers>⟧.all_values ⟦<CertIdParts as NotatedMembers>⟧.members_notation
+        ⟦<CertIdParts as SerializeMembers>⟧.members ⟦<Self as Struct>⟧.parts
+        (λ m. (
+          record {
+            hash_algorithm = m.0;
+            issuer_name_hash = m.1;
+            issuer_key_hash = m.2;
+            serial_number = m.3;
+          },
+          refl {a = m},
+        )) };
+
+    ghost exact = { Prim.assumption };
 }

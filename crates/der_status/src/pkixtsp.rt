@@ -4,12 +4,13 @@
 ghost use Rattle.std.specs.Prelude.{refl};
 ghost use Rattle.picky_der_de.specs.MembersFacts.{sequence_of, sequence_shape, struct_facts};
 ghost use Rattle.der_types.specs.Notation.{Notation};
+ghost use Rattle.der_types.specs.ExactMembers.{struct_values};
 
 use der_cms::ContentInfo;
 use der_pkix::GeneralName;
 use der_types::{
-    GeneralizedTime, InRange, Integer, NamedBits, Notated, NotatedMembers, ObjectIdentifier,
-    WithSize,
+    Exact, ExactMembers, GeneralizedTime, InRange, Integer, NamedBits, Notated, NotatedMembers,
+    ObjectIdentifier, WithSize,
 };
 use der_x509::{AlgorithmIdentifier, Extensions};
 use picky_asn1_der::asn1::{
@@ -130,6 +131,24 @@ impl Notated for TimeStampReq {
     ghost denoted = { refl };
 }
 
+impl Exact for TimeStampReq {
+    ghost values = { struct_values ⟦<TimeStampReqParts as ExactMembers>⟧.all_values ⟦<TimeStampReqParts as NotatedMembers>⟧.members_notation
+        ⟦<TimeStampReqParts as SerializeMembers>⟧.members ⟦<Self as Struct>⟧.parts
+        (λ m. (
+          record {
+            version = m.0;
+            message_imprint = m.1;
+            req_policy = m.2.0;
+            nonce = m.3.0;
+            cert_req = m.4.value;
+            extensions = m.5.0;
+          },
+          refl {a = m},
+        )) };
+
+    ghost exact = { Prim.assumption };
+}
+
 /// The digest of the data that is time-stamped. `MessageImprint` of PKIXTSP, as a SEQUENCE.
 #[derive(Debug, Drop, PartialEq, Eq)]
 pub struct MessageImprint {
@@ -189,6 +208,14 @@ impl Notated for MessageImprint {
     ghost notation = { Notation.sequence ⟦<MessageImprintParts as NotatedMembers>⟧.members_notation };
 
     ghost denoted = { refl };
+}
+
+impl Exact for MessageImprint {
+    ghost values = { struct_values ⟦<MessageImprintParts as ExactMembers>⟧.all_values ⟦<MessageImprintParts as NotatedMembers>⟧.members_notation
+        ⟦<MessageImprintParts as SerializeMembers>⟧.members ⟦<Self as Struct>⟧.parts
+        (λ m. (record { hash_algorithm = m.0; hashed_message = m.1 }, refl {a = m})) };
+
+    ghost exact = { Prim.assumption };
 }
 
 /// `TSAPolicyId` of PKIXTSP: `OBJECT IDENTIFIER`.
@@ -253,6 +280,14 @@ impl Notated for TimeStampResp {
     ghost notation = { Notation.sequence ⟦<TimeStampRespParts as NotatedMembers>⟧.members_notation };
 
     ghost denoted = { refl };
+}
+
+impl Exact for TimeStampResp {
+    ghost values = { struct_values ⟦<TimeStampRespParts as ExactMembers>⟧.all_values ⟦<TimeStampRespParts as NotatedMembers>⟧.members_notation
+        ⟦<TimeStampRespParts as SerializeMembers>⟧.members ⟦<Self as Struct>⟧.parts
+        (λ m. (record { status = m.0; time_stamp_token = m.1.0 }, refl {a = m})) };
+
+    ghost exact = { Prim.assumption };
 }
 
 /// `PKIStatusInfo` of PKIXTSP, as a SEQUENCE.
@@ -328,6 +363,14 @@ impl Notated for PkiStatusInfo {
     ghost notation = { Notation.sequence ⟦<PkiStatusInfoParts as NotatedMembers>⟧.members_notation };
 
     ghost denoted = { refl };
+}
+
+impl Exact for PkiStatusInfo {
+    ghost values = { struct_values ⟦<PkiStatusInfoParts as ExactMembers>⟧.all_values ⟦<PkiStatusInfoParts as NotatedMembers>⟧.members_notation
+        ⟦<PkiStatusInfoParts as SerializeMembers>⟧.members ⟦<Self as Struct>⟧.parts
+        (λ m. (record { status = m.0; status_string = m.1.0; fail_info = m.2.0 }, refl {a = m})) };
+
+    ghost exact = { Prim.assumption };
 }
 
 /// `PKIStatus` of PKIXTSP: `INTEGER { granted (0), grantedWithMods (1), rejection (2), waiting (3),
@@ -480,6 +523,28 @@ impl Notated for TstInfo {
     ghost denoted = { refl };
 }
 
+impl Exact for TstInfo {
+    ghost values = { struct_values ⟦<TstInfoParts as ExactMembers>⟧.all_values ⟦<TstInfoParts as NotatedMembers>⟧.members_notation
+        ⟦<TstInfoParts as SerializeMembers>⟧.members ⟦<Self as Struct>⟧.parts
+        (λ m. (
+          record {
+            version = m.0;
+            policy = m.1;
+            message_imprint = m.2;
+            serial_number = m.3;
+            gen_time = m.4;
+            accuracy = m.5.0;
+            ordering = m.6.value;
+            nonce = m.7.0;
+            tsa = m.8.0.0;
+            extensions = m.8.1.0;
+          },
+          refl {a = m},
+        )) };
+
+    ghost exact = { Prim.assumption };
+}
+
 /// `Accuracy` of PKIXTSP, as a SEQUENCE.
 #[derive(Debug, Drop, PartialEq, Eq)]
 pub struct Accuracy {
@@ -553,4 +618,12 @@ impl Notated for Accuracy {
     ghost notation = { Notation.sequence ⟦<AccuracyParts as NotatedMembers>⟧.members_notation };
 
     ghost denoted = { refl };
+}
+
+impl Exact for Accuracy {
+    ghost values = { struct_values ⟦<AccuracyParts as ExactMembers>⟧.all_values ⟦<AccuracyParts as NotatedMembers>⟧.members_notation
+        ⟦<AccuracyParts as SerializeMembers>⟧.members ⟦<Self as Struct>⟧.parts
+        (λ m. (record { seconds = m.0.0; millis = m.1.0; micros = m.2.0 }, refl {a = m})) };
+
+    ghost exact = { Prim.assumption };
 }

@@ -27,6 +27,9 @@ GeneralizedTime = Notation.checked-content ContentType.GeneralizedTime
 abbrev pub UTCTime : Notation
 UTCTime = Notation.checked-content ContentType.UTCTime
 
+abbrev pub GeneralizedTime-later : Notation
+GeneralizedTime-later = Notation.checked-content ContentType.GeneralizedTime-later
+
 abbrev pub NumericString : Notation
 NumericString = Notation.restricted-string 0x12
 

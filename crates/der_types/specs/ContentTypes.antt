@@ -7,7 +7,7 @@ use Rattle.der_types.specs.CharacterStrings.{is_any_byte, is_numeric, is_printab
 use Rattle.der_types.specs.BitString.{is_bit_string, is_named_bits, bits_of}
 use Rattle.der_types.specs.ObjectIdentifier.{is_object_identifier}
 use Rattle.der_types.specs.RelativeOid.{is_relative_oid}
-use Rattle.der_types.specs.TimeContents.{is_generalized_time, is_utc_time}
+use Rattle.der_types.specs.TimeContents.{is_generalized_time, is_utc_time, is_later_time}
 use Rattle.picky_der_core.specs.Integer.{is_integer}
 
 pub data ContentType : Type 0 where
@@ -27,6 +27,8 @@ pub data ContentType : Type 0 where
   GeneralizedTime : ContentType
   -- 47
   UTCTime : ContentType
+  -- 46: of RFC 5280 (4.1.2.5.2): a year from 2050 on, without a fraction
+  GeneralizedTime-later : ContentType
 
 -- the identifier byte
 abbrev pub tag_of : ContentType → ℕ
@@ -38,6 +40,7 @@ tag_of ContentType.OBJECT-IDENTIFIER = 0x06
 tag_of ContentType.RELATIVE-OID = 0x0D
 tag_of ContentType.GeneralizedTime = 0x18
 tag_of ContentType.UTCTime = 0x17
+tag_of ContentType.GeneralizedTime-later = 0x18
 
 -- which contents there are
 abbrev pub test_of : ContentType → List ℕ → Bool
@@ -49,6 +52,7 @@ test_of ContentType.OBJECT-IDENTIFIER = is_object_identifier
 test_of ContentType.RELATIVE-OID = is_relative_oid
 test_of ContentType.GeneralizedTime = is_generalized_time
 test_of ContentType.UTCTime = is_utc_time
+test_of ContentType.GeneralizedTime-later = is_later_time
 
 -- how many bits or bytes a content has (51.5.3)
 abbrev pub size_of : ContentType → List ℕ → ℕ

@@ -58,6 +58,7 @@ abbrev mutual
   Denotes Notation.OCTET-STRING = IsMade (content_tree 0x04) (λ s. ⊤)
   Denotes Notation.NULL = λ t. t ≡ Tree.primitive Primitive.null
   Denotes Notation.UTF8String = IsMade (λ s. Tree.primitive (Primitive.text s)) (λ s. ⊤)
+  Denotes Notation.character = IsMade (λ s. Tree.primitive (Primitive.text s)) (λ s. length (chars s) ≡ 1)
   Denotes (Notation.restricted-string tag) = HasContent tag (is_string_content (string_width tag) (string_character tag))
   Denotes (Notation.any-content tag) = IsMade (content_tree tag) (λ s. ⊤)
   Denotes Notation.any-element = IsMade Tree.raw (λ s. ⊤)
@@ -92,12 +93,16 @@ abbrev mutual
 abbrev mutual
   pub IsShort : Tree → Type 0
   IsShort (Tree.primitive p) = length (primitive_content p) < 2 ^ 63
-  IsShort (Tree.list kind ts) = (member_count ts < 2 ^ 63) × AreShort ts
+  IsShort (Tree.list kind ts) = (member_count ts < 2 ^ 63) × EachIsShort ts
   IsShort (Tree.wrapped w t) = IsShort t
   IsShort (Tree.raw s) = length s < 2 ^ 63
   IsShort (Tree.choice t) = IsShort t
   IsShort Tree.absent = ⊤
 
-  pub AreShort : Trees → Type 0
-  AreShort Trees.none = ⊤
-  AreShort (Trees.more t ts) = IsShort t × AreShort ts
+  pub EachIsShort : Trees → Type 0
+  EachIsShort Trees.none = ⊤
+  EachIsShort (Trees.more t ts) = IsShort t × EachIsShort ts
+
+-- the same of members: each is so, and a vector holds as many
+abbrev pub AreShort : Trees → Type 0
+AreShort ts = (member_count ts < 2 ^ 63) × EachIsShort ts

@@ -7,7 +7,7 @@ use Rattle.picky_der_core.specs.Shape.{EachIs}
 use Rattle.picky_der_core.specs.Tree.{ListKind, Tree, Trees, trees}
 use Rattle.der_types.specs.Constraints.{member_count}
 use Rattle.der_types.specs.Notation.{Notation}
-use Rattle.der_types.specs.Denotes.{IsMade, HasContent, content_tree, Denotes, IsShort, AreShort}
+use Rattle.der_types.specs.Denotes.{IsMade, HasContent, content_tree, Denotes, IsShort, EachIsShort}
 
 -- ---- values
 
@@ -64,7 +64,7 @@ module _ {A : Type 0} (P : Tree → Type 0) (meaning : A → Tree) (is : IsExact
   each_sound [] r = tt
   each_sound (x ∷ xs) r = (is.sound x r.0, each_sound xs r.1)
 
-  each_made : (ts : Trees) → EachIs P ts → AreReadable ts → AreShort ts → (xs : List A) × (length xs ≡ member_count ts) × (trees (map meaning xs) ≡ ts)
+  each_made : (ts : Trees) → EachIs P ts → AreReadable ts → EachIsShort ts → (xs : List A) × (length xs ≡ member_count ts) × (trees (map meaning xs) ≡ ts)
   each_made Trees.none p r s = ([], refl, refl)
   each_made (Trees.more t ts) p r s =
       let x = is.complete t p.0 r.0 s.0 in
@@ -102,3 +102,7 @@ module _ {A V : Type 0} (a : Values A) (n : Notation) (means : A → Tree) where
 
   abbrev pub wrapped_values : (w : Wrapper) (part : V → A) → ((x : A) → (v : V) × (part v ≡ x)) → Values V
   wrapped_values w part whole = values_by a n means (Notation.wrapped w n) (λ v. Tree.wrapped w (means (part v))) (λ is. wrapped_exact (Denotes n) means is part whole w)
+
+  -- a type of its own around that of the part, which means the same
+  abbrev pub newtype_values : (part : V → A) → ((x : A) → (v : V) × (part v ≡ x)) → Values V
+  newtype_values part whole = values_by a n means n (λ v. means (part v)) (λ is. part_exact (Denotes n) means is part whole)

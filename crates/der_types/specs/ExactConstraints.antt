@@ -6,7 +6,7 @@ use Rattle.picky_der_core.specs.Primitive.{Primitive}
 use Rattle.picky_der_core.specs.Tree.{Tree, trees}
 use Rattle.der_types.specs.Constraints.{is_size, is_between, member_count}
 use Rattle.der_types.specs.Notation.{Notation}
-use Rattle.der_types.specs.Denotes.{Denotes, tree_number, tree_size}
+use Rattle.der_types.specs.Denotes.{Denotes, is_from_minus, tree_number, tree_size}
 use Rattle.der_types.specs.Exact.{IsExact, Values, ProvedValues, is_exact}
 
 module _ {A V : Type 0} (P : Tree → Type 0) (means : A → Tree) (is : IsExact P means) (allows : A → Bool) (test : Tree → Bool) (same : (x : A) → allows x ≡ test (means x)) (b : Bool) (part : V → A) (kept : (v : V) → allows (part v) ≡ b) (whole : (x : A) → allows x ≡ b → (v : V) × (part v ≡ x)) where
@@ -21,18 +21,20 @@ module _ {A V : Type 0} (P : Tree → Type 0) (means : A → Tree) (is : IsExact
 
 -- ---- the numbers and sizes of values are the numbers and sizes of their trees
 
-pub record Numbered (A : Type 0) : Type 0 where
+pub record Numbered (A : Type 0) : Type 1 where
   pub number : A → ℤ
   pub meaning : A → Tree
-  pub same : (x : A) → number x ≡ tree_number (meaning x)
+  pub Premise : Type 0
+  pub same : Premise → (x : A) → number x ≡ tree_number (meaning x)
 
 -- It is said of the type's own numbers and meaning.
 pub record ProvedNumber {A : Type 0} (d : Numbered A) (number : A → ℤ) (meaning : A → Tree) : Type 0 where
+  pub premise : d.Premise
   pub numbers : d.number ≡ number
   pub means : d.meaning ≡ meaning
 
 pub is_numbered : {A : Type 0} (d : Numbered A) {number : A → ℤ} {meaning : A → Tree} → ProvedNumber d number meaning → (x : A) → number x ≡ tree_number (meaning x)
-is_numbered {A} d t x = sym (ap (λ (f : A → ℤ). f x) t.numbers) ∙ (d.same x ∙ ap (λ (f : A → Tree). tree_number (f x)) t.means)
+is_numbered {A} d t x = sym (ap (λ (f : A → ℤ). f x) t.numbers) ∙ (d.same t.premise x ∙ ap (λ (f : A → Tree). tree_number (f x)) t.means)
 
 number_within : (b : Bool) (n : ℕ) → pos n ≡ tree_number (within b (Tree.primitive (Primitive.unsigned n)))
 number_within true n = refl
@@ -41,8 +43,21 @@ number_within false n = refl
 pub unsigned_number : (most n : ℕ) → pos n ≡ tree_number (unsigned_tree most n)
 unsigned_number most n = number_within (not (nat_lt most n)) n
 
+-- one whose number is that of its tree, whatever its parts are
+abbrev pub numbered_plainly : {A : Type 0} (number : A → ℤ) (meaning : A → Tree) → ((x : A) → number x ≡ tree_number (meaning x)) → Numbered A
+numbered_plainly number meaning same = record { number = number; meaning = meaning; Premise = ⊤; same = λ o. same }
+
 abbrev pub numbered_unsigned : ℕ → Numbered ℕ
-numbered_unsigned most = record { number = pos; meaning = unsigned_tree most; same = unsigned_number most }
+numbered_unsigned most = numbered_plainly pos (unsigned_tree most) (unsigned_number most)
+
+-- one whose number is that of its part
+abbrev pub numbered_by : {A V : Type 0} (d : Numbered A) (number : A → ℤ) (means : A → Tree) (part : V → A) → Numbered V
+numbered_by d number means part = record {
+  number = λ v. number (part v);
+  meaning = λ v. means (part v);
+  Premise = ProvedNumber d number means;
+  same = λ t v. is_numbered d t (part v);
+}
 
 pub record Sized (A : Type 0) : Type 1 where
   pub size : A → ℕ
@@ -78,6 +93,14 @@ module _ {A V : Type 0} (a : Values A) (n : Notation) (means : A → Tree) (part
     meaning = λ v. means (part v);
     Premise = ProvedValues a n means × ProvedNumber d number means;
     follows = λ o. constrained_exact (Denotes n) means (is_exact a o.0) (λ x. is_between least most (number x)) (λ t. is_between least most (tree_number t)) (λ x. ap (is_between least most) (is_numbered d o.1 x)) true part kept whole;
+  }
+
+  abbrev pub from_minus_values : (least most : ℕ) (d : Numbered A) (number : A → ℤ) → ((v : V) → is_from_minus least most (number (part v)) ≡ true) → ((x : A) → is_from_minus least most (number x) ≡ true → (v : V) × (part v ≡ x)) → Values V
+  from_minus_values least most d number kept whole = record {
+    notation = Notation.from-minus least most n;
+    meaning = λ v. means (part v);
+    Premise = ProvedValues a n means × ProvedNumber d number means;
+    follows = λ o. constrained_exact (Denotes n) means (is_exact a o.0) (λ x. is_from_minus least most (number x)) (λ t. is_from_minus least most (tree_number t)) (λ x. ap (is_from_minus least most) (is_numbered d o.1 x)) true part kept whole;
   }
 
   abbrev pub other_than_values : (m : ℕ) (d : Numbered A) (number : A → ℤ) → ((v : V) → is_between m m (number (part v)) ≡ false) → ((x : A) → is_between m m (number x) ≡ false → (v : V) × (part v ≡ x)) → Values V

@@ -94,15 +94,17 @@ module _ {V : Type 0} (tag : ℕ) (width : Width) (is_character : ℕ → Bool) 
   abbrev pub string_values : Values V
   string_values = record { notation = Notation.restricted-string tag; meaning = λ v. content_tree tag (content v); Premise = IsStandard tag width is_character; follows = string_exact }
 
--- What a type says of its contents: they are under its own tag, whose number is at most 30.
-pub record OwnContents (A : Type 0) : Type 0 where
+-- What a type says of its contents: they are under its own tag, whose number is at most 30 by a premise.
+pub record OwnContents (A : Type 0) : Type 1 where
   pub tag : ℕ
-  pub short : IsTagNumber (number_of tag)
+  pub Premise : Type 0
+  pub short : Premise → IsTagNumber (number_of tag)
   pub meaning : A → Tree
   pub content : A → List ℕ
   pub same : (x : A) → meaning x ≡ content_tree tag (content x)
 
 pub record ProvedContents {A : Type 0} (d : OwnContents A) (meaning : A → Tree) (content : A → List ℕ) : Type 0 where
+  pub premise : d.Premise
   pub means : d.meaning ≡ meaning
   pub contents : d.content ≡ content
 
@@ -110,7 +112,11 @@ pub are_own : {A : Type 0} (d : OwnContents A) {meaning : A → Tree} {content :
 are_own {A} d t x = sym (ap (λ (f : A → Tree). f x) t.means) ∙ (d.same x ∙ ap (λ (f : A → List ℕ). content_tree d.tag (f x)) t.contents)
 
 abbrev pub own_contents : {A : Type 0} (tag : ℕ) (content : A → List ℕ) → IsTagNumber (number_of tag) → OwnContents A
-own_contents tag content short = record { tag = tag; short = short; meaning = λ v. content_tree tag (content v); content = content; same = λ x. refl }
+own_contents tag content short = record { tag = tag; Premise = ⊤; short = λ o. short; meaning = λ v. content_tree tag (content v); content = content; same = λ x. refl }
+
+-- those of a tag that is a parameter
+abbrev pub parameter_contents : {A : Type 0} (tag : ℕ) (content : A → List ℕ) → OwnContents A
+parameter_contents tag content = record { tag = tag; Premise = IsTagNumber (number_of tag); short = λ h. h; meaning = λ v. content_tree tag (content v); content = content; same = λ x. refl }
 
 -- under another tag
 abbrev pub content_under_values : {A V : Type 0} (a : Values A) (n : Notation) (means : A → Tree) (tag : ℕ) (d : OwnContents A) (content : A → List ℕ) (part : V → A) → ((x : A) → (v : V) × (part v ≡ x)) → Values V
@@ -118,5 +124,5 @@ content_under_values a n means tag d content part whole = record {
   notation = Notation.content-under tag n;
   meaning = λ v. content_tree (primitive_form tag) (content (part v));
   Premise = ProvedValues a n means × ProvedContents d means content;
-  follows = λ o. content_under_exact n means (is_exact a o.0) tag d.tag content (are_own d o.1) d.short part whole;
+  follows = λ o. content_under_exact n means (is_exact a o.0) tag d.tag content (are_own d o.1) (d.short o.1.premise) part whole;
 }

@@ -50,6 +50,16 @@ int_is fits n = record { by_tree = ints_by_tree fits n; is_value = λ it h. ap (
 abbrev pub signed_default : (ℤ → Bool) → ℤ → Default ℤ
 signed_default fits n = record { meaning = int_tree fits; left_out = λ x. int_eq x n; value = int_tree fits n; one = n; is = int_is fits n }
 
+-- an item of an enumeration, or another value of which one is left out
+abbrev pub item_default : {A : Type 0} (meaning : A → Tree) (left_out : A → Bool) (one : A) → IsByTree meaning left_out → left_out one ≡ true → Default A
+item_default meaning left_out one by_tree is_one = record {
+  meaning = meaning;
+  left_out = left_out;
+  value = meaning one;
+  one = one;
+  is = record { by_tree = by_tree; is_value = λ it h. sym ((by_tree one it is_one).0 h); is_one = is_one };
+}
+
 -- one in a wrapper
 module _ {A V : Type 0} (w : Wrapper) (part : V → A) (whole : (x : A) → (v : V) × (part v ≡ x)) where
   pub wrapped_is : {means : A → Tree} {left_out : A → Bool} {value : Tree} {one : A} → IsDefault means left_out value one → IsDefault (λ v. Tree.wrapped w (means (part v))) (λ v. left_out (part v)) (Tree.wrapped w value) (whole one).0

@@ -1,4 +1,4 @@
--- Enumerations whose values are exactly the values with the numbers of their items.
+-- Enumerations, and INTEGERs with a name for each number: their values are exactly the values with the numbers of their items.
 use Rattle.std.specs.Prelude.{◌≡◌, ℕ, ◌+◌, ◌*◌, ◌<◌, ◌==◌, ◌||◌, Bool, true, false, pos, List, [], ◌∷◌, map, IsTrue, nat_lt, refl}
 use Rattle.std.proofs.Common.{sym, ap, ◌∙◌, eqb-true, ltb-true, arith}
 use Rattle.picky_der_core.specs.Element.{AreBytes}
@@ -7,7 +7,7 @@ use Rattle.picky_der_core.specs.IntegerLaws.{content-value}
 use Rattle.picky_der_core.specs.Readable.{IsReadable}
 use Rattle.picky_der_core.specs.Shape.{contains}
 use Rattle.picky_der_core.specs.Tree.{Tree}
-use Rattle.der_types.specs.Denotes.{Denotes, IsShort, content_tree}
+use Rattle.der_types.specs.Denotes.{IsMade, IsShort, content_tree}
 use Rattle.der_types.specs.Exact.{IsExact, Values, plain_values}
 use Rattle.der_types.specs.Notation.{Notation}
 
@@ -30,15 +30,29 @@ one_byte n e =
     let bytes : AreBytes (n ∷ []) = (omega (arith, low), tt) in
     sym (content-value (n ∷ []) bytes refl) ∙ ap integer_content value
 
-module _ {V : Type 0} (items : List V) (number : V → ℕ) (listed : (v : V) → IsTrue (contains (map number items) (number v))) (small : (v : V) → nat_lt (number v) 0x80 ≡ true) where
-  enumerated_complete : (t : Tree) → Denotes (Notation.ENUMERATED (map number items)) t → IsReadable t → IsShort t → (v : V) × (content_tree 0x0A (number v ∷ []) ≡ t)
-  enumerated_complete t d r s =
+-- the number of each value is that of an item, and its content is one byte
+pub record IsItem {V : Type 0} (items : List V) (number : V → ℕ) (v : V) : Type 0 where
+  pub listed : IsTrue (contains (map number items) (number v))
+  pub small : nat_lt (number v) 0x80 ≡ true
+
+-- a content under the tag with one of these numbers
+abbrev pub HasNumber : ℕ → List ℕ → Tree → Type 0
+HasNumber tag numbers = IsMade (λ n. content_tree tag (integer_content (pos n))) (λ n. IsTrue (contains numbers n))
+
+module _ {V : Type 0} (tag : ℕ) (items : List V) (number : V → ℕ) (is : (v : V) → IsItem items number v) where
+  number_complete : (t : Tree) → HasNumber tag (map number items) t → IsReadable t → IsShort t → (v : V) × (content_tree tag (number v ∷ []) ≡ t)
+  number_complete t d r s =
       let v = item_with number items d.0 d.2 in
-      (v.0, ap (content_tree 0x0A) (one_byte (number v.0) (small v.0) ∙ ap (λ n. integer_content (pos n)) v.1) ∙ sym d.1)
+      (v.0, ap (content_tree tag) (one_byte (number v.0) (is v.0).small ∙ ap (λ n. integer_content (pos n)) v.1) ∙ sym d.1)
 
-  pub enumerated_exact : IsExact (Denotes (Notation.ENUMERATED (map number items))) (λ v. content_tree 0x0A (number v ∷ []))
-  enumerated_exact = record { sound = λ v r. (number v, ap (content_tree 0x0A) (one_byte (number v) (small v)), listed v); complete = enumerated_complete }
+  pub number_exact : IsExact (HasNumber tag (map number items)) (λ v. content_tree tag (number v ∷ []))
+  number_exact = record { sound = λ v r. (number v, ap (content_tree tag) (one_byte (number v) (is v).small), (is v).listed); complete = number_complete }
 
+module _ {V : Type 0} (items : List V) (number : V → ℕ) (is : (v : V) → IsItem items number v) where
   -- an enumeration of these items, whose numbers are below 128
   abbrev pub enumerated_values : Values V
-  enumerated_values = plain_values (Notation.ENUMERATED (map number items)) (λ v. content_tree 0x0A (number v ∷ [])) enumerated_exact
+  enumerated_values = plain_values (Notation.ENUMERATED (map number items)) (λ v. content_tree 0x0A (number v ∷ [])) (number_exact 0x0A items number is)
+
+  -- an INTEGER that has only the numbers of these items, which are below 128
+  abbrev pub named_values : Values V
+  named_values = plain_values (Notation.INTEGER-named (map number items)) (λ v. content_tree 0x02 (number v ∷ [])) (number_exact 0x02 items number is)

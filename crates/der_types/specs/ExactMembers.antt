@@ -1,14 +1,22 @@
 -- Structs whose readable values mean exactly the trees that their members denote.
-use Rattle.std.specs.Prelude.{◌≡◌, ◌≢◌, Bool, true, false, Option, Some, None, IsTrue, ⊤, refl, if◌then◌else◌}
-use Rattle.std.proofs.Common.{sym, ap, ◌∙◌, subst, inl, inr}
+use Rattle.std.specs.Prelude.{◌≡◌, ◌≢◌, ℕ, ◌+◌, ◌^◌, ◌<◌, Bool, true, false, Option, Some, None, IsTrue, ⊤, refl, if◌then◌else◌}
+use Rattle.std.proofs.Common.{sym, ap, ◌∙◌, subst, inl, inr, arith}
 use Rattle.picky_der_core.specs.Readable.{IsReadable, AreReadable}
 use Rattle.picky_der_core.specs.Shape.{FirstAndRest, FirstOrNone}
 use Rattle.picky_der_core.specs.Tree.{ListKind, Tree, Trees}
 use Rattle.picky_der_ser.specs.Defaults.{IsByTree}
 use Rattle.picky_der_ser.specs.Meaning.{maybe_more, unless_default}
+use Rattle.der_types.specs.Constraints.{member_count}
 use Rattle.der_types.specs.Notation.{Notation, Member, Members}
 use Rattle.der_types.specs.Denotes.{Denotes, DenoteMembers, DenoteFirst, IsShort, AreShort}
 use Rattle.der_types.specs.Exact.{IsExact, Values, ProvedValues, is_exact, made_exact}
+
+one_less : (n k : ℕ) → 1 + n < k → n < k
+one_less n k h = omega (arith, h)
+
+-- a vector that holds members holds those after the first
+rest_short : (t : Tree) (ts : Trees) → AreShort (Trees.more t ts) → AreShort ts
+rest_short t ts s = (one_less (member_count ts) (2 ^ 63) s.0, s.1.1)
 
 -- ---- one member
 
@@ -100,7 +108,7 @@ struct_values b ms members parts whole = record {
   follows = λ o.
       let are = are_exact b o in
       made_exact (Tree.list ListKind.sequence) (DenoteMembers ms) (λ s. members (parts s)) (λ s r. are.sound (parts s) r.1) (λ ts d r short.
-      let row = are.complete ts d r.1 short.1 in
+      let row = are.complete ts d r.1 short in
       let s = whole row.0 in
       (s.0, ap members s.1 ∙ row.1));
 }
@@ -108,7 +116,7 @@ struct_values b ms members parts whole = record {
 module _ {A : Type 0} (n : Notation) (means : A → Tree) (is : IsExact (Denotes n) means) where
   required_complete : (Q : Trees → Type 0) (ts : Trees) → DenoteFirst (Member.required n) Q ts → AreReadable ts → AreShort ts → (v : A) × (us : Trees) × Q us × AreReadable us × AreShort us × (Trees.more (means v) us ≡ ts)
   required_complete Q Trees.none d r s = absurd d
-  required_complete Q (Trees.more t ts) d r s = let x = is.complete t d.0 r.0 s.0 in (x.0, ts, d.1, r.1, s.1, ap (λ u. Trees.more u ts) x.1)
+  required_complete Q (Trees.more t ts) d r s = let x = is.complete t d.0 r.0 s.1.0 in (x.0, ts, d.1, r.1, rest_short t ts s, ap (λ u. Trees.more u ts) x.1)
 
   pub required_exact : IsExactMember (Member.required n) (λ v. Trees.more (means v))
   required_exact = record { sound = λ Q v ts so r. (is.sound v r.0, so r.1); complete = required_complete }
@@ -133,8 +141,8 @@ module _ {A V : Type 0} (P : Tree → Type 0) (means : A → Tree) (item : V →
   led_by : (ts : Trees) → FirstAndRest P Q ts → AreReadable ts → AreShort ts → Led ts
   led_by Trees.none d r s = absurd d
   led_by (Trees.more t ts) d r s =
-      let x = is.made t d.0 r.0 s.0 in
-      (x.0, ts, d.1, r.1, s.1, ap (λ o. maybe_more means o ts) x.2 ∙ ap (λ u. Trees.more u ts) x.3)
+      let x = is.made t d.0 r.0 s.1.0 in
+      (x.0, ts, d.1, r.1, rest_short t ts s, ap (λ o. maybe_more means o ts) x.2 ∙ ap (λ u. Trees.more u ts) x.3)
 
   pub maybe_complete : (ts : Trees) → FirstOrNone P Q ts → AreReadable ts → AreShort ts → Led ts
   maybe_complete ts (inl d) r s = led_by ts d r s

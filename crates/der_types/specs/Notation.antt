@@ -28,6 +28,8 @@ mutual
     NULL : Notation
     -- 41: a restricted string by its tag
     UTF8String : Notation
+    -- 41, 51.5: a UTF8String of one character
+    character : Notation
     restricted-string : ℕ → Notation
     -- any content under this tag; and any element, as of an open type (X.681, 14.2)
     any-content : ℕ → Notation
@@ -75,6 +77,7 @@ abbrev mutual
   shape_of Notation.OCTET-STRING = Shape.primitive (PrimitiveShape.bytes 0x04)
   shape_of Notation.NULL = Shape.primitive PrimitiveShape.null
   shape_of Notation.UTF8String = Shape.primitive PrimitiveShape.text
+  shape_of Notation.character = Shape.primitive PrimitiveShape.character
   shape_of (Notation.restricted-string tag) = Shape.primitive (PrimitiveShape.bytes tag)
   shape_of (Notation.any-content tag) = Shape.primitive (PrimitiveShape.bytes tag)
   shape_of Notation.any-element = Shape.raw

@@ -11,6 +11,10 @@ use Rattle.der_types.specs.Notation.{Member, member_then}
 pub record IsMember (p : Presence) (s : Shape) (m : Member) : Type 0 where
   pub denoted_layout : (l : Layout) → layout_with p s l ≡ member_then m l
 
+-- one that is always there, and those after it
+pub required_first : {s t : Shape} → s ≡ t → {k l : Layout} → k ≡ l → Layout.required s k ≡ Layout.required t l
+required_first {s} {t} d {k} {l} e = ap (λ x. Layout.required x k) d ∙ ap (Layout.required t) e
+
 -- it holds before others that are laid out so
 pub before_others : {p : Presence} {s : Shape} {m : Member} → IsMember p s m → {k l : Layout} → k ≡ l → layout_with p s k ≡ member_then m l
 before_others {p} {s} a {k} {l} e = ap (layout_with p s) e ∙ a.denoted_layout l

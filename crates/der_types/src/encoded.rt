@@ -3,6 +3,7 @@ ghost use Rattle.std.proofs.Common.{rules};
 ghost use Rattle.std.specs.Prelude.{◌≡◌, IfOk, IfErr};
 ghost use Rattle.std.specs.Cmp.Rules.{comparing};
 ghost use Rattle.std.specs.Ordering.{on};
+ghost use Rattle.picky_der_core.specs.Equality.{IsThatOf};
 ghost use Rattle.picky_der_core.specs.Tree.{Tree};
 ghost use Rattle.picky_der_core.specs.Shape.{Shape};
 ghost use Rattle.picky_der_de.specs.Facts.{raw_facts};
@@ -55,6 +56,12 @@ impl<T: Deserialize> Encoded<T> {
     {
         &self.value
     }
+
+    /// Two are equal exactly if their encodings are.
+    pub fn equality()
+        ensures { IsThatOf ⟦<Encoded<T> as PartialEq>⟧.eq (λ it. it.encoding)
+            ⟦<Asn1RawDer as PartialEq>⟧.eq }
+    {}
 }
 
 impl<T: Deserialize> PartialEq for Encoded<T> {

@@ -7,14 +7,15 @@ ghost use Rattle.picky_der_core.specs.Tree.{ListKind, Tree};
 ghost use Rattle.picky_der_ser.specs.Meaning.{list_meaning};
 ghost use Rattle.der_types.specs.BitString.{bits_of};
 ghost use Rattle.der_types.specs.CharacterStrings.{characters};
-ghost use Rattle.der_types.specs.ExactConstraints.{Numbered, ProvedNumber, Sized, ProvedSize, sized_plainly, counted};
+ghost use Rattle.der_types.specs.ExactConstraints.{Numbered, ProvedNumber, numbered_plainly, numbered_by, Sized, ProvedSize, sized_plainly, counted};
 ghost use Rattle.der_types.specs.ExactContents.{IsStandard};
 ghost use Rattle.der_types.specs.ContentForms as form;
 ghost use Rattle.der_types.specs.ContentsFacts.{contents_of};
 ghost use Rattle.der_types.specs.Notation.{Notation};
 
 use crate::{
-    BitString, Exact, GeneralizedTime, Integer, RestrictedString, Size, StandardSet, WholeNumber,
+    BitString, Exact, GeneralizedTime, InRange, Integer, RestrictedString, Size, StandardSet,
+    WholeNumber,
 };
 use picky_der_core::asn1::{Asn1SequenceOf, Asn1SetOf, ByteBuf};
 
@@ -37,7 +38,13 @@ pub trait ExactSize: Exact + Size {
 }
 
 impl ExactNumber for Integer {
-    ghost numbered = { record { number = λ it. integer_value it.content.items; meaning = contents_of 0x02 (λ it. it.content.items); same = λ it. refl } };
+    ghost numbered = { numbered_plainly (λ it. integer_value it.content.items) (contents_of 0x02 (λ it. it.content.items)) (λ it. refl) };
+
+    ghost exact_number = { Prim.assumption };
+}
+
+impl<T: ExactNumber, const MIN: u64, const MAX: u64> ExactNumber for InRange<T, MIN, MAX> {
+    ghost numbered = { numbered_by T.numbered T.number T.meaning (λ it. it.value) };
 
     ghost exact_number = { Prim.assumption };
 }

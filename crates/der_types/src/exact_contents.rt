@@ -1,6 +1,6 @@
 //! Exact types for contents under other tags, and for the string types of ASN.1.
 ghost use Rattle.std.specs.Prelude.{refl};
-ghost use Rattle.der_types.specs.ExactContents.{OwnContents, ProvedContents, content_under_values, IsStandard, string_values};
+ghost use Rattle.der_types.specs.ExactContents.{OwnContents, ProvedContents, content_under_values, parameter_contents, IsStandard, string_values};
 ghost use Rattle.der_types.specs.MadeValues.{vec_of};
 
 use crate::{CharacterSet, Contents, Exact, ImplicitPrimitive, RestrictedString};
@@ -24,6 +24,12 @@ impl<S: StandardSet> Exact for RestrictedString<S> {
     ghost values = { string_values S.TAG S.WIDTH S.is_character (λ it. it.content.items) (λ it. it.canonical) (λ s e h. (record { content = vec_of s h; set = record {}; canonical = e }, refl)) };
 
     ghost exact = { Prim.assumption };
+}
+
+impl<S: StandardSet> ExactContents for RestrictedString<S> {
+    ghost own_contents = { parameter_contents S.TAG (λ it. it.content.items) };
+
+    ghost exact_contents = { Prim.assumption };
 }
 
 impl<T: ExactContents, const TAG: u8> Exact for ImplicitPrimitive<T, TAG> {

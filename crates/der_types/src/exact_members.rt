@@ -1,9 +1,13 @@
 //! Structs whose values are exactly the values of their SEQUENCEs.
 ghost use Rattle.std.specs.Prelude.{refl};
 ghost use Rattle.der_types.specs.ExactMembers.{MemberValues, ProvedMember, MembersValues, ProvedMembers, required_values, optional_values, none_values};
+ghost use Rattle.der_types.specs.ExactLater.{others_values};
+ghost use Rattle.der_types.specs.MadeValues.{vec_of};
+ghost use Rattle.picky_der_core.specs.Shape.{firsts_of};
 
 use crate::{Exact, NotatedMember, NotatedMembers};
-use picky_der_de::Begins;
+use picky_asn1_der::LaterMembers;
+use picky_der_de::{Alternatives, Begins};
 use picky_der_ser::Optional;
 
 /// A member whose values are exactly the values of a member of ASN.1.
@@ -34,6 +38,13 @@ impl<T: Exact + Begins> ExactMember for Optional<T> {
     ghost member_values = { optional_values T.values T.notation T.meaning (λ it. it.0) (λ o. (record { 0 = o }, refl)) };
 
     ghost exact_member = { Prim.assumption };
+}
+
+impl<A: Alternatives> ExactMembers for LaterMembers<A> {
+    ghost all_values = { others_values (λ raw. raw.0.items) (λ s h. (record { 0 = vec_of s h }, refl)) (firsts_of A.shapes) (λ it. it.elements.items) (λ it. it.outside)
+        (λ es o h. (record { elements = vec_of es h; before = record {}; outside = o }, refl)) };
+
+    ghost exact_members = { Prim.assumption };
 }
 
 impl ExactMembers for () {

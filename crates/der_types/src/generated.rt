@@ -4,6 +4,7 @@
 mod bit_string;
 pub mod character_sets;
 mod enumerated;
+pub mod equality;
 mod generalized_time;
 pub mod in_range;
 mod integer;
@@ -14,5 +15,6 @@ mod numbers;
 mod object_identifier;
 pub mod other_than;
 mod relative_oid;
+mod tuples;
 mod utc_time;
 pub mod with_size;

@@ -1,4 +1,5 @@
 //! Primitive values under another tag instead of their own (X.690, 8.14).
+ghost use Rattle.picky_der_core.specs.Equality.{IsThatOf};
 ghost use Rattle.picky_der_de.specs.Reading.{Reads, Refuses};
 ghost use Rattle.std.specs.Prelude.{◌≡◌, IfOk, IfErr};
 ghost use Rattle.der_types.specs.ContentTests.{ReadsContent, RefusesContent};
@@ -31,6 +32,13 @@ fn primitive_form(tag: u8) -> Tag
     } else {
         tag
     }
+}
+
+impl<T: PartialEq, const TAG: u8> ImplicitPrimitive<T, TAG> {
+    /// Two are equal exactly if their values are.
+    pub fn equality()
+        ensures { IsThatOf ⟦<ImplicitPrimitive<T, TAG> as PartialEq>⟧.eq (λ tagged. tagged.0) T.eq }
+    {}
 }
 
 impl<T, const TAG: u8> From<T> for ImplicitPrimitive<T, TAG> {

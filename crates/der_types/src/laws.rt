@@ -6,7 +6,7 @@ ghost use Rattle.std.specs.Char.Escape.{encode_utf16};
 ghost use Rattle.picky_der_core.specs.Element.{AreBytes};
 ghost use Rattle.picky_der_core.specs.Readable.{IsReadable};
 ghost use Rattle.picky_der_core.specs.Shape.{IsOf};
-ghost use Rattle.picky_der_core.specs.Equality.{IsEqualityOf, IsKept};
+ghost use Rattle.picky_der_core.specs.Equality.{IsEqualityOf, IsThatOf, IsKept};
 ghost use Rattle.der_types.specs.BitString.{is_bit_string, bit_string_content, bits_of, is_named_bits, without_zeros};
 ghost use Rattle.der_types.specs.CharacterStrings.{string_content, characters, is_string_content, is_ia5, is_bmp};
 ghost use Rattle.picky_der_core.specs.Tree.{Tree};
@@ -22,16 +22,19 @@ ghost use Rattle.der_types.specs.TimeChoice.{date_time_of};
 ghost use Rattle.der_types.specs.TimeContents.{is_utc_time, fraction_of};
 ghost use Rattle.der_types.specs.TimeValues.{utc_content};
 
+pub use crate::generated::equality::content_equality;
 use crate::{
-    Arcs, CharacterSet, DateTime, Enumerated, Exact, GeneralizedTime, Integer, LaterTime, OidError,
-    RestrictedString, TagOrdered, Time, UtcTime, Width,
+    Arcs, CharacterSet, DateTime, Exact, GeneralizedTime, LaterTime, OidError, RestrictedString,
+    TagOrdered, Time, UtcTime, Width,
 };
 pub use picky_der_core::laws::integers;
 
-/// Two values are equal by `==` exactly if their contents are the same.
+/// Errors, and widths, are equal by `==` exactly if they are the same. Times of one form are equal exactly if their dates and times are.
 pub fn equality()
-    ensures integer { IsEqualityOf ⟦<Integer as PartialEq>⟧.eq (λ it. it.content.items) }
-    ensures enumerated { IsEqualityOf ⟦<Enumerated as PartialEq>⟧.eq (λ it. it.0.content.items) }
+    ensures error { IsEqualityOf ⟦<OidError as PartialEq>⟧.eq (λ error. error) }
+    ensures width { IsEqualityOf ⟦<Width as PartialEq>⟧.eq (λ width. width) }
+    ensures utc_time { IsThatOf ⟦<UtcTime as PartialEq>⟧.eq (λ time. time.at) ⟦<DateTime as PartialEq>⟧.eq }
+    ensures later_time { IsThatOf ⟦<LaterTime as PartialEq>⟧.eq (λ time. time.at) ⟦<DateTime as PartialEq>⟧.eq }
 {}
 
 /// A copy of arcs not yet returned, of an error, of a width, or of a date and time is the same.
@@ -143,10 +146,11 @@ pub fn generalized_times()
     ensures equality { IsEqualityOf ⟦<GeneralizedTime as PartialEq>⟧.eq (λ it. it.content.items) }
 {}
 
-/// Times of RFC 5280 are ordered by their dates and times.
+/// Times of RFC 5280 are ordered by their dates and times, and are equal exactly if these are one second.
 pub fn times()
     ensures order { (x y : Time) → ⟦<Time as Ord>⟧.cmp x y
         ≡ nat_cmp (seconds_of (date_time_of x)) (seconds_of (date_time_of y)) }
+    ensures equality { IsEqualityOf ⟦<Time as PartialEq>⟧.eq (λ time. seconds_of (date_time_of time)) }
 {}
 
 /// The readable values of an exact type mean exactly the readable trees that its notation denotes. A content with 2^63 or more bytes, or a

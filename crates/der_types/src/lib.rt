@@ -2,6 +2,7 @@
 #![tactic(auto)]
 
 mod arcs;
+mod arrays;
 mod bit_string;
 mod bits;
 mod character_set;
@@ -18,6 +19,7 @@ mod exact_constraints;
 mod exact_contents;
 mod exact_defaults;
 mod exact_members;
+mod exact_times;
 mod generalized_time;
 mod generated;
 mod implicit_primitive;
@@ -78,7 +80,9 @@ pub use restricted_string::{
 };
 pub use set::{Asn1Set, ImplicitSet, TagOrdered};
 pub use size::Size;
+pub use subidentifiers::is_subidentifiers;
 pub use time::Time;
+pub use time_contents::{is_generalized_time, is_utc_time};
 pub use utc_time::UtcTime;
 pub use whole_number::WholeNumber;
 pub use width::Width;

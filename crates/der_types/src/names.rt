@@ -1,5 +1,7 @@
 //! Object identifiers in common use, by their contents. Comparing with one allocates nothing: `oid.is(names::KEY_USAGE)`.
-ghost use Rattle.std.specs.Prelude.{◌≡◌, ◌≢◌, All, Any, IfSome, IfNone};
+ghost use Rattle.std.specs.Prelude.{◌≡◌, [], ◌∷◌, map, option_map};
+ghost use Rattle.der_types.specs.Names.{name_in, name_of};
+ghost use Rattle.der_types.specs.ObjectIdentifier.{arcs_of};
 
 // The attributes of names (RFC 5280, A.1).
 
@@ -257,8 +259,90 @@ pub const SHA512: &[u8] = &[0x60, 0x86, 0x48, 0x01, 0x65, 0x03, 0x04, 0x02, 0x03
 /// `sha224`, 2.16.840.1.101.3.4.2.4.
 pub const SHA224: &[u8] = &[0x60, 0x86, 0x48, 0x01, 0x65, 0x03, 0x04, 0x02, 0x04];
 
-// Each attribute of a name with its name.
-static ATTRIBUTES: [(&[u8], &str); 18] = [
+/// The arcs of the object identifiers whose contents the constants of this module are.
+pub fn arcs()
+    ensures common_name { arcs_of COMMON_NAME.now ≡ 2 ∷ 5 ∷ 4 ∷ 3 ∷ [] }
+    ensures surname { arcs_of SURNAME.now ≡ 2 ∷ 5 ∷ 4 ∷ 4 ∷ [] }
+    ensures serial_number { arcs_of SERIAL_NUMBER.now ≡ 2 ∷ 5 ∷ 4 ∷ 5 ∷ [] }
+    ensures country_name { arcs_of COUNTRY_NAME.now ≡ 2 ∷ 5 ∷ 4 ∷ 6 ∷ [] }
+    ensures locality_name { arcs_of LOCALITY_NAME.now ≡ 2 ∷ 5 ∷ 4 ∷ 7 ∷ [] }
+    ensures state_or_province_name { arcs_of STATE_OR_PROVINCE_NAME.now ≡ 2 ∷ 5 ∷ 4 ∷ 8 ∷ [] }
+    ensures street_address { arcs_of STREET_ADDRESS.now ≡ 2 ∷ 5 ∷ 4 ∷ 9 ∷ [] }
+    ensures organization_name { arcs_of ORGANIZATION_NAME.now ≡ 2 ∷ 5 ∷ 4 ∷ 10 ∷ [] }
+    ensures organizational_unit_name { arcs_of ORGANIZATIONAL_UNIT_NAME.now ≡ 2 ∷ 5 ∷ 4 ∷ 11 ∷ [] }
+    ensures title { arcs_of TITLE.now ≡ 2 ∷ 5 ∷ 4 ∷ 12 ∷ [] }
+    ensures name { arcs_of NAME.now ≡ 2 ∷ 5 ∷ 4 ∷ 41 ∷ [] }
+    ensures given_name { arcs_of GIVEN_NAME.now ≡ 2 ∷ 5 ∷ 4 ∷ 42 ∷ [] }
+    ensures initials { arcs_of INITIALS.now ≡ 2 ∷ 5 ∷ 4 ∷ 43 ∷ [] }
+    ensures generation_qualifier { arcs_of GENERATION_QUALIFIER.now ≡ 2 ∷ 5 ∷ 4 ∷ 44 ∷ [] }
+    ensures dn_qualifier { arcs_of DN_QUALIFIER.now ≡ 2 ∷ 5 ∷ 4 ∷ 46 ∷ [] }
+    ensures pseudonym { arcs_of PSEUDONYM.now ≡ 2 ∷ 5 ∷ 4 ∷ 65 ∷ [] }
+    ensures domain_component { arcs_of DOMAIN_COMPONENT.now ≡ 0 ∷ 9 ∷ 2342 ∷ 19200300 ∷ 100 ∷ 1 ∷ 25 ∷ [] }
+    ensures email_address { arcs_of EMAIL_ADDRESS.now ≡ 1 ∷ 2 ∷ 840 ∷ 113549 ∷ 1 ∷ 9 ∷ 1 ∷ [] }
+    ensures subject_key_identifier { arcs_of SUBJECT_KEY_IDENTIFIER.now ≡ 2 ∷ 5 ∷ 29 ∷ 14 ∷ [] }
+    ensures key_usage { arcs_of KEY_USAGE.now ≡ 2 ∷ 5 ∷ 29 ∷ 15 ∷ [] }
+    ensures subject_alt_name { arcs_of SUBJECT_ALT_NAME.now ≡ 2 ∷ 5 ∷ 29 ∷ 17 ∷ [] }
+    ensures issuer_alt_name { arcs_of ISSUER_ALT_NAME.now ≡ 2 ∷ 5 ∷ 29 ∷ 18 ∷ [] }
+    ensures basic_constraints { arcs_of BASIC_CONSTRAINTS.now ≡ 2 ∷ 5 ∷ 29 ∷ 19 ∷ [] }
+    ensures crl_number { arcs_of CRL_NUMBER.now ≡ 2 ∷ 5 ∷ 29 ∷ 20 ∷ [] }
+    ensures crl_reason { arcs_of CRL_REASON.now ≡ 2 ∷ 5 ∷ 29 ∷ 21 ∷ [] }
+    ensures name_constraints { arcs_of NAME_CONSTRAINTS.now ≡ 2 ∷ 5 ∷ 29 ∷ 30 ∷ [] }
+    ensures crl_distribution_points { arcs_of CRL_DISTRIBUTION_POINTS.now ≡ 2 ∷ 5 ∷ 29 ∷ 31 ∷ [] }
+    ensures certificate_policies { arcs_of CERTIFICATE_POLICIES.now ≡ 2 ∷ 5 ∷ 29 ∷ 32 ∷ [] }
+    ensures any_policy { arcs_of ANY_POLICY.now ≡ 2 ∷ 5 ∷ 29 ∷ 32 ∷ 0 ∷ [] }
+    ensures policy_mappings { arcs_of POLICY_MAPPINGS.now ≡ 2 ∷ 5 ∷ 29 ∷ 33 ∷ [] }
+    ensures authority_key_identifier { arcs_of AUTHORITY_KEY_IDENTIFIER.now ≡ 2 ∷ 5 ∷ 29 ∷ 35 ∷ [] }
+    ensures policy_constraints { arcs_of POLICY_CONSTRAINTS.now ≡ 2 ∷ 5 ∷ 29 ∷ 36 ∷ [] }
+    ensures ext_key_usage { arcs_of EXT_KEY_USAGE.now ≡ 2 ∷ 5 ∷ 29 ∷ 37 ∷ [] }
+    ensures any_extended_key_usage { arcs_of ANY_EXTENDED_KEY_USAGE.now ≡ 2 ∷ 5 ∷ 29 ∷ 37 ∷ 0 ∷ [] }
+    ensures freshest_crl { arcs_of FRESHEST_CRL.now ≡ 2 ∷ 5 ∷ 29 ∷ 46 ∷ [] }
+    ensures inhibit_any_policy { arcs_of INHIBIT_ANY_POLICY.now ≡ 2 ∷ 5 ∷ 29 ∷ 54 ∷ [] }
+    ensures authority_info_access { arcs_of AUTHORITY_INFO_ACCESS.now ≡ 1 ∷ 3 ∷ 6 ∷ 1 ∷ 5 ∷ 5 ∷ 7 ∷ 1 ∷ 1 ∷ [] }
+    ensures subject_info_access { arcs_of SUBJECT_INFO_ACCESS.now ≡ 1 ∷ 3 ∷ 6 ∷ 1 ∷ 5 ∷ 5 ∷ 7 ∷ 1 ∷ 11 ∷ [] }
+    ensures server_auth { arcs_of SERVER_AUTH.now ≡ 1 ∷ 3 ∷ 6 ∷ 1 ∷ 5 ∷ 5 ∷ 7 ∷ 3 ∷ 1 ∷ [] }
+    ensures client_auth { arcs_of CLIENT_AUTH.now ≡ 1 ∷ 3 ∷ 6 ∷ 1 ∷ 5 ∷ 5 ∷ 7 ∷ 3 ∷ 2 ∷ [] }
+    ensures code_signing { arcs_of CODE_SIGNING.now ≡ 1 ∷ 3 ∷ 6 ∷ 1 ∷ 5 ∷ 5 ∷ 7 ∷ 3 ∷ 3 ∷ [] }
+    ensures email_protection { arcs_of EMAIL_PROTECTION.now ≡ 1 ∷ 3 ∷ 6 ∷ 1 ∷ 5 ∷ 5 ∷ 7 ∷ 3 ∷ 4 ∷ [] }
+    ensures time_stamping { arcs_of TIME_STAMPING.now ≡ 1 ∷ 3 ∷ 6 ∷ 1 ∷ 5 ∷ 5 ∷ 7 ∷ 3 ∷ 8 ∷ [] }
+    ensures ocsp_signing { arcs_of OCSP_SIGNING.now ≡ 1 ∷ 3 ∷ 6 ∷ 1 ∷ 5 ∷ 5 ∷ 7 ∷ 3 ∷ 9 ∷ [] }
+    ensures ocsp { arcs_of OCSP.now ≡ 1 ∷ 3 ∷ 6 ∷ 1 ∷ 5 ∷ 5 ∷ 7 ∷ 48 ∷ 1 ∷ [] }
+    ensures ca_issuers { arcs_of CA_ISSUERS.now ≡ 1 ∷ 3 ∷ 6 ∷ 1 ∷ 5 ∷ 5 ∷ 7 ∷ 48 ∷ 2 ∷ [] }
+    ensures rsa_encryption { arcs_of RSA_ENCRYPTION.now ≡ 1 ∷ 2 ∷ 840 ∷ 113549 ∷ 1 ∷ 1 ∷ 1 ∷ [] }
+    ensures sha1_with_rsa_encryption { arcs_of SHA1_WITH_RSA_ENCRYPTION.now ≡ 1 ∷ 2 ∷ 840 ∷ 113549 ∷ 1 ∷ 1 ∷ 5 ∷ [] }
+    ensures mgf1 { arcs_of MGF1.now ≡ 1 ∷ 2 ∷ 840 ∷ 113549 ∷ 1 ∷ 1 ∷ 8 ∷ [] }
+    ensures rsassa_pss { arcs_of RSASSA_PSS.now ≡ 1 ∷ 2 ∷ 840 ∷ 113549 ∷ 1 ∷ 1 ∷ 10 ∷ [] }
+    ensures sha256_with_rsa_encryption { arcs_of SHA256_WITH_RSA_ENCRYPTION.now ≡ 1 ∷ 2 ∷ 840 ∷ 113549 ∷ 1 ∷ 1 ∷ 11 ∷ [] }
+    ensures sha384_with_rsa_encryption { arcs_of SHA384_WITH_RSA_ENCRYPTION.now ≡ 1 ∷ 2 ∷ 840 ∷ 113549 ∷ 1 ∷ 1 ∷ 12 ∷ [] }
+    ensures sha512_with_rsa_encryption { arcs_of SHA512_WITH_RSA_ENCRYPTION.now ≡ 1 ∷ 2 ∷ 840 ∷ 113549 ∷ 1 ∷ 1 ∷ 13 ∷ [] }
+    ensures sha224_with_rsa_encryption { arcs_of SHA224_WITH_RSA_ENCRYPTION.now ≡ 1 ∷ 2 ∷ 840 ∷ 113549 ∷ 1 ∷ 1 ∷ 14 ∷ [] }
+    ensures data { arcs_of DATA.now ≡ 1 ∷ 2 ∷ 840 ∷ 113549 ∷ 1 ∷ 7 ∷ 1 ∷ [] }
+    ensures signed_data { arcs_of SIGNED_DATA.now ≡ 1 ∷ 2 ∷ 840 ∷ 113549 ∷ 1 ∷ 7 ∷ 2 ∷ [] }
+    ensures enveloped_data { arcs_of ENVELOPED_DATA.now ≡ 1 ∷ 2 ∷ 840 ∷ 113549 ∷ 1 ∷ 7 ∷ 3 ∷ [] }
+    ensures content_type { arcs_of CONTENT_TYPE.now ≡ 1 ∷ 2 ∷ 840 ∷ 113549 ∷ 1 ∷ 9 ∷ 3 ∷ [] }
+    ensures message_digest { arcs_of MESSAGE_DIGEST.now ≡ 1 ∷ 2 ∷ 840 ∷ 113549 ∷ 1 ∷ 9 ∷ 4 ∷ [] }
+    ensures signing_time { arcs_of SIGNING_TIME.now ≡ 1 ∷ 2 ∷ 840 ∷ 113549 ∷ 1 ∷ 9 ∷ 5 ∷ [] }
+    ensures challenge_password { arcs_of CHALLENGE_PASSWORD.now ≡ 1 ∷ 2 ∷ 840 ∷ 113549 ∷ 1 ∷ 9 ∷ 7 ∷ [] }
+    ensures extension_request { arcs_of EXTENSION_REQUEST.now ≡ 1 ∷ 2 ∷ 840 ∷ 113549 ∷ 1 ∷ 9 ∷ 14 ∷ [] }
+    ensures ec_public_key { arcs_of EC_PUBLIC_KEY.now ≡ 1 ∷ 2 ∷ 840 ∷ 10045 ∷ 2 ∷ 1 ∷ [] }
+    ensures secp256r1 { arcs_of SECP256R1.now ≡ 1 ∷ 2 ∷ 840 ∷ 10045 ∷ 3 ∷ 1 ∷ 7 ∷ [] }
+    ensures ecdsa_with_sha256 { arcs_of ECDSA_WITH_SHA256.now ≡ 1 ∷ 2 ∷ 840 ∷ 10045 ∷ 4 ∷ 3 ∷ 2 ∷ [] }
+    ensures ecdsa_with_sha384 { arcs_of ECDSA_WITH_SHA384.now ≡ 1 ∷ 2 ∷ 840 ∷ 10045 ∷ 4 ∷ 3 ∷ 3 ∷ [] }
+    ensures ecdsa_with_sha512 { arcs_of ECDSA_WITH_SHA512.now ≡ 1 ∷ 2 ∷ 840 ∷ 10045 ∷ 4 ∷ 3 ∷ 4 ∷ [] }
+    ensures secp384r1 { arcs_of SECP384R1.now ≡ 1 ∷ 3 ∷ 132 ∷ 0 ∷ 34 ∷ [] }
+    ensures secp521r1 { arcs_of SECP521R1.now ≡ 1 ∷ 3 ∷ 132 ∷ 0 ∷ 35 ∷ [] }
+    ensures x25519 { arcs_of X25519.now ≡ 1 ∷ 3 ∷ 101 ∷ 110 ∷ [] }
+    ensures x448 { arcs_of X448.now ≡ 1 ∷ 3 ∷ 101 ∷ 111 ∷ [] }
+    ensures ed25519 { arcs_of ED25519.now ≡ 1 ∷ 3 ∷ 101 ∷ 112 ∷ [] }
+    ensures ed448 { arcs_of ED448.now ≡ 1 ∷ 3 ∷ 101 ∷ 113 ∷ [] }
+    ensures sha1 { arcs_of SHA1.now ≡ 1 ∷ 3 ∷ 14 ∷ 3 ∷ 2 ∷ 26 ∷ [] }
+    ensures sha256 { arcs_of SHA256.now ≡ 2 ∷ 16 ∷ 840 ∷ 1 ∷ 101 ∷ 3 ∷ 4 ∷ 2 ∷ 1 ∷ [] }
+    ensures sha384 { arcs_of SHA384.now ≡ 2 ∷ 16 ∷ 840 ∷ 1 ∷ 101 ∷ 3 ∷ 4 ∷ 2 ∷ 2 ∷ [] }
+    ensures sha512 { arcs_of SHA512.now ≡ 2 ∷ 16 ∷ 840 ∷ 1 ∷ 101 ∷ 3 ∷ 4 ∷ 2 ∷ 3 ∷ [] }
+    ensures sha224 { arcs_of SHA224.now ≡ 2 ∷ 16 ∷ 840 ∷ 1 ∷ 101 ∷ 3 ∷ 4 ∷ 2 ∷ 4 ∷ [] }
+{}
+
+// Each of them with its name.
+static NAMES: [(&[u8], &str); 78] = [
     (COMMON_NAME, "commonName"),
     (SURNAME, "surname"),
     (SERIAL_NUMBER, "serialNumber"),
@@ -277,10 +361,6 @@ static ATTRIBUTES: [(&[u8], &str); 18] = [
     (PSEUDONYM, "pseudonym"),
     (DOMAIN_COMPONENT, "domainComponent"),
     (EMAIL_ADDRESS, "emailAddress"),
-];
-
-// Each extension with its name.
-static EXTENSIONS: [(&[u8], &str); 20] = [
     (SUBJECT_KEY_IDENTIFIER, "subjectKeyIdentifier"),
     (KEY_USAGE, "keyUsage"),
     (SUBJECT_ALT_NAME, "subjectAltName"),
@@ -301,10 +381,6 @@ static EXTENSIONS: [(&[u8], &str); 20] = [
     (INHIBIT_ANY_POLICY, "inhibitAnyPolicy"),
     (AUTHORITY_INFO_ACCESS, "authorityInfoAccess"),
     (SUBJECT_INFO_ACCESS, "subjectInfoAccess"),
-];
-
-// Each purpose, and each way to reach an authority, with its name.
-static PURPOSES: [(&[u8], &str); 8] = [
     (SERVER_AUTH, "serverAuth"),
     (CLIENT_AUTH, "clientAuth"),
     (CODE_SIGNING, "codeSigning"),
@@ -313,10 +389,6 @@ static PURPOSES: [(&[u8], &str); 8] = [
     (OCSP_SIGNING, "OCSPSigning"),
     (OCSP, "ocsp"),
     (CA_ISSUERS, "caIssuers"),
-];
-
-// Each content of CMS, and each attribute of one and of a request, with its name.
-static CONTENTS: [(&[u8], &str); 8] = [
     (DATA, "data"),
     (SIGNED_DATA, "signedData"),
     (ENVELOPED_DATA, "envelopedData"),
@@ -325,10 +397,6 @@ static CONTENTS: [(&[u8], &str); 8] = [
     (SIGNING_TIME, "signingTime"),
     (CHALLENGE_PASSWORD, "challengePassword"),
     (EXTENSION_REQUEST, "extensionRequest"),
-];
-
-// Each algorithm, curve and digest with its name.
-static ALGORITHMS: [(&[u8], &str); 24] = [
     (RSA_ENCRYPTION, "rsaEncryption"),
     (SHA1_WITH_RSA_ENCRYPTION, "sha1WithRSAEncryption"),
     (MGF1, "mgf1"),
@@ -355,11 +423,17 @@ static ALGORITHMS: [(&[u8], &str); 24] = [
     (SHA224, "sha224"),
 ];
 
-// The name in the table for this content, or `None`.
+/// Returns the name of the object identifier with this content, as `commonName`, or `None` if it isn't one of the constants of this module.
+pub fn name_of(content: &[u8]) -> Option<&'static str>
+    ensures { option_map (λ name. name.now) result ≡ name_of content.now }
+{
+    name_in(&NAMES, content)
+}
+
+// The name beside this content in the table, or `None`.
 fn name_in<'a>(table: &[(&[u8], &'a str)], content: &[u8]) -> Option<&'a str>
-    ensures some { IfSome result (λ name. Any (λ entry. (entry.0.now ≡ content.now)
-        × (entry.1.now ≡ name.now)) table.now) }
-    ensures none { IfNone result (All (λ entry. entry.0.now ≢ content.now) table.now) }
+    ensures { option_map (λ name. name.now) result
+        ≡ name_in (map (λ entry. (entry.0.now, entry.1.now)) table.now) content.now }
 {
     for (known, name) in table {
         if *known == content {
@@ -367,13 +441,4 @@ fn name_in<'a>(table: &[(&[u8], &'a str)], content: &[u8]) -> Option<&'a str>
         }
     }
     None
-}
-
-/// Returns the name of the object identifier with this content, as `commonName`, or `None` if it isn't one of the constants of this module.
-pub fn name_of(content: &[u8]) -> Option<&'static str> {
-    name_in(&ATTRIBUTES, content)
-        .or_else(|| name_in(&EXTENSIONS, content))
-        .or_else(|| name_in(&PURPOSES, content))
-        .or_else(|| name_in(&CONTENTS, content))
-        .or_else(|| name_in(&ALGORITHMS, content))
 }

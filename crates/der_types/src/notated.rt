@@ -199,9 +199,3 @@ impl<
 
     ghost denoted_shapes = { one_or_other A.denoted (one_or_other B.denoted (one_or_other C.denoted (one_or_other D.denoted E.denoted_shapes))) };
 }
-
-impl<T: Notated> Notated for (T,) {
-    ghost notation = { Notation.sequence (Members.member (Member.required T.notation) Members.end) };
-
-    ghost denoted = { ap (λ s. Shape.fields ListKind.sequence (Layout.required s Layout.empty)) T.denoted };
-}

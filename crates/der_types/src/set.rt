@@ -1,6 +1,7 @@
 //! SETs of different members.
 ghost use Rattle.std.proofs.Common.{rules};
 ghost use Rattle.std.specs.Prelude.{◌≡◌, true};
+ghost use Rattle.picky_der_core.specs.Equality.{IsThatOf};
 ghost use Rattle.picky_der_core.specs.Tree.{Tree};
 ghost use Rattle.picky_der_core.specs.Shape.{Shape};
 ghost use Rattle.picky_der_core.specs.declared.asn1.wrapper.Wrapper.TheVariants as wrapper;
@@ -32,6 +33,13 @@ pub struct ImplicitSet<T, const TAG: u8>(pub T);
 
 /// A SET of different members under its own tag 31.
 pub type Asn1Set<T> = ImplicitSet<T, 0x31>;
+
+impl<T: PartialEq, const TAG: u8> ImplicitSet<T, TAG> {
+    /// Two are equal exactly if their members are.
+    pub fn equality()
+        ensures { IsThatOf ⟦<ImplicitSet<T, TAG> as PartialEq>⟧.eq (λ set. set.0) T.eq }
+    {}
+}
 
 impl<T, const TAG: u8> From<T> for ImplicitSet<T, TAG> {
     ghost from_gives = { λ value set. set.0 ≡ value };

@@ -4,8 +4,12 @@ ghost use Rattle.picky_der_core.specs.Shape.{Shape};
 ghost use Rattle.picky_der_de.specs.declared.alternatives.OneOf.TheVariants.{This, Other};
 ghost use Rattle.picky_der_de.specs.ChoiceFacts.{choice_facts};
 ghost use Rattle.der_types.specs.declared.time.Time.TheVariants.{Utc, Generalized};
+ghost use Rattle.der_types.specs.ExactChoices.{choice_values};
+ghost use Rattle.der_types.specs.Notation.{Notation};
 
-use crate::{DateTime, LaterTime, UtcTime};
+use crate::{
+    DateTime, Exact, ExactAlternatives, LaterTime, Notated, NotatedAlternatives, UtcTime,
+};
 use picky_der_core::Result;
 use picky_der_core::asn1::Tag;
 use picky_der_core::misc::{ReadExt, WriteExt};
@@ -96,4 +100,18 @@ impl Begins for Time {
     fn begins_with(tag: Tag) -> bool {
         <Parts as Alternatives>::begins_with(tag)
     }
+}
+
+impl Notated for Time {
+    ghost notation = { Notation.choice ⟦<Parts as NotatedAlternatives>⟧.alternatives_notation };
+
+    ghost denoted = { refl };
+}
+
+impl Exact for Time {
+    ghost values = { choice_values ⟦<Parts as ExactAlternatives>⟧.chosen_values ⟦<Parts as NotatedAlternatives>⟧.alternatives_notation
+        ⟦<Parts as Alternatives>⟧.chosen ⟦<Self as Choice>⟧.parts
+        (elim [ This time ↦ (Utc time, refl) | Other (This time) ↦ (Generalized time, refl) | Other (Other none) ↦ elim none [ ] ]) };
+
+    ghost exact = { Prim.assumption };
 }

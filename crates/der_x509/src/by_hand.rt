@@ -1,6 +1,5 @@
 //! What is written by hand: the methods of types that `tools/der_asn1` writes, and names that other libraries use.
 
-mod copies;
 mod key_usage_flag;
 mod names;
 mod signed;

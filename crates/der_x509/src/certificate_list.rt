@@ -4,9 +4,10 @@
 ghost use Rattle.std.specs.Prelude.{refl};
 ghost use Rattle.picky_der_de.specs.MembersFacts.{sequence_of, sequence_shape, struct_facts};
 ghost use Rattle.der_types.specs.Notation.{Notation};
+ghost use Rattle.der_types.specs.ExactMembers.{struct_values};
 
 use crate::{AlgorithmIdentifier, CertificateSerialNumber, Extensions, Name, Time, Version};
-use der_types::{BitString, Notated, NotatedMembers};
+use der_types::{BitString, Exact, ExactMembers, Notated, NotatedMembers};
 use picky_asn1_der::asn1::{ExplicitContextTag0, Tag};
 use picky_asn1_der::de::Begins;
 use picky_asn1_der::misc::{ReadExt, WriteExt};
@@ -85,6 +86,14 @@ impl Notated for CertificateList {
     ghost notation = { Notation.sequence ⟦<CertificateListParts as NotatedMembers>⟧.members_notation };
 
     ghost denoted = { refl };
+}
+
+impl Exact for CertificateList {
+    ghost values = { struct_values ⟦<CertificateListParts as ExactMembers>⟧.all_values ⟦<CertificateListParts as NotatedMembers>⟧.members_notation
+        ⟦<CertificateListParts as SerializeMembers>⟧.members ⟦<Self as Struct>⟧.parts
+        (λ m. (record { tbs_cert_list = m.0; signature_algorithm = m.1; signature = m.2 }, refl {a = m})) };
+
+    ghost exact = { Prim.assumption };
 }
 
 /// The signed part of a list of revoked certificates (RFC 5280, 5.1.2). `TBSCertList` of
@@ -201,6 +210,25 @@ impl Notated for TbsCertList {
     ghost denoted = { refl };
 }
 
+impl Exact for TbsCertList {
+    ghost values = { struct_values ⟦<TbsCertListParts as ExactMembers>⟧.all_values ⟦<TbsCertListParts as NotatedMembers>⟧.members_notation
+        ⟦<TbsCertListParts as SerializeMembers>⟧.members ⟦<Self as Struct>⟧.parts
+        (λ m. (
+          record {
+            version = m.0.0;
+            signature = m.1;
+            issuer = m.2;
+            this_update = m.3;
+            next_update = m.4.0;
+            revoked_certificates = m.5.0;
+            crl_extensions = m.6.0;
+          },
+          refl {a = m},
+        )) };
+
+    ghost exact = { Prim.assumption };
+}
+
 /// A revoked certificate (RFC 5280, 5.1.2.6). The RFC gives this type no name. `RevokedCertificate`
 /// of PKIX1Explicit88, as a SEQUENCE.
 #[derive(Debug, Drop, PartialEq, Eq)]
@@ -270,4 +298,12 @@ impl Notated for RevokedCertificate {
     ghost notation = { Notation.sequence ⟦<RevokedCertificateParts as NotatedMembers>⟧.members_notation };
 
     ghost denoted = { refl };
+}
+
+impl Exact for RevokedCertificate {
+    ghost values = { struct_values ⟦<RevokedCertificateParts as ExactMembers>⟧.all_values ⟦<RevokedCertificateParts as NotatedMembers>⟧.members_notation
+        ⟦<RevokedCertificateParts as SerializeMembers>⟧.members ⟦<Self as Struct>⟧.parts
+        (λ m. (record { user_certificate = m.0; revocation_date = m.1; crl_entry_extensions = m.2.0 }, refl {a = m})) };
+
+    ghost exact = { Prim.assumption };
 }

@@ -5,6 +5,7 @@
 
 mod by_hand;
 mod certificate_list;
+mod extensions;
 mod names;
 pub mod notation;
 mod pkix1_explicit88;
@@ -12,12 +13,13 @@ mod pkix1_implicit88;
 
 pub use by_hand::{Attribute, KeyUsageFlag, RelativeName};
 pub use certificate_list::{CertificateList, RevokedCertificate, TbsCertList};
+pub use extensions::{Extension, Extensions};
 pub use names::{
     AttributeType, AttributeTypeAndValue, AttributeValue, Name, RdnSequence,
     RelativeDistinguishedName,
 };
 pub use pkix1_explicit88::{
-    AlgorithmIdentifier, Certificate, CertificateSerialNumber, Extension, Extensions,
-    SubjectPublicKeyInfo, TbsCertificate, Time, UniqueIdentifier, Validity, Version, VersionV1,
+    AlgorithmIdentifier, Certificate, CertificateSerialNumber, SubjectPublicKeyInfo,
+    TbsCertificate, Time, UniqueIdentifier, Validity, Version, VersionV1,
 };
 pub use pkix1_implicit88::KeyUsage;

@@ -3,12 +3,17 @@
 //! Types of PKIX1Explicit88.
 ghost use Rattle.std.specs.Prelude.{refl};
 ghost use Rattle.picky_der_core.specs.Shape.{Shape};
-ghost use Rattle.picky_der_de.specs.declared.alternatives.OneOf.TheVariants.{This};
+ghost use Rattle.picky_der_de.specs.declared.alternatives.OneOf.TheVariants.{Other, This};
 ghost use Rattle.picky_der_de.specs.ChoiceFacts.{choice_facts};
 ghost use Rattle.picky_der_de.specs.MembersFacts.{sequence_of, sequence_shape, struct_facts};
 ghost use Rattle.der_types.specs.Notation.{Notation};
+ghost use Rattle.der_types.specs.ExactChoices.{choice_values};
+ghost use Rattle.der_types.specs.ExactMembers.{struct_values};
 
-use der_types::{Notated, NotatedAlternatives, NotatedMembers, ObjectIdentifier, WithSize};
+use der_types::{
+    Exact, ExactAlternatives, ExactMembers, Notated, NotatedAlternatives, NotatedMembers,
+    ObjectIdentifier, WithSize,
+};
 use picky_asn1_der::OneOf::This;
 use picky_asn1_der::asn1::{Asn1SetOf, Tag};
 use picky_asn1_der::de::{Begins, deserialize_choice_as};
@@ -78,6 +83,19 @@ impl Notated for Name {
     ghost denoted = { refl };
 }
 
+impl Exact for Name {
+    ghost use Rattle.der_x509.specs.declared.names.Name.TheVariants as variants;
+
+    ghost values = { choice_values ⟦<NameParts as ExactAlternatives>⟧.chosen_values
+        ⟦<NameParts as NotatedAlternatives>⟧.alternatives_notation ⟦<NameParts as Alternatives>⟧.chosen ⟦<Self as Choice>⟧.parts
+        (elim [
+          | This x ↦ (variants.RdnSequence x, refl)
+          | Other x ↦ elim x [ ]
+        ]) };
+
+    ghost exact = { Prim.assumption };
+}
+
 /// The steps of a name, from the root down. `RDNSequence` of PKIX1Explicit88: `SEQUENCE OF
 /// RelativeDistinguishedName`.
 pub type RdnSequence = Vec<RelativeDistinguishedName>;
@@ -144,6 +162,14 @@ impl Notated for AttributeTypeAndValue {
     ghost notation = { Notation.sequence ⟦<AttributeTypeAndValueParts as NotatedMembers>⟧.members_notation };
 
     ghost denoted = { refl };
+}
+
+impl Exact for AttributeTypeAndValue {
+    ghost values = { struct_values ⟦<AttributeTypeAndValueParts as ExactMembers>⟧.all_values ⟦<AttributeTypeAndValueParts as NotatedMembers>⟧.members_notation
+        ⟦<AttributeTypeAndValueParts as SerializeMembers>⟧.members ⟦<Self as Struct>⟧.parts
+        (λ m. (record { type_ = m.0; value = m.1 }, refl {a = m})) };
+
+    ghost exact = { Prim.assumption };
 }
 
 /// Which attribute it is. `AttributeType` of PKIX1Explicit88: `OBJECT IDENTIFIER`.

@@ -10,29 +10,30 @@ use crate::{
     RelativeDistinguishedName, RevokedCertificate, SubjectPublicKeyInfo, TbsCertList,
     TbsCertificate, Time, UniqueIdentifier, Validity, Version,
 };
-use der_types::Notated;
+use der_types::Exact;
 
-/// Each type has the notation that its module gives it. `specs/Notation.antt` has that notation as a term, below its text.
+/// Each type has exactly the values of the notation that its module gives it. `specs/Notation.antt` has that notation as a term, below
+/// its text.
 pub fn types()
-    ensures algorithm_identifier { ⟦<AlgorithmIdentifier as Notated>⟧.notation ≡ notation.AlgorithmIdentifier }
-    ensures attribute_type { ⟦<AttributeType as Notated>⟧.notation ≡ notation.AttributeType }
-    ensures attribute_type_and_value { ⟦<AttributeTypeAndValue as Notated>⟧.notation ≡ notation.AttributeTypeAndValue }
-    ensures attribute_value { ⟦<AttributeValue as Notated>⟧.notation ≡ notation.AttributeValue }
-    ensures certificate { ⟦<Certificate as Notated>⟧.notation ≡ notation.Certificate }
-    ensures certificate_list { ⟦<CertificateList as Notated>⟧.notation ≡ notation.CertificateList }
-    ensures certificate_serial_number { ⟦<CertificateSerialNumber as Notated>⟧.notation ≡ notation.CertificateSerialNumber }
-    ensures extension { ⟦<Extension as Notated>⟧.notation ≡ notation.Extension }
-    ensures extensions { ⟦<Extensions as Notated>⟧.notation ≡ notation.Extensions }
-    ensures key_usage { ⟦<KeyUsage as Notated>⟧.notation ≡ notation.KeyUsage }
-    ensures name { ⟦<Name as Notated>⟧.notation ≡ notation.Name }
-    ensures rdn_sequence { ⟦<RdnSequence as Notated>⟧.notation ≡ notation.RdnSequence }
-    ensures relative_distinguished_name { ⟦<RelativeDistinguishedName as Notated>⟧.notation ≡ notation.RelativeDistinguishedName }
-    ensures revoked_certificate { ⟦<RevokedCertificate as Notated>⟧.notation ≡ notation.RevokedCertificate }
-    ensures subject_public_key_info { ⟦<SubjectPublicKeyInfo as Notated>⟧.notation ≡ notation.SubjectPublicKeyInfo }
-    ensures tbs_cert_list { ⟦<TbsCertList as Notated>⟧.notation ≡ notation.TbsCertList }
-    ensures tbs_certificate { ⟦<TbsCertificate as Notated>⟧.notation ≡ notation.TbsCertificate }
-    ensures time { ⟦<Time as Notated>⟧.notation ≡ notation.Time }
-    ensures unique_identifier { ⟦<UniqueIdentifier as Notated>⟧.notation ≡ notation.UniqueIdentifier }
-    ensures validity { ⟦<Validity as Notated>⟧.notation ≡ notation.Validity }
-    ensures version { ⟦<Version as Notated>⟧.notation ≡ notation.Version }
+    ensures algorithm_identifier { ⟦<AlgorithmIdentifier as Exact>⟧.values.notation ≡ notation.AlgorithmIdentifier }
+    ensures attribute_type { ⟦<AttributeType as Exact>⟧.values.notation ≡ notation.AttributeType }
+    ensures attribute_type_and_value { ⟦<AttributeTypeAndValue as Exact>⟧.values.notation ≡ notation.AttributeTypeAndValue }
+    ensures attribute_value { ⟦<AttributeValue as Exact>⟧.values.notation ≡ notation.AttributeValue }
+    ensures certificate { ⟦<Certificate as Exact>⟧.values.notation ≡ notation.Certificate }
+    ensures certificate_list { ⟦<CertificateList as Exact>⟧.values.notation ≡ notation.CertificateList }
+    ensures certificate_serial_number { ⟦<CertificateSerialNumber as Exact>⟧.values.notation ≡ notation.CertificateSerialNumber }
+    ensures extension { ⟦<Extension as Exact>⟧.values.notation ≡ notation.Extension }
+    ensures extensions { ⟦<Extensions as Exact>⟧.values.notation ≡ notation.Extensions }
+    ensures key_usage { ⟦<KeyUsage as Exact>⟧.values.notation ≡ notation.KeyUsage }
+    ensures name { ⟦<Name as Exact>⟧.values.notation ≡ notation.Name }
+    ensures rdn_sequence { ⟦<RdnSequence as Exact>⟧.values.notation ≡ notation.RdnSequence }
+    ensures relative_distinguished_name { ⟦<RelativeDistinguishedName as Exact>⟧.values.notation ≡ notation.RelativeDistinguishedName }
+    ensures revoked_certificate { ⟦<RevokedCertificate as Exact>⟧.values.notation ≡ notation.RevokedCertificate }
+    ensures subject_public_key_info { ⟦<SubjectPublicKeyInfo as Exact>⟧.values.notation ≡ notation.SubjectPublicKeyInfo }
+    ensures tbs_cert_list { ⟦<TbsCertList as Exact>⟧.values.notation ≡ notation.TbsCertList }
+    ensures tbs_certificate { ⟦<TbsCertificate as Exact>⟧.values.notation ≡ notation.TbsCertificate }
+    ensures time { ⟦<Time as Exact>⟧.values.notation ≡ notation.Time }
+    ensures unique_identifier { ⟦<UniqueIdentifier as Exact>⟧.values.notation ≡ notation.UniqueIdentifier }
+    ensures validity { ⟦<Validity as Exact>⟧.values.notation ≡ notation.Validity }
+    ensures version { ⟦<Version as Exact>⟧.values.notation ≡ notation.Version }
 {}

@@ -3,27 +3,33 @@
 //! Types of PKIX1Explicit88.
 ghost use Rattle.std.proofs.Common.{lit≤, sym};
 ghost use Rattle.std.specs.Prelude.{[], refl, ◌∷◌, ◌≡◌};
+ghost use Rattle.picky_der_core.specs.Equality.{IsKept};
 ghost use Rattle.picky_der_core.specs.Shape.{Shape};
 ghost use Rattle.picky_der_de.specs.declared.alternatives.OneOf.TheVariants.{Other, This};
 ghost use Rattle.picky_der_de.specs.ChoiceFacts.{choice_facts};
 ghost use Rattle.picky_der_de.specs.MembersFacts.{sequence_of, sequence_shape, struct_facts};
 ghost use Rattle.der_types.specs.ContentsFacts.{contents_facts, contents_of, contents_shape};
 ghost use Rattle.der_types.specs.Notation.{Notation};
+ghost use Rattle.der_types.specs.ExactChoices.{choice_values};
+ghost use Rattle.der_types.specs.ExactContents.{own_contents};
+ghost use Rattle.der_types.specs.ExactDefaults.{item_default};
+ghost use Rattle.der_types.specs.ExactEnumerated.{named_values};
+ghost use Rattle.der_types.specs.ExactMembers.{struct_values};
 ghost use Rattle.der_x509.specs.Enumerations.{is_default_version_v1, is_version, same_version, version_number, version_v1_by_tree};
 
-use crate::Name;
+use crate::{Extensions, Name};
 use der_types::{
-    BitString, Contents, GeneralizedTime, Integer, Notated, NotatedAlternatives, NotatedDefault,
-    NotatedMembers, ObjectIdentifier, UtcTime, WithSize, deserialize_contents_as,
+    BitString, Contents, Exact, ExactAlternatives, ExactContents, ExactDefault, ExactMembers,
+    GeneralizedTime, Integer, Notated, NotatedAlternatives, NotatedDefault, NotatedMembers,
+    ObjectIdentifier, UtcTime, WithSize, deserialize_contents_as,
 };
 use picky_asn1_der::OneOf::{Other, This};
 use picky_asn1_der::asn1::{
-    ByteBuf, ExplicitContextTag0, ExplicitContextTag3, ImplicitContextTag1, ImplicitContextTag2,
-    Tag,
+    ExplicitContextTag0, ExplicitContextTag3, ImplicitContextTag1, ImplicitContextTag2, Tag,
 };
 use picky_asn1_der::de::{Begins, deserialize_choice_as};
 use picky_asn1_der::misc::{ReadExt, WriteExt};
-use picky_asn1_der::ser::{DefaultOf, Defaulted, DefaultedRef, False, Optional, OptionalRef};
+use picky_asn1_der::ser::{DefaultOf, Defaulted, DefaultedRef, Optional, OptionalRef};
 use picky_asn1_der::{
     Alternatives, Asn1RawDer, Choice, Deserialize, DeserializeMembers, Deserializer, List, NoneOf,
     OneOf, Result, Serialize, SerializeMembers, Serializer, Struct, deserialize_struct_as,
@@ -97,6 +103,14 @@ impl Notated for Certificate {
     ghost notation = { Notation.sequence ⟦<CertificateParts as NotatedMembers>⟧.members_notation };
 
     ghost denoted = { refl };
+}
+
+impl Exact for Certificate {
+    ghost values = { struct_values ⟦<CertificateParts as ExactMembers>⟧.all_values ⟦<CertificateParts as NotatedMembers>⟧.members_notation
+        ⟦<CertificateParts as SerializeMembers>⟧.members ⟦<Self as Struct>⟧.parts
+        (λ m. (record { tbs_certificate = m.0; signature_algorithm = m.1; signature = m.2 }, refl {a = m})) };
+
+    ghost exact = { Prim.assumption };
 }
 
 /// The signed part of a certificate (RFC 5280, 4.1.2). `TBSCertificate` of PKIX1Explicit88, as a
@@ -238,6 +252,28 @@ impl Notated for TbsCertificate {
     ghost denoted = { refl };
 }
 
+impl Exact for TbsCertificate {
+    ghost values = { struct_values ⟦<TbsCertificateParts as ExactMembers>⟧.all_values ⟦<TbsCertificateParts as NotatedMembers>⟧.members_notation
+        ⟦<TbsCertificateParts as SerializeMembers>⟧.members ⟦<Self as Struct>⟧.parts
+        (λ m. (
+          record {
+            version = m.0.value;
+            serial_number = m.1;
+            signature = m.2;
+            issuer = m.3;
+            validity = m.4;
+            subject = m.5;
+            subject_public_key_info = m.6;
+            issuer_unique_id = m.7.0;
+            subject_unique_id = m.8.0.0;
+            extensions = m.8.1.0;
+          },
+          refl {a = m},
+        )) };
+
+    ghost exact = { Prim.assumption };
+}
+
 /// The version of a certificate (RFC 5280, 4.1.2.1). The RFC names these three and has no
 /// constraint. `Version` of PKIX1Explicit88, as an INTEGER with a name for each number. Every other
 /// content is refused with `InvalidData`.
@@ -252,6 +288,11 @@ pub enum Version {
 }
 
 impl Version {
+    /// A copy is the same.
+    pub fn copies()
+        ensures { IsKept ⟦<Version as Clone>⟧.is_clone (λ it. it) }
+    {}
+
     // The number of the value.
     fn number(self) -> u8
         ensures { result ≡ version_number self }
@@ -345,6 +386,24 @@ impl Notated for Version {
     ghost denoted = { refl };
 }
 
+impl Exact for Version {
+    ghost use Rattle.der_x509.specs.declared.pkix1_explicit88.Version.TheVariants as variants;
+
+    ghost values = { named_values (variants.V1 ∷ variants.V2 ∷ variants.V3 ∷ []) version_number (elim [
+      | variants.V1 ↦ record { listed = refl; small = refl }
+      | variants.V2 ↦ record { listed = refl; small = refl }
+      | variants.V3 ↦ record { listed = refl; small = refl }
+    ]) };
+
+    ghost exact = { Prim.assumption };
+}
+
+impl ExactContents for Version {
+    ghost own_contents = { own_contents 0x02 (λ it. version_number it ∷ []) (lit≤ tt) };
+
+    ghost exact_contents = { Prim.assumption };
+}
+
 /// The default `v1` of `Version`.
 pub struct VersionV1;
 
@@ -380,6 +439,14 @@ impl NotatedDefault<Version> for VersionV1 {
     ghost value = { contents_of 0x02 (λ it. version_number it ∷ []) variants.V1 };
 
     ghost is_value = { λ it h. sym ((version_v1_by_tree variants.V1 it refl).0 h) };
+}
+
+impl ExactDefault<Version> for VersionV1 {
+    ghost use Rattle.der_x509.specs.declared.pkix1_explicit88.Version.TheVariants as variants;
+
+    ghost default = { item_default (contents_of 0x02 (λ it. version_number it ∷ [])) is_default_version_v1 variants.V1 version_v1_by_tree refl };
+
+    ghost exact_default = { Prim.assumption };
 }
 
 /// The serial number of a certificate (RFC 5280, 4.1.2.2). `CertificateSerialNumber` of
@@ -448,6 +515,14 @@ impl Notated for Validity {
     ghost denoted = { refl };
 }
 
+impl Exact for Validity {
+    ghost values = { struct_values ⟦<ValidityParts as ExactMembers>⟧.all_values ⟦<ValidityParts as NotatedMembers>⟧.members_notation
+        ⟦<ValidityParts as SerializeMembers>⟧.members ⟦<Self as Struct>⟧.parts
+        (λ m. (record { not_before = m.0; not_after = m.1 }, refl {a = m})) };
+
+    ghost exact = { Prim.assumption };
+}
+
 /// A time, without a fraction of a second (RFC 5280, 4.1.2.5). Any year is read in both forms,
 /// where RFC 5280 wants a UTCTime up to 2049. `Time` of PKIX1Explicit88, as a CHOICE.
 #[derive(Debug, Drop, PartialEq, Eq)]
@@ -511,6 +586,20 @@ impl Notated for Time {
     ghost notation = { Notation.choice ⟦<TimeParts as NotatedAlternatives>⟧.alternatives_notation };
 
     ghost denoted = { refl };
+}
+
+impl Exact for Time {
+    ghost use Rattle.der_x509.specs.declared.pkix1_explicit88.Time.TheVariants as variants;
+
+    ghost values = { choice_values ⟦<TimeParts as ExactAlternatives>⟧.chosen_values
+        ⟦<TimeParts as NotatedAlternatives>⟧.alternatives_notation ⟦<TimeParts as Alternatives>⟧.chosen ⟦<Self as Choice>⟧.parts
+        (elim [
+          | This x ↦ (variants.UtcTime x, refl)
+          | Other (This x) ↦ (variants.GeneralTime x, refl)
+          | Other (Other x) ↦ elim x [ ]
+        ]) };
+
+    ghost exact = { Prim.assumption };
 }
 
 /// Distinguishes an issuer or a subject from others with the same name (RFC 5280, 4.1.2.8).
@@ -579,80 +668,12 @@ impl Notated for SubjectPublicKeyInfo {
     ghost denoted = { refl };
 }
 
-/// All extensions of a certificate or a list (RFC 5280, 4.1.2.9). `Extensions` of PKIX1Explicit88:
-/// `SEQUENCE SIZE (1..MAX) OF Extension`.
-pub type Extensions = WithSize<Vec<Extension>, 1, { usize::MAX }>;
+impl Exact for SubjectPublicKeyInfo {
+    ghost values = { struct_values ⟦<SubjectPublicKeyInfoParts as ExactMembers>⟧.all_values ⟦<SubjectPublicKeyInfoParts as NotatedMembers>⟧.members_notation
+        ⟦<SubjectPublicKeyInfoParts as SerializeMembers>⟧.members ⟦<Self as Struct>⟧.parts
+        (λ m. (record { algorithm = m.0; subject_public_key = m.1 }, refl {a = m})) };
 
-/// An extension (RFC 5280, 4.2). `Extension` of PKIX1Explicit88, as a SEQUENCE.
-#[derive(Debug, Drop, PartialEq, Eq)]
-pub struct Extension {
-    /// Which extension it is. `OBJECT IDENTIFIER`.
-    pub extn_id: ObjectIdentifier,
-    /// Whether a program that doesn't know the extension has to reject the certificate. `BOOLEAN
-    /// DEFAULT FALSE`.
-    pub critical: bool,
-    /// The encoding of its value. The identifier says the type: `from_der::<KeyUsage>` reads the
-    /// value of `names::KEY_USAGE`. `OCTET STRING`.
-    pub extn_value: ByteBuf,
-}
-
-type ExtensionParts = (ObjectIdentifier, Defaulted<bool, False>, ByteBuf, ());
-
-impl Struct for Extension {
-    type Members = ExtensionParts;
-
-    ghost parts = { λ it. (it.extn_id, record { value = it.critical; default = record {} }, it.extn_value, tt) };
-
-    fn from_parts(members: ExtensionParts) -> Extension {
-        let (extn_id, critical, extn_value, ()) = members;
-        Extension {
-            extn_id,
-            critical: critical.value,
-            extn_value,
-        }
-    }
-}
-
-impl Serialize for Extension {
-    ghost meaning = { sequence_of ⟦<ExtensionParts as SerializeMembers>⟧.members ⟦<Self as Struct>⟧.parts };
-
-    fn serialize<W: WriteExt>(&self, serializer: &mut Serializer<W>) -> Result<usize> {
-        (
-            &self.extn_id,
-            DefaultedRef::<bool, False>::new(&self.critical),
-            &self.extn_value,
-            (),
-        )
-            .serialize_sequence(serializer)
-    }
-}
-
-impl Deserialize for Extension {
-    ghost shape = { sequence_shape ⟦<ExtensionParts as DeserializeMembers>⟧.layout };
-
-    ghost facts = { struct_facts ⟦<ExtensionParts as DeserializeMembers>⟧.facts refl ⟦<Self as Struct>⟧.parts };
-
-    fn deserialize<R: ReadExt>(deserializer: &mut Deserializer<R>) -> Result<Extension> {
-        deserialize_struct_as(deserializer)
-    }
-
-    ghost proved = { Prim.assumption };
-}
-
-impl Begins for Extension {
-    fn begins_with(tag: Tag) -> bool {
-        tag == Tag::SEQUENCE
-    }
-}
-
-impl List for Extension {
-    ghost is_list = { λ it. tt };
-}
-
-impl Notated for Extension {
-    ghost notation = { Notation.sequence ⟦<ExtensionParts as NotatedMembers>⟧.members_notation };
-
-    ghost denoted = { refl };
+    ghost exact = { Prim.assumption };
 }
 
 /// An algorithm and its parameters (RFC 5280, 4.1.1.2). Absent parameters are different from NULL,
@@ -715,4 +736,12 @@ impl Notated for AlgorithmIdentifier {
     ghost notation = { Notation.sequence ⟦<AlgorithmIdentifierParts as NotatedMembers>⟧.members_notation };
 
     ghost denoted = { refl };
+}
+
+impl Exact for AlgorithmIdentifier {
+    ghost values = { struct_values ⟦<AlgorithmIdentifierParts as ExactMembers>⟧.all_values ⟦<AlgorithmIdentifierParts as NotatedMembers>⟧.members_notation
+        ⟦<AlgorithmIdentifierParts as SerializeMembers>⟧.members ⟦<Self as Struct>⟧.parts
+        (λ m. (record { algorithm = m.0; parameters = m.1.0 }, refl {a = m})) };
+
+    ghost exact = { Prim.assumption };
 }

@@ -3,8 +3,9 @@
 //! Types of PKIX1Implicit88.
 ghost use Rattle.std.specs.Prelude.{refl};
 ghost use Rattle.picky_der_de.specs.Facts.{facts_as};
+ghost use Rattle.der_types.specs.Exact.{newtype_values};
 
-use der_types::{NamedBits, Notated};
+use der_types::{Exact, NamedBits, Notated};
 use picky_asn1_der::asn1::Tag;
 use picky_asn1_der::de::Begins;
 use picky_asn1_der::misc::{ReadExt, WriteExt};
@@ -60,4 +61,11 @@ impl Notated for KeyUsage {
     ghost notation = { ⟦<NamedBits as Notated>⟧.notation };
 
     ghost denoted = { refl };
+}
+
+impl Exact for KeyUsage {
+    ghost values = { newtype_values ⟦<NamedBits as Exact>⟧.values ⟦<NamedBits as Notated>⟧.notation ⟦<NamedBits as Serialize>⟧.meaning
+        (λ it. it.0) (λ x. (record { 0 = x }, refl)) };
+
+    ghost exact = { Prim.assumption };
 }

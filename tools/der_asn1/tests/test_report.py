@@ -58,6 +58,11 @@ class Reports(unittest.TestCase):
         self.assertIn("M.A: exact, A", report.types_table(self.found))
         self.assertIn("M.E: refused, no type; tags with a number above 30", report.types_table(self.found))
 
+    def test_types_without_exact_are_named(self):
+        found = report.without_exact(self.found)
+        self.assertEqual("4 of 6 (66.7 %) with `Exact`", found[0])
+        self.assertEqual(["M.E has none: tags with a number above 30", "M.G has none: not read"], [it.strip() for it in found[1:]])
+
     def test_shares(self):
         self.assertEqual("1 of 4 (25.0 %)", report.share(1, 4))
         self.assertEqual("0 of 0 (0.0 %)", report.share(0, 0))

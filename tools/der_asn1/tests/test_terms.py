@@ -142,7 +142,7 @@ class Definitions(unittest.TestCase):
 
     def test_the_law(self):
         text = crate_of("A ::= SEQUENCE { b B } B ::= INTEGER", "A").files()["src/notation.rt"]
-        self.assertIn("    ensures a { ⟦<A as Notated>⟧.notation ≡ notation.A }\n    ensures b { ⟦<B as Notated>⟧.notation ≡ notation.B }\n{}\n", text)
+        self.assertIn("    ensures a { ⟦<A as Exact>⟧.values.notation ≡ notation.A }\n    ensures b { ⟦<B as Exact>⟧.values.notation ≡ notation.B }\n{}\n", text)
 
     def test_a_type_on_one_line(self):
         one = given("A ::= INTEGER (0..7)")

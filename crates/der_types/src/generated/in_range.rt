@@ -2,6 +2,7 @@
 //! Numbers of a bounded range.
 ghost use Rattle.std.proofs.Common.{ap};
 ghost use Rattle.std.specs.Prelude.{◌≡◌, true, false, not, refl, IfSome, IfNone, IfOk, IfErr};
+ghost use Rattle.picky_der_core.specs.Equality.{IsThatOf};
 ghost use Rattle.picky_der_de.specs.Reading.{Reads, Refuses};
 ghost use Rattle.picky_der_de.specs.Facts.{part_facts};
 ghost use Rattle.der_types.specs.Constraints.{is_between, RefusesConstrained};
@@ -54,6 +55,13 @@ impl<T: WholeNumber, const MIN: u64, const MAX: u64> InRange<T, MIN, MAX> {
         let InRange { value } = self;
         value
     }
+}
+
+impl<T: WholeNumber + PartialEq, const MIN: u64, const MAX: u64> InRange<T, MIN, MAX> {
+    /// Two are equal exactly if their numbers are.
+    pub fn equality()
+        ensures { IsThatOf ⟦<InRange<T, MIN, MAX> as PartialEq>⟧.eq (λ it. it.value) T.eq }
+    {}
 }
 
 impl<T: WholeNumber + Deserialize, const MIN: u64, const MAX: u64> Constrained

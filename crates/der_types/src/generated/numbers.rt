@@ -164,6 +164,36 @@ impl<const N: u8> ExactDefault<u128> for Number<N> {
     ghost exact_default = { Prim.assumption };
 }
 
+impl Notated for usize {
+    ghost notation = { Notation.unsigned 64 };
+
+    ghost denoted = { refl };
+}
+
+impl Exact for usize {
+    ghost values = { unsigned_values 64 refl };
+
+    ghost exact = { Prim.assumption };
+}
+
+impl ExactNumber for usize {
+    ghost numbered = { numbered_unsigned (2 ^ 64 - 1) };
+
+    ghost exact_number = { Prim.assumption };
+}
+
+impl<const N: u8> NotatedDefault<usize> for Number<N> {
+    ghost value = { unsigned_tree (2 ^ 64 - 1) N };
+
+    ghost is_value = { λ it h. ap (unsigned_tree (2 ^ 64 - 1)) (eqb-true it N h) };
+}
+
+impl<const N: u8> ExactDefault<usize> for Number<N> {
+    ghost default = { number_default (2 ^ 64 - 1) N };
+
+    ghost exact_default = { Prim.assumption };
+}
+
 impl Notated for i8 {
     ghost notation = { Notation.signed 8 };
 

@@ -2,6 +2,7 @@
 //! Numbers other than one.
 ghost use Rattle.std.proofs.Common.{ap};
 ghost use Rattle.std.specs.Prelude.{◌≡◌, true, false, not, refl, IfSome, IfNone, IfOk, IfErr};
+ghost use Rattle.picky_der_core.specs.Equality.{IsThatOf};
 ghost use Rattle.picky_der_de.specs.Reading.{Reads, Refuses};
 ghost use Rattle.picky_der_de.specs.Facts.{part_facts};
 ghost use Rattle.der_types.specs.Constraints.{is_between, RefusesConstrained};
@@ -56,6 +57,13 @@ impl<T: WholeNumber, const N: u64> OtherThan<T, N> {
         let OtherThan { value } = self;
         value
     }
+}
+
+impl<T: WholeNumber + PartialEq, const N: u64> OtherThan<T, N> {
+    /// Two are equal exactly if their numbers are.
+    pub fn equality()
+        ensures { IsThatOf ⟦<OtherThan<T, N> as PartialEq>⟧.eq (λ it. it.value) T.eq }
+    {}
 }
 
 impl<T: WholeNumber + Deserialize, const N: u64> Constrained for OtherThan<T, N> {

@@ -2,6 +2,7 @@
 //! Values of a bounded size.
 ghost use Rattle.std.proofs.Common.{ap};
 ghost use Rattle.std.specs.Prelude.{◌≡◌, true, false, not, refl, IfSome, IfNone, IfOk, IfErr};
+ghost use Rattle.picky_der_core.specs.Equality.{IsThatOf};
 ghost use Rattle.picky_der_de.specs.Reading.{Reads, Refuses};
 ghost use Rattle.picky_der_de.specs.Facts.{part_facts};
 ghost use Rattle.der_types.specs.Constraints.{is_size, RefusesConstrained};
@@ -54,6 +55,13 @@ impl<T: Size, const MIN: usize, const MAX: usize> WithSize<T, MIN, MAX> {
         let WithSize { value } = self;
         value
     }
+}
+
+impl<T: Size + PartialEq, const MIN: usize, const MAX: usize> WithSize<T, MIN, MAX> {
+    /// Two are equal exactly if their values are.
+    pub fn equality()
+        ensures { IsThatOf ⟦<WithSize<T, MIN, MAX> as PartialEq>⟧.eq (λ it. it.value) T.eq }
+    {}
 }
 
 impl<T: Size + Deserialize, const MIN: usize, const MAX: usize> Constrained

@@ -1,12 +1,11 @@
 -- The bits of a key's uses (RFC 5280, 4.2.1.3).
-use Rattle.std.specs.Prelude.{ℕ, Bool, false, List, [], ◌∷◌, map, slice_index_or}
+use Rattle.std.specs.Prelude.{ℕ, ◌==◌, Bool, false, List, [], ◌∷◌, map, slice_index_or}
 use Rattle.std.specs.List.{list_any}
 use Rattle.der_types.specs.BitString.{bits_of}
 use Rattle.der_types.specs.contracts.generated.named_bits.NamedBitsContents.TheImpl as named_bits
 use Rattle.der_x509.specs.declared.pkix1_implicit88.KeyUsage.{KeyUsage}
 use Rattle.der_x509.specs.declared.by_hand.key_usage_flag.KeyUsageFlag.{KeyUsageFlag}
 use Rattle.der_x509.specs.declared.by_hand.key_usage_flag.KeyUsageFlag.TheVariants.{DigitalSignature, ContentCommitment, KeyEncipherment, DataEncipherment, KeyAgreement, KeyCertSign, CrlSign, EncipherOnly, DecipherOnly}
-use Rattle.der_x509.specs.contracts.by_hand.key_usage_flag.KeyUsageFlagPartialEq.TheImpl as compared
 
 abbrev pub flag_number : KeyUsageFlag → ℕ
 flag_number DigitalSignature = 0
@@ -23,6 +22,10 @@ flag_number DecipherOnly = 8
 abbrev pub has_flag : KeyUsage → KeyUsageFlag → Bool
 has_flag it flag = slice_index_or (bits_of (named_bits.ghosts.content it.0)) (flag_number flag) false
 
+-- whether a list has the flag
+abbrev pub is_listed : List KeyUsageFlag → KeyUsageFlag → Bool
+is_listed flags flag = list_any (λ one. flag_number one == flag_number flag) flags
+
 -- the bit of each flag, in order
 abbrev pub flag_bits : List KeyUsageFlag → List Bool
-flag_bits flags = map (λ flag. list_any (λ one. compared.ghosts.eq one flag) flags) (DigitalSignature ∷ ContentCommitment ∷ KeyEncipherment ∷ DataEncipherment ∷ KeyAgreement ∷ KeyCertSign ∷ CrlSign ∷ EncipherOnly ∷ DecipherOnly ∷ [])
+flag_bits flags = map (is_listed flags) (DigitalSignature ∷ ContentCommitment ∷ KeyEncipherment ∷ DataEncipherment ∷ KeyAgreement ∷ KeyCertSign ∷ CrlSign ∷ EncipherOnly ∷ DecipherOnly ∷ [])

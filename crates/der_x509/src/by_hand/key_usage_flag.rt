@@ -1,8 +1,8 @@
 //! The uses of a key, as flags.
 ghost use Rattle.std.specs.Prelude.{◌≡◌, IfOk, IfErr};
-ghost use Rattle.std.specs.List.{list_any};
+ghost use Rattle.picky_der_core.specs.Equality.{IsEqualityOf, IsKept};
 ghost use Rattle.der_types.specs.BitString.{bit_string_content, without_zeros};
-ghost use Rattle.der_x509.specs.by_hand.KeyUsage.{flag_number, flag_bits, has_flag};
+ghost use Rattle.der_x509.specs.by_hand.KeyUsage.{flag_bits, has_flag, is_listed};
 
 use crate::KeyUsage;
 use der_types::{Contents, NamedBits};
@@ -32,11 +32,23 @@ pub enum KeyUsageFlag {
     DecipherOnly,
 }
 
+impl KeyUsageFlag {
+    /// Two are equal exactly if they are one flag.
+    pub fn equality()
+        ensures { IsEqualityOf ⟦<KeyUsageFlag as PartialEq>⟧.eq (λ flag. flag) }
+    {}
+
+    /// A copy is the same flag.
+    pub fn copies()
+        ensures { IsKept ⟦<KeyUsageFlag as Clone>⟧.is_clone (λ flag. flag) }
+    {}
+}
+
 impl KeyUsage {
     /// Returns the set of these flags. Their order doesn't matter, and a flag may occur twice. `OutOfMemory` if the allocation fails.
     pub fn from_flags(alloc: Global, flags: &[KeyUsageFlag]) -> Result<KeyUsage>
         ensures flags { IfOk result (λ it. (flag : KeyUsageFlag)
-            → has_flag it flag ≡ list_any (λ one. ⟦<KeyUsageFlag as PartialEq>⟧.eq one flag) flags.now) }
+            → has_flag it flag ≡ is_listed flags.now flag) }
         ensures content { IfOk result (λ it. ⟦<NamedBits as Contents>⟧.content it.0
             ≡ bit_string_content (without_zeros (flag_bits flags.now))) }
         ensures err { IfErr result (λ e. e ≡ Asn1DerError.OutOfMemory) }

@@ -1,8 +1,10 @@
-use Rattle.std.specs.Cmp.Lexicographic.{bytes_decides}
+use denote.Enum.Bare.{same_true, true_same}
+use Rattle.der_types.specs.contracts.oid_error.OidError as error
+use Rattle.der_types.specs.contracts.width.Width as width
 use Rattle.der_types.proofs.laws.equality.Goals as goal
 
-pub returns-clause-integer : goal.returns-clause-integer
-returns-clause-integer c x y = bytes_decides x.content.items y.content.items
+pub returns-clause-error : goal.returns-clause-error
+returns-clause-error c x y = (same_true error.the_type tt x y, true_same error.the_type x y)
 
-pub returns-clause-enumerated : goal.returns-clause-enumerated
-returns-clause-enumerated c x y = bytes_decides x.0.content.items y.0.content.items
+pub returns-clause-width : goal.returns-clause-width
+returns-clause-width c x y = (same_true width.the_type tt x y, true_same width.the_type x y)

@@ -1,7 +1,7 @@
-use Rattle.std.proofs.Common.{◌≢◌, ◌<◌, ℕ}
-use Rattle.std.specs.Prelude.{slice_index_or}
+use Rattle.std.proofs.Common.{◌≡◌, drop, map}
+use Rattle.der_types.specs.Names.{name_in}
 use Rattle.der_types.proofs.names.name_in.Given as goal
 
--- none of those so far
 abbrev pub invariant-loop-known : goal.invariant-loop-known
-invariant-loop-known l = (k : ℕ) → (d : _) → k < l.known-index → (slice_index_or l.table k d).0.now ≢ l.content
+invariant-loop-known l =
+    name_in (map (λ entry. (entry.0.now, entry.1.now)) (drop l.known-index l.table)) l.content ≡ name_in (map (λ entry. (entry.0.now, entry.1.now)) l.table) l.content
