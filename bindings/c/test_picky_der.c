@@ -2,7 +2,7 @@
  *
  *     test_picky_der CASES [time]
  *
- * CASES is what bindings/test writes: inputs, each with what `der read` says of it. Each input is in a block of its own of exactly its size,
+ * CASES is what tools/bindings writes: inputs, each with what `der read` says of it. Each input is in a block of its own of exactly its size,
  * so that a tool that watches memory sees a read past the end. With `time` the calls are timed, and nothing is tested. */
 #define _POSIX_C_SOURCE 200809L
 #include "picky_der.h"

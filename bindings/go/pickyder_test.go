@@ -21,7 +21,7 @@ type input struct {
 	der             []byte
 }
 
-// inputs are the cases that bindings/test writes, each with what `der read` says of it.
+// inputs are the cases that tools/bindings writes, each with what `der read` says of it.
 func inputs(t testing.TB) (all []input) {
 	data, err := os.ReadFile(os.Getenv("CASES"))
 	if err != nil {

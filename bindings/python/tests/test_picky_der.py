@@ -1,4 +1,4 @@
-"""Tests of the Python package. CASES names the file that bindings/test writes."""
+"""Tests of the Python package. CASES names the file that tools/bindings writes."""
 import os
 import struct
 import threading

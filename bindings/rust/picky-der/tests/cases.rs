@@ -1,4 +1,4 @@
-//! The cases that bindings/test writes: inputs, each with what `der read` says of it.
+//! The cases that tools/bindings writes: inputs, each with what `der read` says of it.
 use picky_der::{elements, front, is_der, Class, Error, Message, Reason, Writer};
 
 const CERTIFICATE: u32 = 0;
