@@ -20,7 +20,7 @@ class Constants(unittest.TestCase):
     def test_codes(self) -> None:
         """The codes that definitions name."""
         values = {it.name: it.value for it in c_tables.codes()}
-        named = {"ok": "OK", "no_memory": "NO_MEMORY", "no_room": "NO_ROOM", "at_end": "END", "no_place": "NO_PLACE"}
+        named = {"ok": "OK", "memory_failed": "NO_MEMORY", "no_room": "NO_ROOM", "at_end": "END", "no_place": "NO_PLACE"}
         named |= {"unknown_type": "UNKNOWN_TYPE", "too_large": "UNSUPPORTED"}
         for word, name in named.items():
             self.assertIn(f"\n{word} = {values[name]}\n", spec("Codes"))

@@ -9,8 +9,8 @@ use Rattle.der_show.specs.declared.rule.Rule.TheVariants as rule
 abbrev pub ok : ℕ
 ok = 0
 
-abbrev pub no_memory : ℕ
-no_memory = 4
+abbrev pub memory_failed : ℕ
+memory_failed = 4
 
 abbrev pub no_room : ℕ
 no_room = 6

@@ -13,7 +13,7 @@ use Rattle.der_show.specs.Outlines.{Breaks, IsFound, IsOutline, listed_at}
 use Rattle.der_show.specs.Walks.{open_ends, IsWalked, IsNext, ComesNext}
 use Rattle.der_c.specs.declared.element.PickyDerElement.{PickyDerElement}
 use Rattle.der_c.specs.declared.next.PickyDerPlace.{PickyDerPlace}
-use Rattle.der_c.specs.Codes.{ok, no_memory, no_room, at_end, no_place, rule_code}
+use Rattle.der_c.specs.Codes.{ok, memory_failed, no_room, at_end, no_place, rule_code}
 
 abbrev pub element_in_c : Element → PickyDerElement
 element_in_c e = record {
@@ -48,7 +48,7 @@ pub data AreElementsInC (bytes : List ℕ) (old new : List PickyDerElement) (cou
   all : (o : Outline) → IsOutline bytes o → o.complaint ≡ None → AreWritten old new count o → position ≡ length bytes → code ≡ ok → AreElementsInC bytes old new count position code
   broken : (o : Outline) (c : Complaint) → IsOutline bytes o → o.complaint ≡ Some c → AreWritten old new count o → position ≡ c.offset → code ≡ rule_code c.rule
       → AreElementsInC bytes old new count position code
-  no_memory : new ≡ old → count ≡ 0 → position ≡ 0 → code ≡ no_memory → AreElementsInC bytes old new count position code
+  no_memory : new ≡ old → count ≡ 0 → position ≡ 0 → code ≡ memory_failed → AreElementsInC bytes old new count position code
 
 -- ---- one after another
 
@@ -64,8 +64,8 @@ IsGiven old new code next.NoRoom = (new ≡ old) × (code ≡ no_room)
 IsGiven old new code next.NoPlace = (new ≡ old) × (code ≡ no_place)
 
 pub record IsStepInC (bytes : List ℕ) (old : PickyDerPlace) (olds : List ℕ) (new : PickyDerPlace) (news : List ℕ) (before after : PickyDerElement) (code : ℕ) : Type 0 where
-  pub next : Next
-  pub is : IsNext bytes (place_of old) olds (place_of new) news next
+  pub found : Next
+  pub is : IsNext bytes (place_of old) olds (place_of new) news found
   -- in a walk from the first byte on, whatever elements it went over
-  pub walk : (es : List Element) → IsWalked bytes (open_ends (place_of old) olds) old.offset es → ComesNext bytes (place_of old) olds (place_of new) news es next
-  pub given : IsGiven before after code next
+  pub walk : (es : List Element) → IsWalked bytes (open_ends (place_of old) olds) old.offset es → ComesNext bytes (place_of old) olds (place_of new) news es found
+  pub given : IsGiven before after code found
