@@ -240,179 +240,198 @@ typedef struct {
     size_t depth;
 } picky_der_place;
 
-/* Checks whether the bytes are exactly one message of the type with this number, as the check of that type
- * does. If no type has the number, it returns PICKY_DER_UNKNOWN_TYPE and writes 0. */
+/* Checks whether the bytes are exactly one message of the type with this number, in which each element is in
+ * DER.
+ * Returns PICKY_DER_OK if they are, and writes how many bytes there are to position. Returns
+ * PICKY_DER_TRUNCATED, PICKY_DER_INVALID, PICKY_DER_UNSUPPORTED or PICKY_DER_OTHER if they aren't the
+ * encoding of a value of the type, and writes after how many bytes this was found. Returns the code of a rule
+ * if they are such an encoding, but an element in a part that the type leaves open breaks this rule, and
+ * writes the offset of the element. Returns PICKY_DER_NO_MEMORY if an allocation failed,
+ * PICKY_DER_UNKNOWN_TYPE if no type has the number, and writes 0. */
 picky_der_code picky_der_check(uint32_t number, const uint8_t *bytes, size_t bytes_len, size_t *position);
 
-/* Checks whether the bytes are exactly one message of this type: certificate of X.509 (RFC 5280, 4.1). */
+/* Checks as picky_der_check does whether the bytes are a message of this type: certificate of X.509 (RFC
+ * 5280, 4.1). */
 picky_der_code picky_der_check_certificate(const uint8_t *bytes, size_t bytes_len, size_t *position);
 
-/* Checks whether the bytes are exactly one message of this type: list of revoked certificates (RFC 5280,
- * 5.1). */
+/* Checks as picky_der_check does whether the bytes are a message of this type: list of revoked certificates
+ * (RFC 5280, 5.1). */
 picky_der_code picky_der_check_crl(const uint8_t *bytes, size_t bytes_len, size_t *position);
 
-/* Checks whether the bytes are exactly one message of this type: certificate of attributes (RFC 5755, 4.1). */
+/* Checks as picky_der_check does whether the bytes are a message of this type: certificate of attributes (RFC
+ * 5755, 4.1). */
 picky_der_code picky_der_check_attribute_certificate(const uint8_t *bytes, size_t bytes_len, size_t *position);
 
-/* Checks whether the bytes are exactly one message of this type: request for a certificate, PKCS #10 (RFC
- * 2986, 4.2). */
+/* Checks as picky_der_check does whether the bytes are a message of this type: request for a certificate,
+ * PKCS #10 (RFC 2986, 4.2). */
 picky_der_code picky_der_check_csr(const uint8_t *bytes, size_t bytes_len, size_t *position);
 
-/* Checks whether the bytes are exactly one message of this type: request for the status of certificates (RFC
- * 6960, 4.1.1). */
+/* Checks as picky_der_check does whether the bytes are a message of this type: request for the status of
+ * certificates (RFC 6960, 4.1.1). */
 picky_der_code picky_der_check_ocsp_request(const uint8_t *bytes, size_t bytes_len, size_t *position);
 
-/* Checks whether the bytes are exactly one message of this type: response with the status of certificates
- * (RFC 6960, 4.2.1). */
+/* Checks as picky_der_check does whether the bytes are a message of this type: response with the status of
+ * certificates (RFC 6960, 4.2.1). */
 picky_der_code picky_der_check_ocsp_response(const uint8_t *bytes, size_t bytes_len, size_t *position);
 
-/* Checks whether the bytes are exactly one message of this type: what a response with the status of
- * certificates says (RFC 6960, 4.2.1). */
+/* Checks as picky_der_check does whether the bytes are a message of this type: what a response with the
+ * status of certificates says (RFC 6960, 4.2.1). */
 picky_der_code picky_der_check_basic_ocsp_response(const uint8_t *bytes, size_t bytes_len, size_t *position);
 
-/* Checks whether the bytes are exactly one message of this type: request for a time stamp (RFC 3161, 2.4.1). */
+/* Checks as picky_der_check does whether the bytes are a message of this type: request for a time stamp (RFC
+ * 3161, 2.4.1). */
 picky_der_code picky_der_check_timestamp_query(const uint8_t *bytes, size_t bytes_len, size_t *position);
 
-/* Checks whether the bytes are exactly one message of this type: response with a time stamp (RFC 3161,
- * 2.4.2). */
+/* Checks as picky_der_check does whether the bytes are a message of this type: response with a time stamp
+ * (RFC 3161, 2.4.2). */
 picky_der_code picky_der_check_timestamp_response(const uint8_t *bytes, size_t bytes_len, size_t *position);
 
-/* Checks whether the bytes are exactly one message of this type: what a time stamp says, a content of CMS
- * (RFC 3161, 2.4.2). */
+/* Checks as picky_der_check does whether the bytes are a message of this type: what a time stamp says, a
+ * content of CMS (RFC 3161, 2.4.2). */
 picky_der_code picky_der_check_tst_info(const uint8_t *bytes, size_t bytes_len, size_t *position);
 
-/* Checks whether the bytes are exactly one message of this type: message of CMS with any content, PKCS #7
- * (RFC 5652, 3). */
+/* Checks as picky_der_check does whether the bytes are a message of this type: message of CMS with any
+ * content, PKCS #7 (RFC 5652, 3). */
 picky_der_code picky_der_check_cms(const uint8_t *bytes, size_t bytes_len, size_t *position);
 
-/* Checks whether the bytes are exactly one message of this type: signed data, a content of CMS (RFC 5652,
- * 5.1). */
+/* Checks as picky_der_check does whether the bytes are a message of this type: signed data, a content of CMS
+ * (RFC 5652, 5.1). */
 picky_der_code picky_der_check_signed_data(const uint8_t *bytes, size_t bytes_len, size_t *position);
 
-/* Checks whether the bytes are exactly one message of this type: enveloped data, a content of CMS (RFC 5652,
- * 6.1). */
+/* Checks as picky_der_check does whether the bytes are a message of this type: enveloped data, a content of
+ * CMS (RFC 5652, 6.1). */
 picky_der_code picky_der_check_enveloped_data(const uint8_t *bytes, size_t bytes_len, size_t *position);
 
-/* Checks whether the bytes are exactly one message of this type: digested data, a content of CMS (RFC 5652,
- * 7). */
+/* Checks as picky_der_check does whether the bytes are a message of this type: digested data, a content of
+ * CMS (RFC 5652, 7). */
 picky_der_code picky_der_check_digested_data(const uint8_t *bytes, size_t bytes_len, size_t *position);
 
-/* Checks whether the bytes are exactly one message of this type: encrypted data, a content of CMS (RFC 5652,
- * 8). */
+/* Checks as picky_der_check does whether the bytes are a message of this type: encrypted data, a content of
+ * CMS (RFC 5652, 8). */
 picky_der_code picky_der_check_encrypted_data(const uint8_t *bytes, size_t bytes_len, size_t *position);
 
-/* Checks whether the bytes are exactly one message of this type: authenticated data, a content of CMS (RFC
- * 5652, 9.1). */
+/* Checks as picky_der_check does whether the bytes are a message of this type: authenticated data, a content
+ * of CMS (RFC 5652, 9.1). */
 picky_der_code picky_der_check_authenticated_data(const uint8_t *bytes, size_t bytes_len, size_t *position);
 
-/* Checks whether the bytes are exactly one message of this type: enveloped data with authentication, a
- * content of CMS (RFC 5083, 2.1). */
+/* Checks as picky_der_check does whether the bytes are a message of this type: enveloped data with
+ * authentication, a content of CMS (RFC 5083, 2.1). */
 picky_der_code picky_der_check_auth_enveloped_data(const uint8_t *bytes, size_t bytes_len, size_t *position);
 
-/* Checks whether the bytes are exactly one message of this type: private key of any algorithm, PKCS #8 (RFC
- * 5958, 2; RFC 5208, 5). */
+/* Checks as picky_der_check does whether the bytes are a message of this type: private key of any algorithm,
+ * PKCS #8 (RFC 5958, 2; RFC 5208, 5). */
 picky_der_code picky_der_check_pkcs8(const uint8_t *bytes, size_t bytes_len, size_t *position);
 
-/* Checks whether the bytes are exactly one message of this type: encrypted private key, PKCS #8 (RFC 5958, 3;
- * RFC 5208, 6). */
+/* Checks as picky_der_check does whether the bytes are a message of this type: encrypted private key, PKCS #8
+ * (RFC 5958, 3; RFC 5208, 6). */
 picky_der_code picky_der_check_encrypted_key(const uint8_t *bytes, size_t bytes_len, size_t *position);
 
-/* Checks whether the bytes are exactly one message of this type: private key of RSA, PKCS #1 (RFC 8017,
- * A.1.2). */
+/* Checks as picky_der_check does whether the bytes are a message of this type: private key of RSA, PKCS #1
+ * (RFC 8017, A.1.2). */
 picky_der_code picky_der_check_rsa_key(const uint8_t *bytes, size_t bytes_len, size_t *position);
 
-/* Checks whether the bytes are exactly one message of this type: private key of an elliptic curve (RFC 5915,
- * 3). */
+/* Checks as picky_der_check does whether the bytes are a message of this type: private key of an elliptic
+ * curve (RFC 5915, 3). */
 picky_der_code picky_der_check_ec_key(const uint8_t *bytes, size_t bytes_len, size_t *position);
 
-/* Checks whether the bytes are exactly one message of this type: public key of any algorithm (RFC 5280, 4.1). */
+/* Checks as picky_der_check does whether the bytes are a message of this type: public key of any algorithm
+ * (RFC 5280, 4.1). */
 picky_der_code picky_der_check_public_key(const uint8_t *bytes, size_t bytes_len, size_t *position);
 
-/* Checks whether the bytes are exactly one message of this type: public key of RSA, PKCS #1 (RFC 8017,
- * A.1.1). */
+/* Checks as picky_der_check does whether the bytes are a message of this type: public key of RSA, PKCS #1
+ * (RFC 8017, A.1.1). */
 picky_der_code picky_der_check_rsa_public_key(const uint8_t *bytes, size_t bytes_len, size_t *position);
 
-/* Checks whether the bytes are exactly one message of this type: signature of ECDSA or DSA (RFC 3279, 2.2.3). */
+/* Checks as picky_der_check does whether the bytes are a message of this type: signature of ECDSA or DSA (RFC
+ * 3279, 2.2.3). */
 picky_der_code picky_der_check_ecdsa_signature(const uint8_t *bytes, size_t bytes_len, size_t *position);
 
-/* Checks whether the bytes are exactly one message of this type: parameters of an elliptic curve (RFC 3279,
- * 2.3.5). */
+/* Checks as picky_der_check does whether the bytes are a message of this type: parameters of an elliptic
+ * curve (RFC 3279, 2.3.5). */
 picky_der_code picky_der_check_ec_parameters(const uint8_t *bytes, size_t bytes_len, size_t *position);
 
-/* Checks whether the bytes are exactly one message of this type: parameters of DSA (RFC 3279, 2.3.2). */
+/* Checks as picky_der_check does whether the bytes are a message of this type: parameters of DSA (RFC 3279,
+ * 2.3.2). */
 picky_der_code picky_der_check_dsa_parameters(const uint8_t *bytes, size_t bytes_len, size_t *position);
 
-/* Checks whether the bytes are exactly one message of this type: store of keys and certificates, PKCS #12
- * (RFC 7292, 4). */
+/* Checks as picky_der_check does whether the bytes are a message of this type: store of keys and
+ * certificates, PKCS #12 (RFC 7292, 4). */
 picky_der_code picky_der_check_pkcs12(const uint8_t *bytes, size_t bytes_len, size_t *position);
 
-/* Checks whether the bytes are exactly one message of this type: ticket of Kerberos (RFC 4120, 5.3). */
+/* Checks as picky_der_check does whether the bytes are a message of this type: ticket of Kerberos (RFC 4120,
+ * 5.3). */
 picky_der_code picky_der_check_ticket(const uint8_t *bytes, size_t bytes_len, size_t *position);
 
-/* Checks whether the bytes are exactly one message of this type: message of Kerberos, any of those that
- * follow (RFC 4120, 5.4 to 5.9). */
+/* Checks as picky_der_check does whether the bytes are a message of this type: message of Kerberos, any of
+ * those that follow (RFC 4120, 5.4 to 5.9). */
 picky_der_code picky_der_check_krb(const uint8_t *bytes, size_t bytes_len, size_t *position);
 
-/* Checks whether the bytes are exactly one message of this type: request for a first ticket (RFC 4120,
- * 5.4.1). */
+/* Checks as picky_der_check does whether the bytes are a message of this type: request for a first ticket
+ * (RFC 4120, 5.4.1). */
 picky_der_code picky_der_check_as_req(const uint8_t *bytes, size_t bytes_len, size_t *position);
 
-/* Checks whether the bytes are exactly one message of this type: response with a first ticket (RFC 4120,
- * 5.4.2). */
+/* Checks as picky_der_check does whether the bytes are a message of this type: response with a first ticket
+ * (RFC 4120, 5.4.2). */
 picky_der_code picky_der_check_as_rep(const uint8_t *bytes, size_t bytes_len, size_t *position);
 
-/* Checks whether the bytes are exactly one message of this type: request for a ticket (RFC 4120, 5.4.1). */
+/* Checks as picky_der_check does whether the bytes are a message of this type: request for a ticket (RFC
+ * 4120, 5.4.1). */
 picky_der_code picky_der_check_tgs_req(const uint8_t *bytes, size_t bytes_len, size_t *position);
 
-/* Checks whether the bytes are exactly one message of this type: response with a ticket (RFC 4120, 5.4.2). */
+/* Checks as picky_der_check does whether the bytes are a message of this type: response with a ticket (RFC
+ * 4120, 5.4.2). */
 picky_der_code picky_der_check_tgs_rep(const uint8_t *bytes, size_t bytes_len, size_t *position);
 
-/* Checks whether the bytes are exactly one message of this type: request to a server, with a ticket (RFC
- * 4120, 5.5.1). */
+/* Checks as picky_der_check does whether the bytes are a message of this type: request to a server, with a
+ * ticket (RFC 4120, 5.5.1). */
 picky_der_code picky_der_check_ap_req(const uint8_t *bytes, size_t bytes_len, size_t *position);
 
-/* Checks whether the bytes are exactly one message of this type: response of a server (RFC 4120, 5.5.2). */
+/* Checks as picky_der_check does whether the bytes are a message of this type: response of a server (RFC
+ * 4120, 5.5.2). */
 picky_der_code picky_der_check_ap_rep(const uint8_t *bytes, size_t bytes_len, size_t *position);
 
-/* Checks whether the bytes are exactly one message of this type: message with a checksum (RFC 4120, 5.6.1). */
+/* Checks as picky_der_check does whether the bytes are a message of this type: message with a checksum (RFC
+ * 4120, 5.6.1). */
 picky_der_code picky_der_check_krb_safe(const uint8_t *bytes, size_t bytes_len, size_t *position);
 
-/* Checks whether the bytes are exactly one message of this type: encrypted message (RFC 4120, 5.7.1). */
+/* Checks as picky_der_check does whether the bytes are a message of this type: encrypted message (RFC 4120,
+ * 5.7.1). */
 picky_der_code picky_der_check_krb_priv(const uint8_t *bytes, size_t bytes_len, size_t *position);
 
-/* Checks whether the bytes are exactly one message of this type: tickets that are handed on (RFC 4120,
- * 5.8.1). */
+/* Checks as picky_der_check does whether the bytes are a message of this type: tickets that are handed on
+ * (RFC 4120, 5.8.1). */
 picky_der_code picky_der_check_krb_cred(const uint8_t *bytes, size_t bytes_len, size_t *position);
 
-/* Checks whether the bytes are exactly one message of this type: error of Kerberos (RFC 4120, 5.9.1). */
+/* Checks as picky_der_check does whether the bytes are a message of this type: error of Kerberos (RFC 4120,
+ * 5.9.1). */
 picky_der_code picky_der_check_krb_error(const uint8_t *bytes, size_t bytes_len, size_t *position);
 
-/* Checks whether the bytes are exactly one message of this type: what is encrypted in a request to a server
- * (RFC 4120, 5.5.1). */
+/* Checks as picky_der_check does whether the bytes are a message of this type: what is encrypted in a request
+ * to a server (RFC 4120, 5.5.1). */
 picky_der_code picky_der_check_authenticator(const uint8_t *bytes, size_t bytes_len, size_t *position);
 
-/* Checks whether the bytes are exactly one message of this type: what is encrypted in a ticket (RFC 4120,
- * 5.3). */
+/* Checks as picky_der_check does whether the bytes are a message of this type: what is encrypted in a ticket
+ * (RFC 4120, 5.3). */
 picky_der_code picky_der_check_enc_ticket_part(const uint8_t *bytes, size_t bytes_len, size_t *position);
 
-/* Checks whether the bytes are exactly one message of this type: what is encrypted in a response with a first
- * ticket (RFC 4120, 5.4.2). */
+/* Checks as picky_der_check does whether the bytes are a message of this type: what is encrypted in a
+ * response with a first ticket (RFC 4120, 5.4.2). */
 picky_der_code picky_der_check_enc_as_rep_part(const uint8_t *bytes, size_t bytes_len, size_t *position);
 
-/* Checks whether the bytes are exactly one message of this type: what is encrypted in a response with a
- * ticket (RFC 4120, 5.4.2). */
+/* Checks as picky_der_check does whether the bytes are a message of this type: what is encrypted in a
+ * response with a ticket (RFC 4120, 5.4.2). */
 picky_der_code picky_der_check_enc_tgs_rep_part(const uint8_t *bytes, size_t bytes_len, size_t *position);
 
-/* Checks whether the bytes are exactly one message of this type: what is encrypted in a response of a server
- * (RFC 4120, 5.5.2). */
+/* Checks as picky_der_check does whether the bytes are a message of this type: what is encrypted in a
+ * response of a server (RFC 4120, 5.5.2). */
 picky_der_code picky_der_check_enc_ap_rep_part(const uint8_t *bytes, size_t bytes_len, size_t *position);
 
-/* Checks whether the bytes are exactly one message of this type: what is encrypted in an encrypted message
- * (RFC 4120, 5.7.1). */
+/* Checks as picky_der_check does whether the bytes are a message of this type: what is encrypted in an
+ * encrypted message (RFC 4120, 5.7.1). */
 picky_der_code picky_der_check_enc_krb_priv_part(const uint8_t *bytes, size_t bytes_len, size_t *position);
 
-/* Checks whether the bytes are exactly one message of this type: what is encrypted next to tickets that are
- * handed on (RFC 4120, 5.8.1). */
+/* Checks as picky_der_check does whether the bytes are a message of this type: what is encrypted next to
+ * tickets that are handed on (RFC 4120, 5.8.1). */
 picky_der_code picky_der_check_enc_krb_cred_part(const uint8_t *bytes, size_t bytes_len, size_t *position);
 
 /* Writes the element at the front of the bytes to element, and returns PICKY_DER_OK. Its tag, its length and

@@ -62,8 +62,12 @@ use crate::types::type_of_number;
 use der_read::{{Described, MessageType}};
 use std::alloc::Global;
 
-/// Checks whether the bytes are exactly one message of the type with this number, as the check of that type does. If no type has the number,
-/// it returns PICKY_DER_UNKNOWN_TYPE and writes 0.
+/// Checks whether the bytes are exactly one message of the type with this number, in which each element is in DER.
+///
+/// Returns PICKY_DER_OK if they are, and writes how many bytes there are to `position`. Returns PICKY_DER_TRUNCATED, PICKY_DER_INVALID,
+/// PICKY_DER_UNSUPPORTED or PICKY_DER_OTHER if they aren't the encoding of a value of the type, and writes after how many bytes this was found.
+/// Returns the code of a rule if they are such an encoding, but an element in a part that the type leaves open breaks this rule, and writes the
+/// offset of the element. Returns PICKY_DER_NO_MEMORY if an allocation failed, PICKY_DER_UNKNOWN_TYPE if no type has the number, and writes 0.
 #[unsafe(no_mangle)]
 pub extern "C" fn picky_der_check(
     alloc: Global,
@@ -86,7 +90,7 @@ pub extern "C" fn picky_der_check(
 """
 
 EXPORT = """\
-/// Checks whether the bytes are exactly one message of this type: {title}.
+/// Checks as picky_der_check does whether the bytes are a message of this type: {title}.
 #[unsafe(no_mangle)]
 pub extern "C" fn picky_der_check_{name}({arguments}) -> u32
     ensures {{ IsVerdict (⟦<MessageType as Described>⟧.description MessageType.{variant}) bytes.now result position.new }}

@@ -9,8 +9,12 @@ use crate::types::type_of_number;
 use der_read::{Described, MessageType};
 use std::alloc::Global;
 
-/// Checks whether the bytes are exactly one message of the type with this number, as the check of that type does. If no type has the number,
-/// it returns PICKY_DER_UNKNOWN_TYPE and writes 0.
+/// Checks whether the bytes are exactly one message of the type with this number, in which each element is in DER.
+///
+/// Returns PICKY_DER_OK if they are, and writes how many bytes there are to `position`. Returns PICKY_DER_TRUNCATED, PICKY_DER_INVALID,
+/// PICKY_DER_UNSUPPORTED or PICKY_DER_OTHER if they aren't the encoding of a value of the type, and writes after how many bytes this was found.
+/// Returns the code of a rule if they are such an encoding, but an element in a part that the type leaves open breaks this rule, and writes the
+/// offset of the element. Returns PICKY_DER_NO_MEMORY if an allocation failed, PICKY_DER_UNKNOWN_TYPE if no type has the number, and writes 0.
 #[unsafe(no_mangle)]
 pub extern "C" fn picky_der_check(
     alloc: Global,
@@ -29,7 +33,7 @@ pub extern "C" fn picky_der_check(
     }
 }
 
-/// Checks whether the bytes are exactly one message of this type: certificate of X.509 (RFC 5280, 4.1).
+/// Checks as picky_der_check does whether the bytes are a message of this type: certificate of X.509 (RFC 5280, 4.1).
 #[unsafe(no_mangle)]
 pub extern "C" fn picky_der_check_certificate(
     alloc: Global,
@@ -41,7 +45,7 @@ pub extern "C" fn picky_der_check_certificate(
     check(alloc, MessageType::Certificate, bytes, position)
 }
 
-/// Checks whether the bytes are exactly one message of this type: list of revoked certificates (RFC 5280, 5.1).
+/// Checks as picky_der_check does whether the bytes are a message of this type: list of revoked certificates (RFC 5280, 5.1).
 #[unsafe(no_mangle)]
 pub extern "C" fn picky_der_check_crl(alloc: Global, bytes: &[u8], position: &mut usize) -> u32
     ensures { IsVerdict (⟦<MessageType as Described>⟧.description MessageType.Crl) bytes.now result position.new }
@@ -49,7 +53,7 @@ pub extern "C" fn picky_der_check_crl(alloc: Global, bytes: &[u8], position: &mu
     check(alloc, MessageType::Crl, bytes, position)
 }
 
-/// Checks whether the bytes are exactly one message of this type: certificate of attributes (RFC 5755, 4.1).
+/// Checks as picky_der_check does whether the bytes are a message of this type: certificate of attributes (RFC 5755, 4.1).
 #[unsafe(no_mangle)]
 pub extern "C" fn picky_der_check_attribute_certificate(
     alloc: Global,
@@ -61,7 +65,7 @@ pub extern "C" fn picky_der_check_attribute_certificate(
     check(alloc, MessageType::AttributeCertificate, bytes, position)
 }
 
-/// Checks whether the bytes are exactly one message of this type: request for a certificate, PKCS #10 (RFC 2986, 4.2).
+/// Checks as picky_der_check does whether the bytes are a message of this type: request for a certificate, PKCS #10 (RFC 2986, 4.2).
 #[unsafe(no_mangle)]
 pub extern "C" fn picky_der_check_csr(alloc: Global, bytes: &[u8], position: &mut usize) -> u32
     ensures { IsVerdict (⟦<MessageType as Described>⟧.description MessageType.Csr) bytes.now result position.new }
@@ -69,7 +73,7 @@ pub extern "C" fn picky_der_check_csr(alloc: Global, bytes: &[u8], position: &mu
     check(alloc, MessageType::Csr, bytes, position)
 }
 
-/// Checks whether the bytes are exactly one message of this type: request for the status of certificates (RFC 6960, 4.1.1).
+/// Checks as picky_der_check does whether the bytes are a message of this type: request for the status of certificates (RFC 6960, 4.1.1).
 #[unsafe(no_mangle)]
 pub extern "C" fn picky_der_check_ocsp_request(
     alloc: Global,
@@ -81,7 +85,7 @@ pub extern "C" fn picky_der_check_ocsp_request(
     check(alloc, MessageType::OcspRequest, bytes, position)
 }
 
-/// Checks whether the bytes are exactly one message of this type: response with the status of certificates (RFC 6960, 4.2.1).
+/// Checks as picky_der_check does whether the bytes are a message of this type: response with the status of certificates (RFC 6960, 4.2.1).
 #[unsafe(no_mangle)]
 pub extern "C" fn picky_der_check_ocsp_response(
     alloc: Global,
@@ -93,7 +97,7 @@ pub extern "C" fn picky_der_check_ocsp_response(
     check(alloc, MessageType::OcspResponse, bytes, position)
 }
 
-/// Checks whether the bytes are exactly one message of this type: what a response with the status of certificates says (RFC 6960, 4.2.1).
+/// Checks as picky_der_check does whether the bytes are a message of this type: what a response with the status of certificates says (RFC 6960, 4.2.1).
 #[unsafe(no_mangle)]
 pub extern "C" fn picky_der_check_basic_ocsp_response(
     alloc: Global,
@@ -105,7 +109,7 @@ pub extern "C" fn picky_der_check_basic_ocsp_response(
     check(alloc, MessageType::BasicOcspResponse, bytes, position)
 }
 
-/// Checks whether the bytes are exactly one message of this type: request for a time stamp (RFC 3161, 2.4.1).
+/// Checks as picky_der_check does whether the bytes are a message of this type: request for a time stamp (RFC 3161, 2.4.1).
 #[unsafe(no_mangle)]
 pub extern "C" fn picky_der_check_timestamp_query(
     alloc: Global,
@@ -117,7 +121,7 @@ pub extern "C" fn picky_der_check_timestamp_query(
     check(alloc, MessageType::TimestampQuery, bytes, position)
 }
 
-/// Checks whether the bytes are exactly one message of this type: response with a time stamp (RFC 3161, 2.4.2).
+/// Checks as picky_der_check does whether the bytes are a message of this type: response with a time stamp (RFC 3161, 2.4.2).
 #[unsafe(no_mangle)]
 pub extern "C" fn picky_der_check_timestamp_response(
     alloc: Global,
@@ -129,7 +133,7 @@ pub extern "C" fn picky_der_check_timestamp_response(
     check(alloc, MessageType::TimestampResponse, bytes, position)
 }
 
-/// Checks whether the bytes are exactly one message of this type: what a time stamp says, a content of CMS (RFC 3161, 2.4.2).
+/// Checks as picky_der_check does whether the bytes are a message of this type: what a time stamp says, a content of CMS (RFC 3161, 2.4.2).
 #[unsafe(no_mangle)]
 pub extern "C" fn picky_der_check_tst_info(alloc: Global, bytes: &[u8], position: &mut usize) -> u32
     ensures { IsVerdict (⟦<MessageType as Described>⟧.description MessageType.TstInfo) bytes.now result position.new }
@@ -137,7 +141,7 @@ pub extern "C" fn picky_der_check_tst_info(alloc: Global, bytes: &[u8], position
     check(alloc, MessageType::TstInfo, bytes, position)
 }
 
-/// Checks whether the bytes are exactly one message of this type: message of CMS with any content, PKCS #7 (RFC 5652, 3).
+/// Checks as picky_der_check does whether the bytes are a message of this type: message of CMS with any content, PKCS #7 (RFC 5652, 3).
 #[unsafe(no_mangle)]
 pub extern "C" fn picky_der_check_cms(alloc: Global, bytes: &[u8], position: &mut usize) -> u32
     ensures { IsVerdict (⟦<MessageType as Described>⟧.description MessageType.Cms) bytes.now result position.new }
@@ -145,7 +149,7 @@ pub extern "C" fn picky_der_check_cms(alloc: Global, bytes: &[u8], position: &mu
     check(alloc, MessageType::Cms, bytes, position)
 }
 
-/// Checks whether the bytes are exactly one message of this type: signed data, a content of CMS (RFC 5652, 5.1).
+/// Checks as picky_der_check does whether the bytes are a message of this type: signed data, a content of CMS (RFC 5652, 5.1).
 #[unsafe(no_mangle)]
 pub extern "C" fn picky_der_check_signed_data(
     alloc: Global,
@@ -157,7 +161,7 @@ pub extern "C" fn picky_der_check_signed_data(
     check(alloc, MessageType::SignedData, bytes, position)
 }
 
-/// Checks whether the bytes are exactly one message of this type: enveloped data, a content of CMS (RFC 5652, 6.1).
+/// Checks as picky_der_check does whether the bytes are a message of this type: enveloped data, a content of CMS (RFC 5652, 6.1).
 #[unsafe(no_mangle)]
 pub extern "C" fn picky_der_check_enveloped_data(
     alloc: Global,
@@ -169,7 +173,7 @@ pub extern "C" fn picky_der_check_enveloped_data(
     check(alloc, MessageType::EnvelopedData, bytes, position)
 }
 
-/// Checks whether the bytes are exactly one message of this type: digested data, a content of CMS (RFC 5652, 7).
+/// Checks as picky_der_check does whether the bytes are a message of this type: digested data, a content of CMS (RFC 5652, 7).
 #[unsafe(no_mangle)]
 pub extern "C" fn picky_der_check_digested_data(
     alloc: Global,
@@ -181,7 +185,7 @@ pub extern "C" fn picky_der_check_digested_data(
     check(alloc, MessageType::DigestedData, bytes, position)
 }
 
-/// Checks whether the bytes are exactly one message of this type: encrypted data, a content of CMS (RFC 5652, 8).
+/// Checks as picky_der_check does whether the bytes are a message of this type: encrypted data, a content of CMS (RFC 5652, 8).
 #[unsafe(no_mangle)]
 pub extern "C" fn picky_der_check_encrypted_data(
     alloc: Global,
@@ -193,7 +197,7 @@ pub extern "C" fn picky_der_check_encrypted_data(
     check(alloc, MessageType::EncryptedData, bytes, position)
 }
 
-/// Checks whether the bytes are exactly one message of this type: authenticated data, a content of CMS (RFC 5652, 9.1).
+/// Checks as picky_der_check does whether the bytes are a message of this type: authenticated data, a content of CMS (RFC 5652, 9.1).
 #[unsafe(no_mangle)]
 pub extern "C" fn picky_der_check_authenticated_data(
     alloc: Global,
@@ -205,7 +209,7 @@ pub extern "C" fn picky_der_check_authenticated_data(
     check(alloc, MessageType::AuthenticatedData, bytes, position)
 }
 
-/// Checks whether the bytes are exactly one message of this type: enveloped data with authentication, a content of CMS (RFC 5083, 2.1).
+/// Checks as picky_der_check does whether the bytes are a message of this type: enveloped data with authentication, a content of CMS (RFC 5083, 2.1).
 #[unsafe(no_mangle)]
 pub extern "C" fn picky_der_check_auth_enveloped_data(
     alloc: Global,
@@ -217,7 +221,7 @@ pub extern "C" fn picky_der_check_auth_enveloped_data(
     check(alloc, MessageType::AuthEnvelopedData, bytes, position)
 }
 
-/// Checks whether the bytes are exactly one message of this type: private key of any algorithm, PKCS #8 (RFC 5958, 2; RFC 5208, 5).
+/// Checks as picky_der_check does whether the bytes are a message of this type: private key of any algorithm, PKCS #8 (RFC 5958, 2; RFC 5208, 5).
 #[unsafe(no_mangle)]
 pub extern "C" fn picky_der_check_pkcs8(alloc: Global, bytes: &[u8], position: &mut usize) -> u32
     ensures { IsVerdict (⟦<MessageType as Described>⟧.description MessageType.Pkcs8) bytes.now result position.new }
@@ -225,7 +229,7 @@ pub extern "C" fn picky_der_check_pkcs8(alloc: Global, bytes: &[u8], position: &
     check(alloc, MessageType::Pkcs8, bytes, position)
 }
 
-/// Checks whether the bytes are exactly one message of this type: encrypted private key, PKCS #8 (RFC 5958, 3; RFC 5208, 6).
+/// Checks as picky_der_check does whether the bytes are a message of this type: encrypted private key, PKCS #8 (RFC 5958, 3; RFC 5208, 6).
 #[unsafe(no_mangle)]
 pub extern "C" fn picky_der_check_encrypted_key(
     alloc: Global,
@@ -237,7 +241,7 @@ pub extern "C" fn picky_der_check_encrypted_key(
     check(alloc, MessageType::EncryptedKey, bytes, position)
 }
 
-/// Checks whether the bytes are exactly one message of this type: private key of RSA, PKCS #1 (RFC 8017, A.1.2).
+/// Checks as picky_der_check does whether the bytes are a message of this type: private key of RSA, PKCS #1 (RFC 8017, A.1.2).
 #[unsafe(no_mangle)]
 pub extern "C" fn picky_der_check_rsa_key(alloc: Global, bytes: &[u8], position: &mut usize) -> u32
     ensures { IsVerdict (⟦<MessageType as Described>⟧.description MessageType.RsaKey) bytes.now result position.new }
@@ -245,7 +249,7 @@ pub extern "C" fn picky_der_check_rsa_key(alloc: Global, bytes: &[u8], position:
     check(alloc, MessageType::RsaKey, bytes, position)
 }
 
-/// Checks whether the bytes are exactly one message of this type: private key of an elliptic curve (RFC 5915, 3).
+/// Checks as picky_der_check does whether the bytes are a message of this type: private key of an elliptic curve (RFC 5915, 3).
 #[unsafe(no_mangle)]
 pub extern "C" fn picky_der_check_ec_key(alloc: Global, bytes: &[u8], position: &mut usize) -> u32
     ensures { IsVerdict (⟦<MessageType as Described>⟧.description MessageType.EcKey) bytes.now result position.new }
@@ -253,7 +257,7 @@ pub extern "C" fn picky_der_check_ec_key(alloc: Global, bytes: &[u8], position: 
     check(alloc, MessageType::EcKey, bytes, position)
 }
 
-/// Checks whether the bytes are exactly one message of this type: public key of any algorithm (RFC 5280, 4.1).
+/// Checks as picky_der_check does whether the bytes are a message of this type: public key of any algorithm (RFC 5280, 4.1).
 #[unsafe(no_mangle)]
 pub extern "C" fn picky_der_check_public_key(
     alloc: Global,
@@ -265,7 +269,7 @@ pub extern "C" fn picky_der_check_public_key(
     check(alloc, MessageType::PublicKey, bytes, position)
 }
 
-/// Checks whether the bytes are exactly one message of this type: public key of RSA, PKCS #1 (RFC 8017, A.1.1).
+/// Checks as picky_der_check does whether the bytes are a message of this type: public key of RSA, PKCS #1 (RFC 8017, A.1.1).
 #[unsafe(no_mangle)]
 pub extern "C" fn picky_der_check_rsa_public_key(
     alloc: Global,
@@ -277,7 +281,7 @@ pub extern "C" fn picky_der_check_rsa_public_key(
     check(alloc, MessageType::RsaPublicKey, bytes, position)
 }
 
-/// Checks whether the bytes are exactly one message of this type: signature of ECDSA or DSA (RFC 3279, 2.2.3).
+/// Checks as picky_der_check does whether the bytes are a message of this type: signature of ECDSA or DSA (RFC 3279, 2.2.3).
 #[unsafe(no_mangle)]
 pub extern "C" fn picky_der_check_ecdsa_signature(
     alloc: Global,
@@ -289,7 +293,7 @@ pub extern "C" fn picky_der_check_ecdsa_signature(
     check(alloc, MessageType::EcdsaSignature, bytes, position)
 }
 
-/// Checks whether the bytes are exactly one message of this type: parameters of an elliptic curve (RFC 3279, 2.3.5).
+/// Checks as picky_der_check does whether the bytes are a message of this type: parameters of an elliptic curve (RFC 3279, 2.3.5).
 #[unsafe(no_mangle)]
 pub extern "C" fn picky_der_check_ec_parameters(
     alloc: Global,
@@ -301,7 +305,7 @@ pub extern "C" fn picky_der_check_ec_parameters(
     check(alloc, MessageType::EcParameters, bytes, position)
 }
 
-/// Checks whether the bytes are exactly one message of this type: parameters of DSA (RFC 3279, 2.3.2).
+/// Checks as picky_der_check does whether the bytes are a message of this type: parameters of DSA (RFC 3279, 2.3.2).
 #[unsafe(no_mangle)]
 pub extern "C" fn picky_der_check_dsa_parameters(
     alloc: Global,
@@ -313,7 +317,7 @@ pub extern "C" fn picky_der_check_dsa_parameters(
     check(alloc, MessageType::DsaParameters, bytes, position)
 }
 
-/// Checks whether the bytes are exactly one message of this type: store of keys and certificates, PKCS #12 (RFC 7292, 4).
+/// Checks as picky_der_check does whether the bytes are a message of this type: store of keys and certificates, PKCS #12 (RFC 7292, 4).
 #[unsafe(no_mangle)]
 pub extern "C" fn picky_der_check_pkcs12(alloc: Global, bytes: &[u8], position: &mut usize) -> u32
     ensures { IsVerdict (⟦<MessageType as Described>⟧.description MessageType.Pkcs12) bytes.now result position.new }
@@ -321,7 +325,7 @@ pub extern "C" fn picky_der_check_pkcs12(alloc: Global, bytes: &[u8], position: 
     check(alloc, MessageType::Pkcs12, bytes, position)
 }
 
-/// Checks whether the bytes are exactly one message of this type: ticket of Kerberos (RFC 4120, 5.3).
+/// Checks as picky_der_check does whether the bytes are a message of this type: ticket of Kerberos (RFC 4120, 5.3).
 #[unsafe(no_mangle)]
 pub extern "C" fn picky_der_check_ticket(alloc: Global, bytes: &[u8], position: &mut usize) -> u32
     ensures { IsVerdict (⟦<MessageType as Described>⟧.description MessageType.Ticket) bytes.now result position.new }
@@ -329,7 +333,7 @@ pub extern "C" fn picky_der_check_ticket(alloc: Global, bytes: &[u8], position: 
     check(alloc, MessageType::Ticket, bytes, position)
 }
 
-/// Checks whether the bytes are exactly one message of this type: message of Kerberos, any of those that follow (RFC 4120, 5.4 to 5.9).
+/// Checks as picky_der_check does whether the bytes are a message of this type: message of Kerberos, any of those that follow (RFC 4120, 5.4 to 5.9).
 #[unsafe(no_mangle)]
 pub extern "C" fn picky_der_check_krb(alloc: Global, bytes: &[u8], position: &mut usize) -> u32
     ensures { IsVerdict (⟦<MessageType as Described>⟧.description MessageType.Krb) bytes.now result position.new }
@@ -337,7 +341,7 @@ pub extern "C" fn picky_der_check_krb(alloc: Global, bytes: &[u8], position: &mu
     check(alloc, MessageType::Krb, bytes, position)
 }
 
-/// Checks whether the bytes are exactly one message of this type: request for a first ticket (RFC 4120, 5.4.1).
+/// Checks as picky_der_check does whether the bytes are a message of this type: request for a first ticket (RFC 4120, 5.4.1).
 #[unsafe(no_mangle)]
 pub extern "C" fn picky_der_check_as_req(alloc: Global, bytes: &[u8], position: &mut usize) -> u32
     ensures { IsVerdict (⟦<MessageType as Described>⟧.description MessageType.AsReq) bytes.now result position.new }
@@ -345,7 +349,7 @@ pub extern "C" fn picky_der_check_as_req(alloc: Global, bytes: &[u8], position: 
     check(alloc, MessageType::AsReq, bytes, position)
 }
 
-/// Checks whether the bytes are exactly one message of this type: response with a first ticket (RFC 4120, 5.4.2).
+/// Checks as picky_der_check does whether the bytes are a message of this type: response with a first ticket (RFC 4120, 5.4.2).
 #[unsafe(no_mangle)]
 pub extern "C" fn picky_der_check_as_rep(alloc: Global, bytes: &[u8], position: &mut usize) -> u32
     ensures { IsVerdict (⟦<MessageType as Described>⟧.description MessageType.AsRep) bytes.now result position.new }
@@ -353,7 +357,7 @@ pub extern "C" fn picky_der_check_as_rep(alloc: Global, bytes: &[u8], position: 
     check(alloc, MessageType::AsRep, bytes, position)
 }
 
-/// Checks whether the bytes are exactly one message of this type: request for a ticket (RFC 4120, 5.4.1).
+/// Checks as picky_der_check does whether the bytes are a message of this type: request for a ticket (RFC 4120, 5.4.1).
 #[unsafe(no_mangle)]
 pub extern "C" fn picky_der_check_tgs_req(alloc: Global, bytes: &[u8], position: &mut usize) -> u32
     ensures { IsVerdict (⟦<MessageType as Described>⟧.description MessageType.TgsReq) bytes.now result position.new }
@@ -361,7 +365,7 @@ pub extern "C" fn picky_der_check_tgs_req(alloc: Global, bytes: &[u8], position:
     check(alloc, MessageType::TgsReq, bytes, position)
 }
 
-/// Checks whether the bytes are exactly one message of this type: response with a ticket (RFC 4120, 5.4.2).
+/// Checks as picky_der_check does whether the bytes are a message of this type: response with a ticket (RFC 4120, 5.4.2).
 #[unsafe(no_mangle)]
 pub extern "C" fn picky_der_check_tgs_rep(alloc: Global, bytes: &[u8], position: &mut usize) -> u32
     ensures { IsVerdict (⟦<MessageType as Described>⟧.description MessageType.TgsRep) bytes.now result position.new }
@@ -369,7 +373,7 @@ pub extern "C" fn picky_der_check_tgs_rep(alloc: Global, bytes: &[u8], position:
     check(alloc, MessageType::TgsRep, bytes, position)
 }
 
-/// Checks whether the bytes are exactly one message of this type: request to a server, with a ticket (RFC 4120, 5.5.1).
+/// Checks as picky_der_check does whether the bytes are a message of this type: request to a server, with a ticket (RFC 4120, 5.5.1).
 #[unsafe(no_mangle)]
 pub extern "C" fn picky_der_check_ap_req(alloc: Global, bytes: &[u8], position: &mut usize) -> u32
     ensures { IsVerdict (⟦<MessageType as Described>⟧.description MessageType.ApReq) bytes.now result position.new }
@@ -377,7 +381,7 @@ pub extern "C" fn picky_der_check_ap_req(alloc: Global, bytes: &[u8], position: 
     check(alloc, MessageType::ApReq, bytes, position)
 }
 
-/// Checks whether the bytes are exactly one message of this type: response of a server (RFC 4120, 5.5.2).
+/// Checks as picky_der_check does whether the bytes are a message of this type: response of a server (RFC 4120, 5.5.2).
 #[unsafe(no_mangle)]
 pub extern "C" fn picky_der_check_ap_rep(alloc: Global, bytes: &[u8], position: &mut usize) -> u32
     ensures { IsVerdict (⟦<MessageType as Described>⟧.description MessageType.ApRep) bytes.now result position.new }
@@ -385,7 +389,7 @@ pub extern "C" fn picky_der_check_ap_rep(alloc: Global, bytes: &[u8], position: 
     check(alloc, MessageType::ApRep, bytes, position)
 }
 
-/// Checks whether the bytes are exactly one message of this type: message with a checksum (RFC 4120, 5.6.1).
+/// Checks as picky_der_check does whether the bytes are a message of this type: message with a checksum (RFC 4120, 5.6.1).
 #[unsafe(no_mangle)]
 pub extern "C" fn picky_der_check_krb_safe(alloc: Global, bytes: &[u8], position: &mut usize) -> u32
     ensures { IsVerdict (⟦<MessageType as Described>⟧.description MessageType.KrbSafe) bytes.now result position.new }
@@ -393,7 +397,7 @@ pub extern "C" fn picky_der_check_krb_safe(alloc: Global, bytes: &[u8], position
     check(alloc, MessageType::KrbSafe, bytes, position)
 }
 
-/// Checks whether the bytes are exactly one message of this type: encrypted message (RFC 4120, 5.7.1).
+/// Checks as picky_der_check does whether the bytes are a message of this type: encrypted message (RFC 4120, 5.7.1).
 #[unsafe(no_mangle)]
 pub extern "C" fn picky_der_check_krb_priv(alloc: Global, bytes: &[u8], position: &mut usize) -> u32
     ensures { IsVerdict (⟦<MessageType as Described>⟧.description MessageType.KrbPriv) bytes.now result position.new }
@@ -401,7 +405,7 @@ pub extern "C" fn picky_der_check_krb_priv(alloc: Global, bytes: &[u8], position
     check(alloc, MessageType::KrbPriv, bytes, position)
 }
 
-/// Checks whether the bytes are exactly one message of this type: tickets that are handed on (RFC 4120, 5.8.1).
+/// Checks as picky_der_check does whether the bytes are a message of this type: tickets that are handed on (RFC 4120, 5.8.1).
 #[unsafe(no_mangle)]
 pub extern "C" fn picky_der_check_krb_cred(alloc: Global, bytes: &[u8], position: &mut usize) -> u32
     ensures { IsVerdict (⟦<MessageType as Described>⟧.description MessageType.KrbCred) bytes.now result position.new }
@@ -409,7 +413,7 @@ pub extern "C" fn picky_der_check_krb_cred(alloc: Global, bytes: &[u8], position
     check(alloc, MessageType::KrbCred, bytes, position)
 }
 
-/// Checks whether the bytes are exactly one message of this type: error of Kerberos (RFC 4120, 5.9.1).
+/// Checks as picky_der_check does whether the bytes are a message of this type: error of Kerberos (RFC 4120, 5.9.1).
 #[unsafe(no_mangle)]
 pub extern "C" fn picky_der_check_krb_error(
     alloc: Global,
@@ -421,7 +425,7 @@ pub extern "C" fn picky_der_check_krb_error(
     check(alloc, MessageType::KrbError, bytes, position)
 }
 
-/// Checks whether the bytes are exactly one message of this type: what is encrypted in a request to a server (RFC 4120, 5.5.1).
+/// Checks as picky_der_check does whether the bytes are a message of this type: what is encrypted in a request to a server (RFC 4120, 5.5.1).
 #[unsafe(no_mangle)]
 pub extern "C" fn picky_der_check_authenticator(
     alloc: Global,
@@ -433,7 +437,7 @@ pub extern "C" fn picky_der_check_authenticator(
     check(alloc, MessageType::Authenticator, bytes, position)
 }
 
-/// Checks whether the bytes are exactly one message of this type: what is encrypted in a ticket (RFC 4120, 5.3).
+/// Checks as picky_der_check does whether the bytes are a message of this type: what is encrypted in a ticket (RFC 4120, 5.3).
 #[unsafe(no_mangle)]
 pub extern "C" fn picky_der_check_enc_ticket_part(
     alloc: Global,
@@ -445,7 +449,7 @@ pub extern "C" fn picky_der_check_enc_ticket_part(
     check(alloc, MessageType::EncTicketPart, bytes, position)
 }
 
-/// Checks whether the bytes are exactly one message of this type: what is encrypted in a response with a first ticket (RFC 4120, 5.4.2).
+/// Checks as picky_der_check does whether the bytes are a message of this type: what is encrypted in a response with a first ticket (RFC 4120, 5.4.2).
 #[unsafe(no_mangle)]
 pub extern "C" fn picky_der_check_enc_as_rep_part(
     alloc: Global,
@@ -457,7 +461,7 @@ pub extern "C" fn picky_der_check_enc_as_rep_part(
     check(alloc, MessageType::EncAsRepPart, bytes, position)
 }
 
-/// Checks whether the bytes are exactly one message of this type: what is encrypted in a response with a ticket (RFC 4120, 5.4.2).
+/// Checks as picky_der_check does whether the bytes are a message of this type: what is encrypted in a response with a ticket (RFC 4120, 5.4.2).
 #[unsafe(no_mangle)]
 pub extern "C" fn picky_der_check_enc_tgs_rep_part(
     alloc: Global,
@@ -469,7 +473,7 @@ pub extern "C" fn picky_der_check_enc_tgs_rep_part(
     check(alloc, MessageType::EncTgsRepPart, bytes, position)
 }
 
-/// Checks whether the bytes are exactly one message of this type: what is encrypted in a response of a server (RFC 4120, 5.5.2).
+/// Checks as picky_der_check does whether the bytes are a message of this type: what is encrypted in a response of a server (RFC 4120, 5.5.2).
 #[unsafe(no_mangle)]
 pub extern "C" fn picky_der_check_enc_ap_rep_part(
     alloc: Global,
@@ -481,7 +485,7 @@ pub extern "C" fn picky_der_check_enc_ap_rep_part(
     check(alloc, MessageType::EncApRepPart, bytes, position)
 }
 
-/// Checks whether the bytes are exactly one message of this type: what is encrypted in an encrypted message (RFC 4120, 5.7.1).
+/// Checks as picky_der_check does whether the bytes are a message of this type: what is encrypted in an encrypted message (RFC 4120, 5.7.1).
 #[unsafe(no_mangle)]
 pub extern "C" fn picky_der_check_enc_krb_priv_part(
     alloc: Global,
@@ -493,7 +497,7 @@ pub extern "C" fn picky_der_check_enc_krb_priv_part(
     check(alloc, MessageType::EncKrbPrivPart, bytes, position)
 }
 
-/// Checks whether the bytes are exactly one message of this type: what is encrypted next to tickets that are handed on (RFC 4120, 5.8.1).
+/// Checks as picky_der_check does whether the bytes are a message of this type: what is encrypted next to tickets that are handed on (RFC 4120, 5.8.1).
 #[unsafe(no_mangle)]
 pub extern "C" fn picky_der_check_enc_krb_cred_part(
     alloc: Global,
