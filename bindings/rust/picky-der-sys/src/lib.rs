@@ -5,11 +5,12 @@
 #![deny(missing_docs)]
 
 #[allow(dead_code)]
+#[rustfmt::skip]
 mod raw;
 
 pub use raw::{
-    Element, Place, PICKY_DER_END, PICKY_DER_INVALID, PICKY_DER_NO_MEMORY, PICKY_DER_NO_PLACE, PICKY_DER_NO_ROOM, PICKY_DER_OK, PICKY_DER_OTHER,
-    PICKY_DER_TRUNCATED, PICKY_DER_UNKNOWN_TYPE, PICKY_DER_UNSUPPORTED,
+    Element, Place, PICKY_DER_END, PICKY_DER_INVALID, PICKY_DER_NO_MEMORY, PICKY_DER_NO_PLACE, PICKY_DER_NO_ROOM, PICKY_DER_OK,
+    PICKY_DER_OTHER, PICKY_DER_TRUNCATED, PICKY_DER_UNKNOWN_TYPE, PICKY_DER_UNSUPPORTED,
 };
 
 /// Checks whether bytes are exactly one message of the type with this number. Returns the code and the position.

@@ -14,6 +14,7 @@
 
 mod elements;
 mod error;
+#[rustfmt::skip]
 mod tables;
 mod writer;
 

@@ -28,7 +28,9 @@ fn check(case: &Case) {
     let broken = elements(&case.der).find_map(Result::err);
     match Message::Certificate.check(&case.der) {
         Ok(()) => assert!(broken.is_none() && case.verdict != REFUSED),
-        Err(error @ Error { reason: Reason::Rule(_), .. }) => assert!(broken == Some(error) && case.verdict != REFUSED && case.verdict != CERTIFICATE),
+        Err(error @ Error { reason: Reason::Rule(_), .. }) => {
+            assert!(broken == Some(error) && case.verdict != REFUSED && case.verdict != CERTIFICATE)
+        }
         Err(error) => assert!(error.position <= case.der.len() && case.verdict != READ && case.verdict != CERTIFICATE),
     }
     if let (REFUSED, Some(error)) = (case.verdict, broken) {
