@@ -8,6 +8,7 @@ mod change;
 mod device_label;
 mod encapsulated_content_info;
 mod encrypted_data;
+mod faithful;
 mod first_steps;
 mod general_name;
 mod gust;

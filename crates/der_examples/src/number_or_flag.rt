@@ -1,9 +1,8 @@
 //! A choice, as a CHOICE of an INTEGER and a BOOLEAN (X.690, 8.13).
-ghost use Rattle.std.specs.Prelude.{true, refl};
+ghost use Rattle.std.specs.Prelude.{refl};
 ghost use Rattle.picky_der_core.specs.Shape.{Shape};
 ghost use Rattle.picky_der_de.specs.declared.alternatives.OneOf.TheVariants.{This, Other};
 ghost use Rattle.picky_der_de.specs.ChoiceFacts.{choice_facts};
-ghost use Rattle.picky_der_de.specs.Faithful.{choice_sameness};
 ghost use Rattle.der_examples.specs.declared.number_or_flag.NumberOrFlag.TheVariants.{Number, Flag};
 
 use picky_asn1_der::OneOf::{Other, This};
@@ -11,8 +10,7 @@ use picky_asn1_der::asn1::Tag;
 use picky_asn1_der::de::{Begins, deserialize_choice_as};
 use picky_asn1_der::misc::{ReadExt, WriteExt};
 use picky_asn1_der::{
-    Alternatives, Choice, Deserialize, Deserializer, Faithful, FaithfulAlternatives, Inhabited,
-    NoneOf, OneOf, Result, Serialize, Serializer,
+    Alternatives, Choice, Deserialize, Deserializer, NoneOf, OneOf, Result, Serialize, Serializer,
 };
 
 /// A number or a bool.
@@ -67,15 +65,4 @@ impl Begins for NumberOrFlag {
     fn begins_with(tag: Tag) -> bool {
         <Parts as Alternatives>::begins_with(tag)
     }
-}
-
-impl Faithful for NumberOrFlag {
-    ghost sameness = { choice_sameness ⟦<Parts as FaithfulAlternatives>⟧.sameness ⟦<Self as Choice>⟧.parts ⟦<Self as PartialEq>⟧.eq
-        (elim [ Number _ ↦ elim [ Number _ ↦ λ h. h | _ ↦ λ h. h ] | _ ↦ elim [ Number _ ↦ λ h. h | _ ↦ λ h. h ] ]) };
-
-    ghost respects = { Prim.assumption };
-}
-
-impl Inhabited for NumberOrFlag {
-    ghost example = { (Flag true, tt) };
 }

@@ -1,12 +1,11 @@
 //! A struct of three fields.
-ghost use Rattle.std.specs.Prelude.{true, refl};
-ghost use Rattle.picky_der_de.specs.Faithful.{struct_sameness};
+ghost use Rattle.std.specs.Prelude.{refl};
 ghost use Rattle.picky_der_de.specs.MembersFacts.{struct_facts, sequence_of, sequence_shape};
 
 use picky_asn1_der::misc::{ReadExt, WriteExt};
 use picky_asn1_der::{
-    Deserialize, DeserializeMembers, Deserializer, Faithful, FaithfulMembers, Inhabited, Result,
-    Serialize, SerializeMembers, Serializer, Struct, deserialize_struct_as,
+    Deserialize, DeserializeMembers, Deserializer, Result, Serialize, SerializeMembers, Serializer,
+    Struct, deserialize_struct_as,
 };
 
 /// A point on a map, which may be hidden, as a SEQUENCE of two INTEGERs and a BOOLEAN.
@@ -51,14 +50,4 @@ impl Deserialize for Point {
     }
 
     ghost proved = { Prim.assumption };
-}
-
-impl Faithful for Point {
-    ghost sameness = { struct_sameness ⟦<Members as FaithfulMembers>⟧.sameness ⟦<Self as Struct>⟧.parts };
-
-    ghost respects = { Prim.assumption };
-}
-
-impl Inhabited for Point {
-    ghost example = { (record { x = 0; y = 0; hidden = true }, (tt, (tt, (tt, (tt, tt))))) };
 }

@@ -2,13 +2,12 @@
 ghost use Rattle.std.proofs.Common.{lit≤};
 ghost use Rattle.std.specs.Prelude.{◌≡◌, [], ◌∷◌, refl};
 ghost use Rattle.der_types.specs.ContentsFacts.{contents_of, contents_shape, contents_facts};
-ghost use Rattle.der_types.specs.Sameness.{content_sameness};
 ghost use Rattle.der_examples.specs.declared.response_status.ResponseStatus.TheVariants as status;
-ghost use Rattle.der_examples.specs.ResponseStatus.{status_number, is_status, same_status, status_respects};
+ghost use Rattle.der_examples.specs.ResponseStatus.{status_number, is_status, same_status};
 
 use der_types::{Contents, deserialize_contents_as};
 use picky_asn1_der::asn1::Tag;
-use picky_asn1_der::de::{Begins, Faithful};
+use picky_asn1_der::de::Begins;
 use picky_asn1_der::misc::{ReadExt, WriteExt};
 use picky_asn1_der::{Deserialize, Deserializer, Result, Serialize, Serializer};
 
@@ -117,10 +116,4 @@ impl Begins for ResponseStatus {
     fn begins_with(tag: Tag) -> bool {
         tag.inner() == 0x0A
     }
-}
-
-impl Faithful for ResponseStatus {
-    ghost sameness = { content_sameness 0x0A (λ it. status_number it ∷ []) ⟦<Self as PartialEq>⟧.eq status_respects };
-
-    ghost respects = { Prim.assumption };
 }
