@@ -48,5 +48,5 @@ impl Faithful for LaterTime {
 }
 
 impl Inhabited for LaterTime {
-    ghost example = { exact_example ⟦<Self as Exact>⟧.values ⟦<Self as Exact>⟧.exact refl };
+    ghost example = { exact_example ⟦<Self as Exact>⟧.values ⟦<Self as Notated>⟧.notation ⟦<Self as Serialize>⟧.meaning Prim.assumption refl };
 }
