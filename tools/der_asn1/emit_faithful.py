@@ -89,6 +89,6 @@ def inhabited_impl(name: str) -> list[str]:
     """The implementation of `Inhabited` for a type with `Exact`: a tree of its notation is found when the program is checked."""
     return [
         f"impl Inhabited for {name} {{",
-        f"{STEP}ghost example = {{ exact_example ⟦<Self as Exact>⟧.values ⟦<Self as Notated>⟧.notation ⟦<Self as Serialize>⟧.meaning Prim.assumption refl }};",
+        f"{STEP}ghost example = {{ exact_example ⟦<Self as Exact>⟧.values ⟦<Self as Notated>⟧.notation ⟦<Self as Serialize>⟧.meaning refl Prim.assumption }};",
         "}",
     ]
