@@ -12,3 +12,4 @@ pub mod Texts
 pub mod Padding
 pub mod Showing
 pub mod WrittenLemmas
+pub mod NotationLemmas

@@ -1,6 +1,6 @@
 -- What types whose contents are checked denote.
-use Rattle.std.proofs.Common.{◌≡◌, ℕ, ◌≤◌, ◌==◌, Bool, true, false, not, ◌&&◌, ◌||◌, List, [], ◌∷◌, None, inl, inr, refl, sym, ap, subst, ◌∙◌, arith, eqb-true, leb-true, pos, true≢false, ◌≢◌}
-use Rattle.std.specs.Prelude.{nat_le, ℤ, if◌then◌else◌}
+use Rattle.std.proofs.Common.{◌≡◌, ℕ, ◌≤◌, ◌==◌, Bool, true, false, not, ◌&&◌, ◌||◌, List, [], ◌∷◌, None, inl, inr, refl, sym, ap, subst, ◌∙◌, arith, eqb-true, leb-true, lt-ltb, pos, true≢false, ◌≢◌}
+use Rattle.std.specs.Prelude.{nat_le, nat_lt, ◌%◌, ◌^◌, length, slice_index, if◌then◌else◌}
 use Rattle.std.specs.List.{AllByRecursion}
 use Rattle.std.proofs.lemmas.Bool.{and_parts}
 use Rattle.picky_der_core.specs.declared.asn1.wrapper.Wrapper.{Wrapper}
@@ -13,7 +13,8 @@ use Rattle.picky_der_core.specs.Tree.{ListKind, Tree, Trees}
 use Rattle.picky_der_core.specs.Shape.{EachIs, FirstAndRest, FirstOrNone, IsEmpty, contains}
 use Rattle.der_types.specs.CharacterStrings.{is_string_content}
 use Rattle.der_types.specs.ContentTypes.{ContentType, tag_of, test_of, string_width, string_character}
-use Rattle.der_types.specs.BitString.{is_bit_string, is_named_bits}
+use Rattle.der_types.specs.BitString.{is_bit_string, is_named_bits, is_bit_set}
+use Rattle.der_types.specs.TimeContents.{year_at_first, are_whole_seconds, is_ended, is_generalized_time, is_later_time}
 use Rattle.der_types.specs.Denotes.{content_tree, HasContent, Denotes, DenoteFirst, DenoteMembers, DenoteOneOf}
 use Rattle.der_types.specs.Notation.{Notation, Member, Members, Alternatives}
 use Rattle.der_types.specs.PrimitiveForm.{primitive_form}
@@ -24,10 +25,29 @@ use Rattle.der_show.proofs.WrittenLemmas.{other_form, other_rule, number_rule}
 
 -- ---- contents under a tag
 
-without_last : (a b c : Bool) → (a && (b && c)) ≡ true → (a && b) ≡ true
-without_last true true c h = refl
-without_last true false c h = h
-without_last false b c h = h
+-- named bits are bits
+named_bits : (bs : List ℕ) → is_named_bits bs ≡ true → is_bit_string bs ≡ true
+named_bits [] h = h
+named_bits (u ∷ []) h = h
+named_bits (u ∷ b ∷ bs) h =
+    (and_parts (nat_lt u 8 && (slice_index (b ∷ bs) (length bs) % 2 ^ u == 0)) (is_bit_set (slice_index (b ∷ bs) (length bs)) u) h).0
+
+all_true : (a b c : Bool) → a ≡ true → b ≡ true → c ≡ true → (a && b && c) ≡ true
+all_true a b c e f g = rw (e, f, g) refl
+
+first_case : (a b c : Bool) → a ≡ true → b ≡ true → (if a then b else c) ≡ true
+first_case a b c e f = rw (e, f) refl
+
+-- a time without a fraction is one
+later_time : (bs : List ℕ) → is_later_time bs ≡ true → is_generalized_time bs ≡ true
+later_time bs h =
+    let size = length bs == 15 in
+    let zulu = slice_index bs 14 == 0x5A in
+    let timed = and_parts (size && are_whole_seconds bs && zulu) (nat_lt 2049 (year_at_first bs)) h in
+    let ended = and_parts (size && are_whole_seconds bs) zulu timed.0 in
+    let sized = and_parts size (are_whole_seconds bs) ended.0 in
+    let long : nat_lt 14 (length bs) ≡ true = lt-ltb 14 (length bs) (omega (arith, eqb-true (length bs) 15 sized.0)) in
+    all_true (nat_lt 14 (length bs)) (are_whole_seconds bs) (is_ended bs) long sized.1 (first_case size zulu _ sized.0 ended.1)
 
 -- a content that has a test of its own
 checked_content : (c : ContentType) (s : List ℕ) → test_of c s ≡ true → IsElementInDer (tag_of c) s
@@ -35,16 +55,14 @@ checked_content ContentType.INTEGER s e = record { form = refl; is_content = rec
 checked_content ContentType.ENUMERATED-extensible s e = record { form = refl; is_content = record { primitive = number_rule s e; set = λ k. absurd (omega (arith, k)) }; inside = λ k. cc }
 checked_content ContentType.BIT-STRING s e = record { form = refl; is_content = record { primitive = rw e refl; set = λ k. absurd (omega (arith, k)) }; inside = λ k. cc }
 checked_content ContentType.BIT-STRING-named s e =
-    let bits = named s e in
+    let bits = named_bits s e in
     record { form = refl; is_content = record { primitive = rw bits refl; set = λ k. absurd (omega (arith, k)) }; inside = λ k. cc }
-  where
-    named : (bs : List ℕ) → is_named_bits bs ≡ true → is_bit_string bs ≡ true
-    named [] h = h
-    named (u ∷ []) h = h
-    named (u ∷ b ∷ bs) h = without_last _ _ _ h
 checked_content ContentType.OBJECT-IDENTIFIER s e = record { form = refl; is_content = record { primitive = rw e refl; set = λ k. absurd (omega (arith, k)) }; inside = λ k. cc }
 checked_content ContentType.RELATIVE-OID s e = record { form = refl; is_content = record { primitive = rw e refl; set = λ k. absurd (omega (arith, k)) }; inside = λ k. cc }
 checked_content ContentType.GeneralizedTime s e = record { form = refl; is_content = record { primitive = rw e refl; set = λ k. absurd (omega (arith, k)) }; inside = λ k. cc }
+checked_content ContentType.GeneralizedTime-later s e =
+    let time = later_time s e in
+    record { form = refl; is_content = record { primitive = rw time refl; set = λ k. absurd (omega (arith, k)) }; inside = λ k. cc }
 checked_content ContentType.UTCTime s e = record { form = refl; is_content = record { primitive = rw e refl; set = λ k. absurd (omega (arith, k)) }; inside = λ k. cc }
 
 -- a string of this tag, whose characters are those of its type
@@ -53,18 +71,14 @@ IsString tag = (s : List ℕ) → is_string_content (string_width tag) (string_c
 
 each_tag : (P : ℕ → Type 0) (tag : ℕ) (xs : List ℕ) → AllByRecursion P xs → contains xs tag ≡ true → P tag
 each_tag P tag [] all e = cc
-each_tag P tag (x ∷ xs) all e = by_first (tag == x) refl e
+each_tag P tag (x ∷ xs) all e = by_first (tag == x) refl e (each_tag P tag xs all.1)
   where
-    by_first : (b : Bool) → (tag == x) ≡ b → (b || contains xs tag) ≡ true → P tag
-    by_first true same h = subst P (sym (eqb-true tag x same)) all.0
-    by_first false same h = each_tag P tag xs all.1 h
+    by_first : (b : Bool) → (tag == x) ≡ b → (b || contains xs tag) ≡ true → (contains xs tag ≡ true → P tag) → P tag
+    by_first true same h others = subst P (sym (eqb-true tag x same)) all.0
+    by_first false same h others = others h
 
 strings : (tag : ℕ) → contains string_tags tag ≡ true → IsString tag
-strings tag = each_tag IsString tag string_tags (
-  plain 0x12 refl (λ s. refl) (omega arith) refl, plain 0x13 refl (λ s. refl) (omega arith) refl, plain 0x14 refl (λ s. refl) (omega arith) refl, plain 0x15 refl (λ s. refl) (omega arith) refl, plain 0x16 refl (λ s. refl) (omega arith) refl,
-  plain 0x19 refl (λ s. refl) (omega arith) refl, plain 0x1A refl (λ s. refl) (omega arith) refl, plain 0x1B refl (λ s. refl) (omega arith) refl,
-  tested 0x1C refl (λ s e. rw e refl) (omega arith) refl, tested 0x1E refl (λ s e. rw e refl) (omega arith) refl, tt
-)
+strings tag = each_tag IsString tag string_tags ((plain 0x12 refl (λ s. refl) (omega arith) refl, (plain 0x13 refl (λ s. refl) (omega arith) refl, (plain 0x14 refl (λ s. refl) (omega arith) refl, (plain 0x15 refl (λ s. refl) (omega arith) refl, (plain 0x16 refl (λ s. refl) (omega arith) refl, (plain 0x19 refl (λ s. refl) (omega arith) refl, (plain 0x1A refl (λ s. refl) (omega arith) refl, (plain 0x1B refl (λ s. refl) (omega arith) refl, (tested 0x1C refl (λ s e. rw e refl) (omega arith) refl, (tested 0x1E refl (λ s e. rw e refl) (omega arith) refl, tt)))))))))))
   where
     tested : (x : ℕ) → form_rule x ≡ None → ((s : List ℕ) → is_string_content (string_width x) (string_character x) s ≡ true → primitive_rule x s ≡ None) → x ≤ 0x30 → is_constructed x ≡ false → IsString x
     tested x form rule small bit s e = record {
@@ -153,6 +167,7 @@ mutual
   checked Notation.OCTET-STRING e t d = subst IsChecked (sym d.1) (content_tag 0x04 d.0 refl)
   checked Notation.NULL e t d = subst IsChecked (sym d) tt
   checked Notation.UTF8String e t d = subst IsChecked (sym d.1) tt
+  checked Notation.character e t d = subst IsChecked (sym d.1) tt
   checked (Notation.restricted-string tag) e t d = subst IsChecked (sym d.1) (strings tag e d.0 d.2)
   checked (Notation.any-content tag) e t d = subst IsChecked (sym d.1) (content_tag tag d.0 e)
   checked Notation.any-element e t d = cc
@@ -170,15 +185,16 @@ mutual
 
   members_checked : (ms : Members) → are_members_checked ms ≡ true → (ts : Trees) → DenoteMembers ms ts → AreChecked ts
   members_checked Members.end e ts d = none_checked ts d
-  members_checked (Members.member m ms) e ts d =
-      let parts = and_parts (is_member_checked m) (are_members_checked ms) e in
-      member_checked m parts.0 (DenoteMembers ms) (members_checked ms parts.1) ts d
+  members_checked (Members.member (Member.required n) ms) e ts d =
+      let parts = and_parts (is_checked n) (are_members_checked ms) e in
+      first_checked (Denotes n) (DenoteMembers ms) (checked n parts.0) (members_checked ms parts.1) ts d
+  members_checked (Members.member (Member.optional n) ms) e ts d =
+      let parts = and_parts (is_checked n) (are_members_checked ms) e in
+      maybe_checked (Denotes n) (DenoteMembers ms) (checked n parts.0) (members_checked ms parts.1) ts d
+  members_checked (Members.member (Member.defaulted value n) ms) e ts d =
+      let parts = and_parts (is_checked n) (are_members_checked ms) e in
+      maybe_checked (λ x. Denotes n x × (x ≢ value)) (DenoteMembers ms) (λ x p. checked n parts.0 x p.0) (members_checked ms parts.1) ts d
   members_checked (Members.others known) e ts d = cc
-
-  member_checked : (m : Member) → is_member_checked m ≡ true → (Q : Trees → Type 0) → ((ts : Trees) → Q ts → AreChecked ts) → (ts : Trees) → DenoteFirst m Q ts → AreChecked ts
-  member_checked (Member.required n) e Q k ts d = first_checked (Denotes n) Q (checked n e) k ts d
-  member_checked (Member.optional n) e Q k ts d = maybe_checked (Denotes n) Q (checked n e) k ts d
-  member_checked (Member.defaulted value n) e Q k ts d = maybe_checked (λ x. Denotes n x × (x ≢ value)) Q (λ x p. checked n e x p.0) k ts d
 
   alternatives_checked : (ns : Alternatives) → are_alternatives_checked ns ≡ true → (t : Tree) → DenoteOneOf ns t → IsChecked t
   alternatives_checked Alternatives.none e t d = absurd d
