@@ -13,9 +13,13 @@ use std::alloc::Global;
 use std::result::Result as StdResult;
 
 impl Certificate {
-    /// Reads a certificate from its encoding, and returns where the bytes that the signature signs are: those of `tbs_certificate`. They are the
-    /// bytes of the input, and needn't be written again. The errors are those of `from_der`.
-    pub fn from_der_signed(alloc: Global, bytes: &[u8]) -> StdResult<Signed<Certificate>, DecodeError>
+    /// Reads a certificate from its encoding, and returns where the bytes that the signature signs are: those of
+    /// `tbs_certificate`. They are the bytes of the input, and needn't be written again. The errors are those of
+    /// `from_der`.
+    pub fn from_der_signed(
+        alloc: Global,
+        bytes: &[u8],
+    ) -> StdResult<Signed<Certificate>, DecodeError>
         ensures value { IfOk result (λ it. IsWhole ⟦<Certificate as Serialize>⟧.meaning
             ⟦<Certificate as Deserialize>⟧.shape ⟦<Certificate as PartialEq>⟧.eq bytes.now it.value) }
         ensures part { IfOk result (λ it. slice_range bytes.now it.part.start it.part.end
@@ -28,10 +32,11 @@ impl Certificate {
         from_der_signed(alloc, bytes)
     }
 
-    /// Returns the bytes that the signature signs: the encoding of `tbs_certificate`. For a certificate that was read, these are exactly
-    /// its bytes in the input, since DER has one encoding of each value.
+    /// Returns the bytes that the signature signs: the encoding of `tbs_certificate`. For a certificate that was read,
+    /// these are exactly its bytes in the input, since DER has one encoding of each value.
     ///
-    /// `OutOfMemory` if an allocation fails, and `UnsupportedValue` if the value can't be written. A value that was read can be written.
+    /// `OutOfMemory` if an allocation fails, and `UnsupportedValue` if the value can't be written. A value that was
+    /// read can be written.
     pub fn signed_bytes(&self, alloc: Global) -> Result<Vec<u8>>
         ensures ok { IfOk result (λ bytes. bytes.items
             ≡ der (⟦<TbsCertificate as Serialize>⟧.meaning self.now.tbs_certificate)) }
@@ -43,9 +48,13 @@ impl Certificate {
 }
 
 impl CertificateList {
-    /// Reads a list from its encoding, and returns where the bytes that the signature signs are: those of `tbs_cert_list`. They are the
-    /// bytes of the input, and needn't be written again. The errors are those of `from_der`.
-    pub fn from_der_signed(alloc: Global, bytes: &[u8]) -> StdResult<Signed<CertificateList>, DecodeError>
+    /// Reads a list from its encoding, and returns where the bytes that the signature signs are: those of
+    /// `tbs_cert_list`. They are the bytes of the input, and needn't be written again. The errors are those of
+    /// `from_der`.
+    pub fn from_der_signed(
+        alloc: Global,
+        bytes: &[u8],
+    ) -> StdResult<Signed<CertificateList>, DecodeError>
         ensures value { IfOk result (λ it. IsWhole ⟦<CertificateList as Serialize>⟧.meaning
             ⟦<CertificateList as Deserialize>⟧.shape ⟦<CertificateList as PartialEq>⟧.eq bytes.now it.value) }
         ensures part { IfOk result (λ it. slice_range bytes.now it.part.start it.part.end
@@ -58,7 +67,8 @@ impl CertificateList {
         from_der_signed(alloc, bytes)
     }
 
-    /// Returns the bytes that the signature signs: the encoding of `tbs_cert_list`. Its errors are those of [`Certificate::signed_bytes`].
+    /// Returns the bytes that the signature signs: the encoding of `tbs_cert_list`. Its errors are those of
+    /// [`Certificate::signed_bytes`].
     pub fn signed_bytes(&self, alloc: Global) -> Result<Vec<u8>>
         ensures ok { IfOk result (λ bytes. bytes.items
             ≡ der (⟦<TbsCertList as Serialize>⟧.meaning self.now.tbs_cert_list)) }
