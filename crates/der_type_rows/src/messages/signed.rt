@@ -21,11 +21,11 @@ pub(crate) fn part_of(alloc: Global, name: &str, bytes: &[u8]) -> Result<String,
     let signed = match name {
         "der_cms::ContentInfo" => of_message(alloc, bytes),
         "der_cms::SignedData" => of_signed_data(alloc, bytes),
-        "der_pkix::AttributeCertificate" => bytes_of(alloc, bytes, attributes(alloc, bytes)),
-        "der_pkix::CertificationRequest" => bytes_of(alloc, bytes, request(alloc, bytes)),
-        "der_status::BasicOcspResponse" => bytes_of(alloc, bytes, response(alloc, bytes)),
-        "der_x509::Certificate" => bytes_of(alloc, bytes, certificate(alloc, bytes)),
-        "der_x509::CertificateList" => bytes_of(alloc, bytes, list(alloc, bytes)),
+        "der_pkix::AttributeCertificate" => bytes_of(alloc, bytes, read_attributes(alloc, bytes)),
+        "der_pkix::CertificationRequest" => bytes_of(alloc, bytes, read_request(alloc, bytes)),
+        "der_status::BasicOcspResponse" => bytes_of(alloc, bytes, read_response(alloc, bytes)),
+        "der_x509::Certificate" => bytes_of(alloc, bytes, read_certificate(alloc, bytes)),
+        "der_x509::CertificateList" => bytes_of(alloc, bytes, read_list(alloc, bytes)),
         _ => return String::from_str(alloc, "no type"),
     };
     match signed {
@@ -34,28 +34,28 @@ pub(crate) fn part_of(alloc: Global, name: &str, bytes: &[u8]) -> Result<String,
     }
 }
 
-fn certificate(alloc: Global, bytes: &[u8]) -> Result<Signed<Certificate>, DecodeError>
+fn read_certificate(alloc: Global, bytes: &[u8]) -> Result<Signed<Certificate>, DecodeError>
     ensures { IfOk result (λ it. slice_range bytes.now it.part.start it.part.end
         ≡ der (⟦<TbsCertificate as Serialize>⟧.meaning it.value.tbs_certificate)) }
 {
     from_der_signed(alloc, bytes)
 }
 
-fn list(alloc: Global, bytes: &[u8]) -> Result<Signed<CertificateList>, DecodeError>
+fn read_list(alloc: Global, bytes: &[u8]) -> Result<Signed<CertificateList>, DecodeError>
     ensures { IfOk result (λ it. slice_range bytes.now it.part.start it.part.end
         ≡ der (⟦<TbsCertList as Serialize>⟧.meaning it.value.tbs_cert_list)) }
 {
     from_der_signed(alloc, bytes)
 }
 
-fn attributes(alloc: Global, bytes: &[u8]) -> Result<Signed<AttributeCertificate>, DecodeError>
+fn read_attributes(alloc: Global, bytes: &[u8]) -> Result<Signed<AttributeCertificate>, DecodeError>
     ensures { IfOk result (λ it. slice_range bytes.now it.part.start it.part.end
         ≡ der (⟦<AttributeCertificateInfo as Serialize>⟧.meaning it.value.acinfo)) }
 {
     from_der_signed(alloc, bytes)
 }
 
-fn request(alloc: Global, bytes: &[u8]) -> Result<Signed<CertificationRequest>, DecodeError>
+fn read_request(alloc: Global, bytes: &[u8]) -> Result<Signed<CertificationRequest>, DecodeError>
     ensures { IfOk result (λ it. slice_range bytes.now it.part.start it.part.end
         ≡ der (⟦<CertificationRequestInfo as Serialize>⟧.meaning
         it.value.certification_request_info)) }
@@ -63,7 +63,7 @@ fn request(alloc: Global, bytes: &[u8]) -> Result<Signed<CertificationRequest>, 
     from_der_signed(alloc, bytes)
 }
 
-fn response(alloc: Global, bytes: &[u8]) -> Result<Signed<BasicOcspResponse>, DecodeError>
+fn read_response(alloc: Global, bytes: &[u8]) -> Result<Signed<BasicOcspResponse>, DecodeError>
     ensures { IfOk result (λ it. slice_range bytes.now it.part.start it.part.end
         ≡ der (⟦<ResponseData as Serialize>⟧.meaning it.value.tbs_response_data)) }
 {
