@@ -6,6 +6,7 @@ pub mod Ranges
 pub mod Listed
 pub mod Fronts
 pub mod Walking
+pub mod WalkLemmas
 pub mod OpeningLemmas
 pub mod Places
 pub mod Texts

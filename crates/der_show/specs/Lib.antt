@@ -8,6 +8,7 @@ pub mod Openings
 pub mod Written
 pub mod CheckedNotations
 pub mod Entries
+pub mod Walks
 pub mod Steps
 pub mod Lines
 pub mod Json
