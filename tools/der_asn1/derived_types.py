@@ -192,27 +192,28 @@ def _test(file: RustFile, it: Item) -> tuple[str, str]:
     return name, " ".join(found[1].split())
 
 
-def determined(declared: TestedDeclaration) -> Optional[tuple[str, dict[str, set[str]]]]:
-    """The proof that the encoding alone decides the test, with what it imports, or None if none is known for the type inside.
+def determined(declared: TestedDeclaration) -> Optional[tuple[str, str, dict[str, set[str]]]]:
+    """The proof that the encoding alone decides the test, or None if none is known for the type inside.
 
-    An encoding has the number, or the bytes, of its value.
+    An encoding has the number, or the bytes, of its value. Given are the function of these, why they are the same, and what to import.
     """
     part, type_ = declared.part, declared.type
     width = _UNSIGNED.match(type_.name)
     if width:
         bits = "64" if width[1] == "size" else width[1]
-        proof = f"λ x y e. ap (λ {part}. {declared.test}) (unsigned_tree-same (2 ^ {bits} - 1) x y e)"
-        return proof, {"Rattle.std.specs.Prelude": {"◌-◌", "◌^◌"}, "Rattle.picky_der_core.specs.UnsignedTreeLaws": {"unsigned_tree-same"}}
+        return f"(λ {part}. {declared.test})", f"(unsigned_tree-same (2 ^ {bits} - 1) x y e)", {
+            "Rattle.std.specs.Prelude": {"◌-◌", "◌^◌"},
+            "Rattle.picky_der_core.specs.UnsignedTreeLaws": {"unsigned_tree-same"},
+        }
     width = _SIGNED.match(type_.name)
     if width:
-        same = f"(Decides-int_eq x y).0 (int_injective (fits_signed {width[1]}) x y e)"
-        return f"λ x y e. ap (λ {part}. {declared.test}) ({same})", {
+        return f"(λ {part}. {declared.test})", f"((Decides-int_eq x y).0 (int_injective (fits_signed {width[1]}) x y e))", {
             "Rattle.std.proofs.lemmas.Bool.Decides": {"Decides-int_eq"},
             "Rattle.picky_der_core.specs.Integer": {"fits_signed"},
             "Rattle.picky_der_de.specs.InjectiveLaws": {"int_injective"},
         }
-    for path in (f"string_bytes {part}", f"{part}.content.items", f"{part}.0.items"):
-        test = re.sub(rf"\(?(?<![\w.]){re.escape(path)}(?![\w.])\)?" if " " in path else rf"(?<![\w.]){re.escape(path)}(?![\w.])", "(tree_bytes t)", declared.test)
+    for path in (rf"\(?string_bytes {part}(?![\w.])\)?", rf"(?<![\w.]){part}\.content\.items\b", rf"(?<![\w.]){part}\.0\.items\b"):
+        test = re.sub(path, "(tree_bytes t)", declared.test)
         if test != declared.test and not re.search(rf"(?<![\w.]){part}\b", test):
-            return f"λ x y e. ap (λ t. {test}) e", {"Rattle.der_types.specs.Constraints": {"tree_bytes"}}
+            return f"(λ t. {test})", "e", {"Rattle.der_types.specs.Constraints": {"tree_bytes"}}
     return None

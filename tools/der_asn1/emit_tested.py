@@ -14,7 +14,7 @@ _NAMES = """Constrained ReadExt WriteExt Deserialize Deserializer Result Seriali
 
 def tested_uses(declared: TestedDeclaration) -> Uses:
     """What the items of a type with a test name, without what its test names."""
-    _, terms = determined(declared)
+    _, _, terms = determined(declared)
     used = {"Rattle.std.proofs.Common": {"ap"}, "Rattle.picky_der_de.specs.Facts": {"facts_as"}}
     found = Uses({*_NAMES, declared.name, declared.function, *declared.type.names()}, terms=used)
     found.add(Uses(terms={PRELUDE: {"◌≡◌", "true", "false", "IfSome", "IfNone"}}))
@@ -83,8 +83,9 @@ def of_value(declared: TestedDeclaration, value: str) -> str:
 
 def constrained_impl(declared: TestedDeclaration) -> list[str]:
     """The implementation of `Constrained`, whose values are of the type inside."""
-    proof, _ = determined(declared)
-    proved = f"{STEP}ghost determined = {{ {proof} }};"
+    function, same, _ = determined(declared)
+    start, end = f"{STEP}ghost determined = {{ λ x y e. ap {function}", f"{same} }};"
+    line = f"{start} {end}"
     return [
         f"impl Constrained for {declared.name} {{",
         f"{STEP}type Of = {declared.type};",
@@ -99,6 +100,6 @@ def constrained_impl(declared: TestedDeclaration) -> list[str]:
         "",
         f"{STEP}ghost kept = {{ λ it. it.{declared.ghost} }};",
         "",
-        *([proved] if len(proved) <= GHOST_WIDTH else [f"{STEP}ghost determined = {{", f"{_TWO}{proof}", f"{STEP}}};"]),
+        *([line] if len(line) <= GHOST_WIDTH else [start, f"{_TWO}{end}"]),
         "}",
     ]

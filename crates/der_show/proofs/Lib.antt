@@ -13,4 +13,3 @@ pub mod Texts
 pub mod Padding
 pub mod Showing
 pub mod WrittenLemmas
-pub mod NotationLemmas

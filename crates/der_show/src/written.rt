@@ -1,5 +1,4 @@
 //! The laws of what is written: each is the contract of a function that does nothing.
-ghost use Rattle.der_show.specs.CheckedNotations.{DenotesChecked};
 ghost use Rattle.der_show.specs.Written.{WrittenInDer, NeverRefused};
 
 /// The encoding of a readable value is one element in DER, if each content in it is one that DER has under its tag.
@@ -15,11 +14,4 @@ pub fn written_in_der()
 #[tactic(auto, using(crate::proofs::WrittenLemmas::never_refused))]
 pub fn never_refused()
     ensures { NeverRefused }
-{}
-
-/// Each tree that a type of ASN.1 denotes is such a value's, if no part of the type is any element, any content under a tag that has a rule, or
-/// a list under the tag of another type.
-#[tactic(auto, using(crate::proofs::NotationLemmas::denotes_checked))]
-pub fn denotes_checked()
-    ensures { DenotesChecked }
 {}
