@@ -73,7 +73,7 @@ def faithful_default_impl(name: str, of: str) -> list[str]:
     return [
         f"impl FaithfulDefault<{of}> for {name} {{",
         f"{STEP}ghost sameness = {{ default_sameness ⟦<{of} as PartialEq>⟧.eq ⟦<{of} as Serialize>⟧.meaning {default}.left_out",
-        f"{_TWO}{default}.by_tree ⟦<{of} as Faithful>⟧.sameness }};",
+        f"{_TWO}⟦<{of} as Faithful>⟧.sameness }};",
         "",
         f"{STEP}ghost respects = {{ Prim.assumption }};",
         "}",

@@ -484,7 +484,7 @@ impl Faithful for Version {
 
 impl FaithfulDefault<Version> for VersionV1 {
     ghost sameness = { default_sameness ⟦<Version as PartialEq>⟧.eq ⟦<Version as Serialize>⟧.meaning ⟦<VersionV1 as DefaultOf<Version>>⟧.left_out
-        ⟦<VersionV1 as DefaultOf<Version>>⟧.by_tree ⟦<Version as Faithful>⟧.sameness };
+        ⟦<Version as Faithful>⟧.sameness };
 
     ghost respects = { Prim.assumption };
 }
