@@ -53,18 +53,18 @@ alternatives_sameness c equal chosen parts eq so = record {
 
 -- ---- defaults
 
-module _ {V : Type 0} (eq : V → V → Bool) (meaning : V → Tree) (left_out : V → Bool) where
-  pub same_test : IsByTree meaning left_out → (x y : V) → meaning x ≡ meaning y → (p q : Bool) → left_out x ≡ p → left_out y ≡ q → p ≡ q
-  same_test by_tree x y e true true f g = refl
-  same_test by_tree x y e false false f g = refl
-  same_test by_tree x y e true false f g = sym ((by_tree x y f).1 e) ∙ g
-  same_test by_tree x y e false true f g = sym f ∙ (by_tree y x g).1 (sym e)
+module _ {V : Type 0} (eq : V → V → Bool) (meaning : V → Tree) (left_out : V → Bool) (by_tree : IsByTree meaning left_out) where
+  pub same_test : (x y : V) → meaning x ≡ meaning y → (p q : Bool) → left_out x ≡ p → left_out y ≡ q → p ≡ q
+  same_test x y e true true f g = refl
+  same_test x y e false false f g = refl
+  same_test x y e true false f g = sym ((by_tree x y f).1 e) ∙ g
+  same_test x y e false true f g = sym f ∙ (by_tree y x g).1 (sym e)
 
   -- the tree says whether a value is the default
   abbrev pub default_sameness : Sameness V → DefaultSameness V
   default_sameness a = record {
     eq = eq;
     left_out = left_out;
-    Premise = ProvedSameness a eq meaning × IsByTree meaning left_out;
-    follows = λ o x y h. same_test o.1 x y (respects_of a o.0 x y h) (left_out x) (left_out y) refl refl;
+    Premise = ProvedSameness a eq meaning;
+    follows = λ o x y h. same_test x y (respects_of a o x y h) (left_out x) (left_out y) refl refl;
   }
