@@ -3,7 +3,7 @@ from typing import Union
 
 from .declarations import ChoiceDeclaration, StructDeclaration
 from .emit_choice import equal_alternatives, variants_import
-from .emit_enum import TERMS_FILE
+from .emit_enum import TERMS_FILE, default_proof, default_term
 from .emit_imports import PRELUDE, Uses
 from .layout import GHOST_WIDTH, STEP
 
@@ -69,11 +69,10 @@ def faithful_default_uses() -> Uses:
 
 def faithful_default_impl(name: str, of: str) -> list[str]:
     """The implementation of `FaithfulDefault` for the type that says the default of a member of the type `of`."""
-    default = f"⟦<{name} as DefaultOf<{of}>>⟧"
     return [
         f"impl FaithfulDefault<{of}> for {name} {{",
-        f"{STEP}ghost sameness = {{ default_sameness ⟦<{of} as PartialEq>⟧.eq ⟦<{of} as Serialize>⟧.meaning {default}.left_out",
-        f"{_TWO}{default}.by_tree ⟦<{of} as Faithful>⟧.sameness }};",
+        f"{STEP}ghost sameness = {{ default_sameness ⟦<{of} as PartialEq>⟧.eq ⟦<{of} as Serialize>⟧.meaning {default_term(name)}",
+        f"{_TWO}{default_proof(name)} ⟦<{of} as Faithful>⟧.sameness }};",
         "",
         f"{STEP}ghost respects = {{ Prim.assumption }};",
         "}",
@@ -89,6 +88,6 @@ def inhabited_impl(name: str) -> list[str]:
     """The implementation of `Inhabited` for a type with `Exact`: a tree of its notation is found when the program is checked."""
     return [
         f"impl Inhabited for {name} {{",
-        f"{STEP}ghost example = {{ exact_example ⟦<Self as Exact>⟧.values ⟦<Self as Exact>⟧.exact refl }};",
+        f"{STEP}ghost example = {{ exact_example ⟦<Self as Exact>⟧.values ⟦<Self as Notated>⟧.notation ⟦<Self as Serialize>⟧.meaning refl Prim.assumption }};",
         "}",
     ]

@@ -1,4 +1,7 @@
-"""The layout of `rt fmt`: when a list is on one line, and how it is broken else."""
+"""The layout of `rt fmt`: when a list is on one line, and how it is broken else.
+
+`rt fmt` itself would need the checker, and a crate that crates.txt names. This compiler and its tests run without both.
+"""
 import re
 from typing import Optional
 

@@ -147,7 +147,7 @@ impl Faithful for EnvelopedData {
 }
 
 impl Inhabited for EnvelopedData {
-    ghost example = { exact_example ⟦<Self as Exact>⟧.values ⟦<Self as Exact>⟧.exact refl };
+    ghost example = { exact_example ⟦<Self as Exact>⟧.values ⟦<Self as Notated>⟧.notation ⟦<Self as Serialize>⟧.meaning refl Prim.assumption };
 }
 
 /// `OriginatorInfo` of CryptographicMessageSyntax2004, as a SEQUENCE.
@@ -227,7 +227,7 @@ impl Faithful for OriginatorInfo {
 }
 
 impl Inhabited for OriginatorInfo {
-    ghost example = { exact_example ⟦<Self as Exact>⟧.values ⟦<Self as Exact>⟧.exact refl };
+    ghost example = { exact_example ⟦<Self as Exact>⟧.values ⟦<Self as Notated>⟧.notation ⟦<Self as Serialize>⟧.meaning refl Prim.assumption };
 }
 
 /// `EncryptedContentInfo` of CryptographicMessageSyntax2004, as a SEQUENCE.
@@ -328,7 +328,7 @@ impl Faithful for EncryptedContentInfo {
 }
 
 impl Inhabited for EncryptedContentInfo {
-    ghost example = { exact_example ⟦<Self as Exact>⟧.values ⟦<Self as Exact>⟧.exact refl };
+    ghost example = { exact_example ⟦<Self as Exact>⟧.values ⟦<Self as Notated>⟧.notation ⟦<Self as Serialize>⟧.meaning refl Prim.assumption };
 }
 
 /// `EncryptedContent` of CryptographicMessageSyntax2004: `OCTET STRING`.

@@ -162,7 +162,7 @@ impl Faithful for KeyAgreeRecipientInfo {
 }
 
 impl Inhabited for KeyAgreeRecipientInfo {
-    ghost example = { exact_example ⟦<Self as Exact>⟧.values ⟦<Self as Exact>⟧.exact refl };
+    ghost example = { exact_example ⟦<Self as Exact>⟧.values ⟦<Self as Notated>⟧.notation ⟦<Self as Serialize>⟧.meaning refl Prim.assumption };
 }
 
 /// `OriginatorIdentifierOrKey` of CryptographicMessageSyntax2004, as a CHOICE.
@@ -282,7 +282,7 @@ impl Faithful for OriginatorIdentifierOrKey {
 }
 
 impl Inhabited for OriginatorIdentifierOrKey {
-    ghost example = { exact_example ⟦<Self as Exact>⟧.values ⟦<Self as Exact>⟧.exact refl };
+    ghost example = { exact_example ⟦<Self as Exact>⟧.values ⟦<Self as Notated>⟧.notation ⟦<Self as Serialize>⟧.meaning refl Prim.assumption };
 }
 
 /// `OriginatorPublicKey` of CryptographicMessageSyntax2004, as a SEQUENCE.
@@ -362,7 +362,7 @@ impl Faithful for OriginatorPublicKey {
 }
 
 impl Inhabited for OriginatorPublicKey {
-    ghost example = { exact_example ⟦<Self as Exact>⟧.values ⟦<Self as Exact>⟧.exact refl };
+    ghost example = { exact_example ⟦<Self as Exact>⟧.values ⟦<Self as Notated>⟧.notation ⟦<Self as Serialize>⟧.meaning refl Prim.assumption };
 }
 
 /// `RecipientEncryptedKeys` of CryptographicMessageSyntax2004: `SEQUENCE OF RecipientEncryptedKey`.
@@ -444,7 +444,7 @@ impl Faithful for RecipientEncryptedKey {
 }
 
 impl Inhabited for RecipientEncryptedKey {
-    ghost example = { exact_example ⟦<Self as Exact>⟧.values ⟦<Self as Exact>⟧.exact refl };
+    ghost example = { exact_example ⟦<Self as Exact>⟧.values ⟦<Self as Notated>⟧.notation ⟦<Self as Serialize>⟧.meaning refl Prim.assumption };
 }
 
 /// `KeyAgreeRecipientIdentifier` of CryptographicMessageSyntax2004, as a CHOICE.
@@ -544,7 +544,7 @@ impl Faithful for KeyAgreeRecipientIdentifier {
 }
 
 impl Inhabited for KeyAgreeRecipientIdentifier {
-    ghost example = { exact_example ⟦<Self as Exact>⟧.values ⟦<Self as Exact>⟧.exact refl };
+    ghost example = { exact_example ⟦<Self as Exact>⟧.values ⟦<Self as Notated>⟧.notation ⟦<Self as Serialize>⟧.meaning refl Prim.assumption };
 }
 
 /// `RecipientKeyIdentifier` of CryptographicMessageSyntax2004, as a SEQUENCE.
@@ -640,7 +640,7 @@ impl Faithful for RecipientKeyIdentifier {
 }
 
 impl Inhabited for RecipientKeyIdentifier {
-    ghost example = { exact_example ⟦<Self as Exact>⟧.values ⟦<Self as Exact>⟧.exact refl };
+    ghost example = { exact_example ⟦<Self as Exact>⟧.values ⟦<Self as Notated>⟧.notation ⟦<Self as Serialize>⟧.meaning refl Prim.assumption };
 }
 
 /// `UserKeyingMaterial` of CryptographicMessageSyntax2004: `OCTET STRING`.

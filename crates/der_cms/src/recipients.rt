@@ -155,7 +155,7 @@ impl Faithful for RecipientInfo {
 }
 
 impl Inhabited for RecipientInfo {
-    ghost example = { exact_example ⟦<Self as Exact>⟧.values ⟦<Self as Exact>⟧.exact refl };
+    ghost example = { exact_example ⟦<Self as Exact>⟧.values ⟦<Self as Notated>⟧.notation ⟦<Self as Serialize>⟧.meaning refl Prim.assumption };
 }
 
 /// `EncryptedKey` of CryptographicMessageSyntax2004: `OCTET STRING`.
@@ -267,7 +267,7 @@ impl Faithful for KeyTransRecipientInfo {
 }
 
 impl Inhabited for KeyTransRecipientInfo {
-    ghost example = { exact_example ⟦<Self as Exact>⟧.values ⟦<Self as Exact>⟧.exact refl };
+    ghost example = { exact_example ⟦<Self as Exact>⟧.values ⟦<Self as Notated>⟧.notation ⟦<Self as Serialize>⟧.meaning refl Prim.assumption };
 }
 
 /// `RecipientIdentifier` of CryptographicMessageSyntax2004, as a CHOICE.
@@ -372,7 +372,7 @@ impl Faithful for RecipientIdentifier {
 }
 
 impl Inhabited for RecipientIdentifier {
-    ghost example = { exact_example ⟦<Self as Exact>⟧.values ⟦<Self as Exact>⟧.exact refl };
+    ghost example = { exact_example ⟦<Self as Exact>⟧.values ⟦<Self as Notated>⟧.notation ⟦<Self as Serialize>⟧.meaning refl Prim.assumption };
 }
 
 /// `SubjectKeyIdentifier` of CryptographicMessageSyntax2004: `OCTET STRING`.
@@ -481,7 +481,7 @@ impl Faithful for KekRecipientInfo {
 }
 
 impl Inhabited for KekRecipientInfo {
-    ghost example = { exact_example ⟦<Self as Exact>⟧.values ⟦<Self as Exact>⟧.exact refl };
+    ghost example = { exact_example ⟦<Self as Exact>⟧.values ⟦<Self as Notated>⟧.notation ⟦<Self as Serialize>⟧.meaning refl Prim.assumption };
 }
 
 /// `KEKIdentifier` of CryptographicMessageSyntax2004, as a SEQUENCE.
@@ -574,7 +574,7 @@ impl Faithful for KekIdentifier {
 }
 
 impl Inhabited for KekIdentifier {
-    ghost example = { exact_example ⟦<Self as Exact>⟧.values ⟦<Self as Exact>⟧.exact refl };
+    ghost example = { exact_example ⟦<Self as Exact>⟧.values ⟦<Self as Notated>⟧.notation ⟦<Self as Serialize>⟧.meaning refl Prim.assumption };
 }
 
 /// `PasswordRecipientInfo` of CryptographicMessageSyntax2004, as a SEQUENCE.
@@ -695,7 +695,7 @@ impl Faithful for PasswordRecipientInfo {
 }
 
 impl Inhabited for PasswordRecipientInfo {
-    ghost example = { exact_example ⟦<Self as Exact>⟧.values ⟦<Self as Exact>⟧.exact refl };
+    ghost example = { exact_example ⟦<Self as Exact>⟧.values ⟦<Self as Notated>⟧.notation ⟦<Self as Serialize>⟧.meaning refl Prim.assumption };
 }
 
 /// `OtherRecipientInfo` of CryptographicMessageSyntax2004, as a SEQUENCE.
@@ -775,7 +775,7 @@ impl Faithful for OtherRecipientInfo {
 }
 
 impl Inhabited for OtherRecipientInfo {
-    ghost example = { exact_example ⟦<Self as Exact>⟧.values ⟦<Self as Exact>⟧.exact refl };
+    ghost example = { exact_example ⟦<Self as Exact>⟧.values ⟦<Self as Notated>⟧.notation ⟦<Self as Serialize>⟧.meaning refl Prim.assumption };
 }
 
 /// `OtherKeyAttribute` of CryptographicMessageSyntax2004, as a SEQUENCE.
@@ -855,5 +855,5 @@ impl Faithful for OtherKeyAttribute {
 }
 
 impl Inhabited for OtherKeyAttribute {
-    ghost example = { exact_example ⟦<Self as Exact>⟧.values ⟦<Self as Exact>⟧.exact refl };
+    ghost example = { exact_example ⟦<Self as Exact>⟧.values ⟦<Self as Notated>⟧.notation ⟦<Self as Serialize>⟧.meaning refl Prim.assumption };
 }

@@ -144,7 +144,7 @@ impl Faithful for ApReqMembers {
 }
 
 impl Inhabited for ApReqMembers {
-    ghost example = { exact_example ⟦<Self as Exact>⟧.values ⟦<Self as Exact>⟧.exact refl };
+    ghost example = { exact_example ⟦<Self as Exact>⟧.values ⟦<Self as Notated>⟧.notation ⟦<Self as Serialize>⟧.meaning refl Prim.assumption };
 }
 
 /// Bits from 0: reserved, use-session-key, mutual-required. `APOptions` of KerberosV5Spec2:
@@ -317,7 +317,7 @@ impl Faithful for AuthenticatorMembers {
 }
 
 impl Inhabited for AuthenticatorMembers {
-    ghost example = { exact_example ⟦<Self as Exact>⟧.values ⟦<Self as Exact>⟧.exact refl };
+    ghost example = { exact_example ⟦<Self as Exact>⟧.values ⟦<Self as Notated>⟧.notation ⟦<Self as Serialize>⟧.meaning refl Prim.assumption };
 }
 
 /// `AP-REP` of KerberosV5Spec2: `[APPLICATION 15] SEQUENCE { pvno [0] INTEGER (5), msg-type [1]
@@ -408,7 +408,7 @@ impl Faithful for ApRepMembers {
 }
 
 impl Inhabited for ApRepMembers {
-    ghost example = { exact_example ⟦<Self as Exact>⟧.values ⟦<Self as Exact>⟧.exact refl };
+    ghost example = { exact_example ⟦<Self as Exact>⟧.values ⟦<Self as Notated>⟧.notation ⟦<Self as Serialize>⟧.meaning refl Prim.assumption };
 }
 
 /// `EncAPRepPart` of KerberosV5Spec2: `[APPLICATION 27] SEQUENCE { ctime [0] KerberosTime, cusec
@@ -511,5 +511,5 @@ impl Faithful for EncApRepPartMembers {
 }
 
 impl Inhabited for EncApRepPartMembers {
-    ghost example = { exact_example ⟦<Self as Exact>⟧.values ⟦<Self as Exact>⟧.exact refl };
+    ghost example = { exact_example ⟦<Self as Exact>⟧.values ⟦<Self as Notated>⟧.notation ⟦<Self as Serialize>⟧.meaning refl Prim.assumption };
 }

@@ -218,7 +218,7 @@ impl Faithful for KrbErrorMembers {
 }
 
 impl Inhabited for KrbErrorMembers {
-    ghost example = { exact_example ⟦<Self as Exact>⟧.values ⟦<Self as Exact>⟧.exact refl };
+    ghost example = { exact_example ⟦<Self as Exact>⟧.values ⟦<Self as Notated>⟧.notation ⟦<Self as Serialize>⟧.meaning refl Prim.assumption };
 }
 
 /// `METHOD-DATA` of KerberosV5Spec2: `SEQUENCE OF PA-DATA`.
@@ -308,5 +308,5 @@ impl Faithful for TypedDataItem {
 }
 
 impl Inhabited for TypedDataItem {
-    ghost example = { exact_example ⟦<Self as Exact>⟧.values ⟦<Self as Exact>⟧.exact refl };
+    ghost example = { exact_example ⟦<Self as Exact>⟧.values ⟦<Self as Notated>⟧.notation ⟦<Self as Serialize>⟧.meaning refl Prim.assumption };
 }

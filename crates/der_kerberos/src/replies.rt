@@ -167,7 +167,7 @@ impl Faithful for AsRepMembers {
 }
 
 impl Inhabited for AsRepMembers {
-    ghost example = { exact_example ⟦<Self as Exact>⟧.values ⟦<Self as Exact>⟧.exact refl };
+    ghost example = { exact_example ⟦<Self as Exact>⟧.values ⟦<Self as Notated>⟧.notation ⟦<Self as Serialize>⟧.meaning refl Prim.assumption };
 }
 
 /// `TGS-REP` of KerberosV5Spec2: `[APPLICATION 13] SEQUENCE { pvno [0] INTEGER (5), msg-type [1]
@@ -309,7 +309,7 @@ impl Faithful for TgsRepMembers {
 }
 
 impl Inhabited for TgsRepMembers {
-    ghost example = { exact_example ⟦<Self as Exact>⟧.values ⟦<Self as Exact>⟧.exact refl };
+    ghost example = { exact_example ⟦<Self as Exact>⟧.values ⟦<Self as Notated>⟧.notation ⟦<Self as Serialize>⟧.meaning refl Prim.assumption };
 }
 
 /// `EncASRepPart` of KerberosV5Spec2: `[APPLICATION 25] EncKDCRepPart`.
@@ -520,7 +520,7 @@ impl Faithful for EncKdcRepPart {
 }
 
 impl Inhabited for EncKdcRepPart {
-    ghost example = { exact_example ⟦<Self as Exact>⟧.values ⟦<Self as Exact>⟧.exact refl };
+    ghost example = { exact_example ⟦<Self as Exact>⟧.values ⟦<Self as Notated>⟧.notation ⟦<Self as Serialize>⟧.meaning refl Prim.assumption };
 }
 
 /// `LastReq` of KerberosV5Spec2: `SEQUENCE OF SEQUENCE { lr-type [0] Int32, lr-value [1]
@@ -604,5 +604,5 @@ impl Faithful for LastReqItem {
 }
 
 impl Inhabited for LastReqItem {
-    ghost example = { exact_example ⟦<Self as Exact>⟧.values ⟦<Self as Exact>⟧.exact refl };
+    ghost example = { exact_example ⟦<Self as Exact>⟧.values ⟦<Self as Notated>⟧.notation ⟦<Self as Serialize>⟧.meaning refl Prim.assumption };
 }

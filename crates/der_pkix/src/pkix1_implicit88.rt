@@ -135,7 +135,7 @@ impl Faithful for AuthorityKeyIdentifier {
 }
 
 impl Inhabited for AuthorityKeyIdentifier {
-    ghost example = { exact_example ⟦<Self as Exact>⟧.values ⟦<Self as Exact>⟧.exact refl };
+    ghost example = { exact_example ⟦<Self as Exact>⟧.values ⟦<Self as Notated>⟧.notation ⟦<Self as Serialize>⟧.meaning refl Prim.assumption };
 }
 
 /// `KeyIdentifier` of PKIX1Implicit88: `OCTET STRING`.
@@ -227,7 +227,7 @@ impl Faithful for BasicConstraints {
 }
 
 impl Inhabited for BasicConstraints {
-    ghost example = { exact_example ⟦<Self as Exact>⟧.values ⟦<Self as Exact>⟧.exact refl };
+    ghost example = { exact_example ⟦<Self as Exact>⟧.values ⟦<Self as Notated>⟧.notation ⟦<Self as Serialize>⟧.meaning refl Prim.assumption };
 }
 
 /// `NameConstraints` of PKIX1Implicit88, as a SEQUENCE.
@@ -318,7 +318,7 @@ impl Faithful for NameConstraints {
 }
 
 impl Inhabited for NameConstraints {
-    ghost example = { exact_example ⟦<Self as Exact>⟧.values ⟦<Self as Exact>⟧.exact refl };
+    ghost example = { exact_example ⟦<Self as Exact>⟧.values ⟦<Self as Notated>⟧.notation ⟦<Self as Serialize>⟧.meaning refl Prim.assumption };
 }
 
 /// `GeneralSubtrees` of PKIX1Implicit88: `SEQUENCE SIZE (1..MAX) OF GeneralSubtree`.
@@ -420,7 +420,7 @@ impl Faithful for GeneralSubtree {
 }
 
 impl Inhabited for GeneralSubtree {
-    ghost example = { exact_example ⟦<Self as Exact>⟧.values ⟦<Self as Exact>⟧.exact refl };
+    ghost example = { exact_example ⟦<Self as Exact>⟧.values ⟦<Self as Notated>⟧.notation ⟦<Self as Serialize>⟧.meaning refl Prim.assumption };
 }
 
 /// `BaseDistance` of PKIX1Implicit88: `INTEGER (0..MAX)`.
@@ -517,5 +517,5 @@ impl Faithful for AccessDescription {
 }
 
 impl Inhabited for AccessDescription {
-    ghost example = { exact_example ⟦<Self as Exact>⟧.values ⟦<Self as Exact>⟧.exact refl };
+    ghost example = { exact_example ⟦<Self as Exact>⟧.values ⟦<Self as Notated>⟧.notation ⟦<Self as Serialize>⟧.meaning refl Prim.assumption };
 }

@@ -119,7 +119,7 @@ impl Faithful for AttributeCertificate {
 }
 
 impl Inhabited for AttributeCertificate {
-    ghost example = { exact_example ⟦<Self as Exact>⟧.values ⟦<Self as Exact>⟧.exact refl };
+    ghost example = { exact_example ⟦<Self as Exact>⟧.values ⟦<Self as Notated>⟧.notation ⟦<Self as Serialize>⟧.meaning refl Prim.assumption };
 }
 
 /// `AttributeCertificateInfo` of PKIXAttributeCertificate-2008, as a SEQUENCE.
@@ -280,7 +280,7 @@ impl Faithful for AttributeCertificateInfo {
 }
 
 impl Inhabited for AttributeCertificateInfo {
-    ghost example = { exact_example ⟦<Self as Exact>⟧.values ⟦<Self as Exact>⟧.exact refl };
+    ghost example = { exact_example ⟦<Self as Exact>⟧.values ⟦<Self as Notated>⟧.notation ⟦<Self as Serialize>⟧.meaning refl Prim.assumption };
 }
 
 /// `AttCertVersion` of PKIXAttributeCertificate-2008: `INTEGER { v2 (1) } (v2)`.
@@ -370,7 +370,7 @@ impl Faithful for AttCertValidityPeriod {
 }
 
 impl Inhabited for AttCertValidityPeriod {
-    ghost example = { exact_example ⟦<Self as Exact>⟧.values ⟦<Self as Exact>⟧.exact refl };
+    ghost example = { exact_example ⟦<Self as Exact>⟧.values ⟦<Self as Notated>⟧.notation ⟦<Self as Serialize>⟧.meaning refl Prim.assumption };
 }
 
 /// The value of the extension id-ce-targetInformation. RFC 5755 gives this type no name.
@@ -480,7 +480,7 @@ impl Faithful for Target {
 }
 
 impl Inhabited for Target {
-    ghost example = { exact_example ⟦<Self as Exact>⟧.values ⟦<Self as Exact>⟧.exact refl };
+    ghost example = { exact_example ⟦<Self as Exact>⟧.values ⟦<Self as Notated>⟧.notation ⟦<Self as Serialize>⟧.meaning refl Prim.assumption };
 }
 
 /// `TargetCert` of PKIXAttributeCertificate-2008, as a SEQUENCE.
@@ -578,7 +578,7 @@ impl Faithful for TargetCert {
 }
 
 impl Inhabited for TargetCert {
-    ghost example = { exact_example ⟦<Self as Exact>⟧.values ⟦<Self as Exact>⟧.exact refl };
+    ghost example = { exact_example ⟦<Self as Exact>⟧.values ⟦<Self as Notated>⟧.notation ⟦<Self as Serialize>⟧.meaning refl Prim.assumption };
 }
 
 /// `ProxyInfo` of PKIXAttributeCertificate-2008: `SEQUENCE OF Targets`.
@@ -701,7 +701,7 @@ impl Faithful for AaControls {
 }
 
 impl Inhabited for AaControls {
-    ghost example = { exact_example ⟦<Self as Exact>⟧.values ⟦<Self as Exact>⟧.exact refl };
+    ghost example = { exact_example ⟦<Self as Exact>⟧.values ⟦<Self as Notated>⟧.notation ⟦<Self as Serialize>⟧.meaning refl Prim.assumption };
 }
 
 /// `AttrSpec` of PKIXAttributeCertificate-2008: `SEQUENCE OF OBJECT IDENTIFIER`.

@@ -13,3 +13,4 @@ pub mod Texts
 pub mod Padding
 pub mod Showing
 pub mod WrittenLemmas
+pub mod NotationLemmas

@@ -59,30 +59,39 @@ canonical-joined (Nodes.primitive tag content after) ys h k = (h.0, h.1, canonic
 canonical-joined (Nodes.constructed tag inside after) ys h k = (h.0, h.1, h.2, canonical-joined after ys h.3 k)
 
 both : (a b : List ℕ) → AreElements a → AreElements b → AreElements (a ++ b)
-both a b (es, x) (fs, y) = (_, record {
-  nodes = joined x.nodes y.nodes;
-  canonical = canonical-joined x.nodes y.nodes x.canonical y.canonical;
-  is = ap (λ s. s ++ b) x.is ∙ ap (λ s. encoding x.nodes ++ s) y.is ∙ sym (encoding-joined x.nodes y.nodes);
-  listed = refl;
-})
+both a b (es, x) (fs, y) = (
+  _,
+  record {
+    nodes = joined x.nodes y.nodes;
+    canonical = canonical-joined x.nodes y.nodes x.canonical y.canonical;
+    is = ap (λ s. s ++ b) x.is ∙ ap (λ s. encoding x.nodes ++ s) y.is ∙ sym (encoding-joined x.nodes y.nodes);
+    listed = refl;
+  },
+)
 
 one_primitive : (tag : ℕ) (content : List ℕ) → IsCanonical tag content → is_constructed tag ≡ false → AreElements (tlv tag content)
 unfolding encoding
-one_primitive tag content canonical bit = (_, record {
-  nodes = Nodes.primitive tag content Nodes.none;
-  canonical = (canonical, bit, tt);
-  is = sym (append-nil (tlv tag content));
-  listed = refl;
-})
+one_primitive tag content canonical bit = (
+  _,
+  record {
+    nodes = Nodes.primitive tag content Nodes.none;
+    canonical = (canonical, bit, tt);
+    is = sym (append-nil (tlv tag content));
+    listed = refl;
+  },
+)
 
 one_constructed : (tag : ℕ) (content : List ℕ) → IsCanonical tag content → is_constructed tag ≡ true → AreElements content → AreElements (tlv tag content)
 unfolding encoding
-one_constructed tag content canonical bit (es, x) = (_, record {
-  nodes = Nodes.constructed tag x.nodes Nodes.none;
-  canonical = (subst (IsCanonical tag) x.is canonical, bit, x.canonical, tt);
-  is = ap (tlv tag) x.is ∙ sym (append-nil (tlv tag (encoding x.nodes)));
-  listed = refl;
-})
+one_constructed tag content canonical bit (es, x) = (
+  _,
+  record {
+    nodes = Nodes.constructed tag x.nodes Nodes.none;
+    canonical = (subst (IsCanonical tag) x.is canonical, bit, x.canonical, tt);
+    is = ap (tlv tag) x.is ∙ sym (append-nil (tlv tag (encoding x.nodes)));
+    listed = refl;
+  },
+)
 
 one_element : (tag : ℕ) (content : List ℕ) → IsTagNumber (number_of tag) → IsElementInDer tag content → AreElements (tlv tag content)
 one_element tag content number h = by_form (is_constructed tag) refl

@@ -6,6 +6,7 @@ pub mod Ends
 pub mod Outlines
 pub mod Openings
 pub mod Written
+pub mod CheckedNotations
 pub mod Entries
 pub mod Walks
 pub mod Steps

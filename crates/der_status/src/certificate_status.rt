@@ -156,7 +156,7 @@ impl Faithful for SingleResponse {
 }
 
 impl Inhabited for SingleResponse {
-    ghost example = { exact_example ⟦<Self as Exact>⟧.values ⟦<Self as Exact>⟧.exact refl };
+    ghost example = { exact_example ⟦<Self as Exact>⟧.values ⟦<Self as Notated>⟧.notation ⟦<Self as Serialize>⟧.meaning refl Prim.assumption };
 }
 
 /// `CertStatus` of OCSP-2013-88, as a CHOICE.
@@ -259,7 +259,7 @@ impl Faithful for CertStatus {
 }
 
 impl Inhabited for CertStatus {
-    ghost example = { exact_example ⟦<Self as Exact>⟧.values ⟦<Self as Exact>⟧.exact refl };
+    ghost example = { exact_example ⟦<Self as Exact>⟧.values ⟦<Self as Notated>⟧.notation ⟦<Self as Serialize>⟧.meaning refl Prim.assumption };
 }
 
 /// `RevokedInfo` of OCSP-2013-88, as a SEQUENCE.
@@ -343,7 +343,7 @@ impl Faithful for RevokedInfo {
 }
 
 impl Inhabited for RevokedInfo {
-    ghost example = { exact_example ⟦<Self as Exact>⟧.values ⟦<Self as Exact>⟧.exact refl };
+    ghost example = { exact_example ⟦<Self as Exact>⟧.values ⟦<Self as Notated>⟧.notation ⟦<Self as Serialize>⟧.meaning refl Prim.assumption };
 }
 
 /// `UnknownInfo` of OCSP-2013-88: `NULL`.

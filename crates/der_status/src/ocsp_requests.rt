@@ -100,7 +100,7 @@ impl Faithful for OcspRequest {
 }
 
 impl Inhabited for OcspRequest {
-    ghost example = { exact_example ⟦<Self as Exact>⟧.values ⟦<Self as Exact>⟧.exact refl };
+    ghost example = { exact_example ⟦<Self as Exact>⟧.values ⟦<Self as Notated>⟧.notation ⟦<Self as Serialize>⟧.meaning refl Prim.assumption };
 }
 
 /// `TBSRequest` of OCSP-2013-88, as a SEQUENCE.
@@ -218,7 +218,7 @@ impl Faithful for TbsRequest {
 }
 
 impl Inhabited for TbsRequest {
-    ghost example = { exact_example ⟦<Self as Exact>⟧.values ⟦<Self as Exact>⟧.exact refl };
+    ghost example = { exact_example ⟦<Self as Exact>⟧.values ⟦<Self as Notated>⟧.notation ⟦<Self as Serialize>⟧.meaning refl Prim.assumption };
 }
 
 /// `Signature` of OCSP-2013-88, as a SEQUENCE.
@@ -311,7 +311,7 @@ impl Faithful for Signature {
 }
 
 impl Inhabited for Signature {
-    ghost example = { exact_example ⟦<Self as Exact>⟧.values ⟦<Self as Exact>⟧.exact refl };
+    ghost example = { exact_example ⟦<Self as Exact>⟧.values ⟦<Self as Notated>⟧.notation ⟦<Self as Serialize>⟧.meaning refl Prim.assumption };
 }
 
 /// `Version` of OCSP-2013-88: `INTEGER { v1 (0) }`.
@@ -398,7 +398,7 @@ impl Faithful for Request {
 }
 
 impl Inhabited for Request {
-    ghost example = { exact_example ⟦<Self as Exact>⟧.values ⟦<Self as Exact>⟧.exact refl };
+    ghost example = { exact_example ⟦<Self as Exact>⟧.values ⟦<Self as Notated>⟧.notation ⟦<Self as Serialize>⟧.meaning refl Prim.assumption };
 }
 
 /// `CertID` of OCSP-2013-88, as a SEQUENCE.
@@ -504,5 +504,5 @@ impl Faithful for CertId {
 }
 
 impl Inhabited for CertId {
-    ghost example = { exact_example ⟦<Self as Exact>⟧.values ⟦<Self as Exact>⟧.exact refl };
+    ghost example = { exact_example ⟦<Self as Exact>⟧.values ⟦<Self as Notated>⟧.notation ⟦<Self as Serialize>⟧.meaning refl Prim.assumption };
 }

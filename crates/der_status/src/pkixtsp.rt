@@ -158,7 +158,7 @@ impl Faithful for TimeStampReq {
 }
 
 impl Inhabited for TimeStampReq {
-    ghost example = { exact_example ⟦<Self as Exact>⟧.values ⟦<Self as Exact>⟧.exact refl };
+    ghost example = { exact_example ⟦<Self as Exact>⟧.values ⟦<Self as Notated>⟧.notation ⟦<Self as Serialize>⟧.meaning refl Prim.assumption };
 }
 
 /// The digest of the data that is time-stamped. `MessageImprint` of PKIXTSP, as a SEQUENCE.
@@ -237,7 +237,7 @@ impl Faithful for MessageImprint {
 }
 
 impl Inhabited for MessageImprint {
-    ghost example = { exact_example ⟦<Self as Exact>⟧.values ⟦<Self as Exact>⟧.exact refl };
+    ghost example = { exact_example ⟦<Self as Exact>⟧.values ⟦<Self as Notated>⟧.notation ⟦<Self as Serialize>⟧.meaning refl Prim.assumption };
 }
 
 /// `TSAPolicyId` of PKIXTSP: `OBJECT IDENTIFIER`.
@@ -319,7 +319,7 @@ impl Faithful for TimeStampResp {
 }
 
 impl Inhabited for TimeStampResp {
-    ghost example = { exact_example ⟦<Self as Exact>⟧.values ⟦<Self as Exact>⟧.exact refl };
+    ghost example = { exact_example ⟦<Self as Exact>⟧.values ⟦<Self as Notated>⟧.notation ⟦<Self as Serialize>⟧.meaning refl Prim.assumption };
 }
 
 /// `PKIStatusInfo` of PKIXTSP, as a SEQUENCE.
@@ -412,7 +412,7 @@ impl Faithful for PkiStatusInfo {
 }
 
 impl Inhabited for PkiStatusInfo {
-    ghost example = { exact_example ⟦<Self as Exact>⟧.values ⟦<Self as Exact>⟧.exact refl };
+    ghost example = { exact_example ⟦<Self as Exact>⟧.values ⟦<Self as Notated>⟧.notation ⟦<Self as Serialize>⟧.meaning refl Prim.assumption };
 }
 
 /// `PKIStatus` of PKIXTSP: `INTEGER { granted (0), grantedWithMods (1), rejection (2), waiting (3),
@@ -594,7 +594,7 @@ impl Faithful for TstInfo {
 }
 
 impl Inhabited for TstInfo {
-    ghost example = { exact_example ⟦<Self as Exact>⟧.values ⟦<Self as Exact>⟧.exact refl };
+    ghost example = { exact_example ⟦<Self as Exact>⟧.values ⟦<Self as Notated>⟧.notation ⟦<Self as Serialize>⟧.meaning refl Prim.assumption };
 }
 
 /// `Accuracy` of PKIXTSP, as a SEQUENCE.
@@ -687,5 +687,5 @@ impl Faithful for Accuracy {
 }
 
 impl Inhabited for Accuracy {
-    ghost example = { exact_example ⟦<Self as Exact>⟧.values ⟦<Self as Exact>⟧.exact refl };
+    ghost example = { exact_example ⟦<Self as Exact>⟧.values ⟦<Self as Notated>⟧.notation ⟦<Self as Serialize>⟧.meaning refl Prim.assumption };
 }

@@ -54,7 +54,7 @@ alternatives_sameness c equal chosen parts eq so = record {
 -- ---- defaults
 
 module _ {V : Type 0} (eq : V → V → Bool) (meaning : V → Tree) (left_out : V → Bool) (by_tree : IsByTree meaning left_out) where
-  same_test : (x y : V) → meaning x ≡ meaning y → (p q : Bool) → left_out x ≡ p → left_out y ≡ q → p ≡ q
+  pub same_test : (x y : V) → meaning x ≡ meaning y → (p q : Bool) → left_out x ≡ p → left_out y ≡ q → p ≡ q
   same_test x y e true true f g = refl
   same_test x y e false false f g = refl
   same_test x y e true false f g = sym ((by_tree x y f).1 e) ∙ g

@@ -45,6 +45,10 @@ abbrev with : {A B : Type 0} → Option A → (A → Option B) → Option B
 with None make = None
 with (Some a) make = make a
 
+abbrev first_found : {A : Type 0} → Option A → Option A → Option A
+first_found None other = other
+first_found (Some a) other = Some a
+
 -- ---- what a tree of a type is
 
 pub record Sample (n : Notation) : Type 0 where
@@ -71,13 +75,13 @@ pub record AlternativeSample (ts : Alternatives) : Type 0 where
 abbrev sample : (n : Notation) (t : Tree) → Denotes n t → IsReadable t → IsShort t → Sample n
 sample n t d r s = record { tree = t; denoted = d; readable = r; short = s; size = tree_size n t; sized = refl }
 
-zero_short : 0 < 2 ^ 63
+pub zero_short : 0 < 2 ^ 63
 zero_short = omega arith
 
-one_short : 1 < 2 ^ 63
+pub one_short : 1 < 2 ^ 63
 one_short = omega arith
 
-two_short : 2 < 2 ^ 63
+pub two_short : 2 < 2 ^ 63
 two_short = omega arith
 
 -- ---- contents
@@ -94,12 +98,12 @@ bytes_of (b ∷ bs) h = let p = and_parts (nat_lt b 256) (are_bytes bs) h in (lt
 abbrev is_short_content : ℕ → List ℕ → Bool
 is_short_content tag s = is_tag_number (number_of tag) && (are_bytes s && nat_lt (length s) (2 ^ 63))
 
-content_readable : (tag : ℕ) (s : List ℕ) → is_short_content tag s ≡ true → IsReadable (content_tree tag s)
+pub content_readable : (tag : ℕ) (s : List ℕ) → is_short_content tag s ≡ true → IsReadable (content_tree tag s)
 content_readable tag s h =
     let p = and_parts (is_tag_number (number_of tag)) (are_bytes s && nat_lt (length s) (2 ^ 63)) h in
     (leb-true (number_of tag) 30 p.0, bytes_of s (and_parts (are_bytes s) (nat_lt (length s) (2 ^ 63)) p.1).0)
 
-content_short : (tag : ℕ) (s : List ℕ) → is_short_content tag s ≡ true → IsShort (content_tree tag s)
+pub content_short : (tag : ℕ) (s : List ℕ) → is_short_content tag s ≡ true → IsShort (content_tree tag s)
 content_short tag s h =
     let p = and_parts (is_tag_number (number_of tag)) (are_bytes s && nat_lt (length s) (2 ^ 63)) h in
     ltb-true (length s) (2 ^ 63) (and_parts (are_bytes s) (nat_lt (length s) (2 ^ 63)) p.1).1
@@ -128,7 +132,7 @@ wished_string wish tag = string_content (string_width tag) (replicate wish 0x30)
 
 -- ---- numbers, which are below 128
 
-number_short : (n : ℕ) → nat_lt n 0x80 ≡ true → length (unsigned_content n) < 2 ^ 63
+pub number_short : (n : ℕ) → nat_lt n 0x80 ≡ true → length (unsigned_content n) < 2 ^ 63
 number_short n e = subst (λ s. length s < 2 ^ 63) (one_byte n e) one_short
 
 -- the first of the numbers of an enumeration
@@ -138,31 +142,34 @@ first_of (n ∷ ns) = n
 
 -- ---- texts
 
+abbrev pub letters : ℕ → List ℕ
+letters n = replicate n 0x61
+
 one_letter : encode_utf8 0x61 ≡ 0x61 ∷ []
 unfolding encode
 one_letter = refl
 
-letters_encoded : (n : ℕ) → encode_utf8_all (replicate n 0x61) ≡ replicate n 0x61
+letters_encoded : (n : ℕ) → encode_utf8_all (letters n) ≡ letters n
 letters_encoded zero = refl
-letters_encoded (suc n) = ap (λ s. s ++ encode_utf8_all (replicate n 0x61)) one_letter ∙ ap (λ s. 0x61 ∷ s) (letters_encoded n)
+letters_encoded (suc n) = ap (λ s. s ++ encode_utf8_all (letters n)) one_letter ∙ ap (λ s. 0x61 ∷ s) (letters_encoded n)
 
-letters_valid : (n : ℕ) → scalars (replicate n 0x61) ≡ true
+letters_valid : (n : ℕ) → scalars (letters n) ≡ true
 letters_valid zero = refl
 letters_valid (suc n) = letters_valid n
 
-letters_readable : (n : ℕ) → IsUtf8 (replicate n 0x61)
-letters_readable n = (replicate n 0x61, (letters_valid n, letters_encoded n))
+pub letters_readable : (n : ℕ) → IsUtf8 (letters n)
+letters_readable n = (letters n, (letters_valid n, letters_encoded n))
 
-letter_count : (n : ℕ) → length (chars (replicate n 0x61)) ≡ n
+pub letter_count : (n : ℕ) → length (chars (letters n)) ≡ n
 letter_count n =
-    ap (λ s. length (chars s)) (sym (letters_encoded n)) ∙ (ap length (chars-encodes (replicate n 0x61) (letters_valid n)) ∙ length-replicate n 0x61)
+    ap (λ s. length (chars s)) (sym (letters_encoded n)) ∙ (ap length (chars-encodes (letters n) (letters_valid n)) ∙ length-replicate n 0x61)
 
-abbrev text_sample : (wish : ℕ) → nat_lt (length (replicate wish 0x61)) (2 ^ 63) ≡ true → Sample Notation.UTF8String
+abbrev text_sample : (wish : ℕ) → nat_lt (length (letters wish)) (2 ^ 63) ≡ true → Sample Notation.UTF8String
 text_sample wish h = record {
-  tree = Tree.primitive (Primitive.text (replicate wish 0x61));
-  denoted = (replicate wish 0x61, refl, tt);
+  tree = Tree.primitive (Primitive.text (letters wish));
+  denoted = (letters wish, refl, tt);
   readable = letters_readable wish;
-  short = ltb-true (length (replicate wish 0x61)) (2 ^ 63) h;
+  short = ltb-true (length (letters wish)) (2 ^ 63) h;
   size = wish;
   sized = letter_count wish;
 }
@@ -202,7 +209,7 @@ module _ (w : Wrapper) (n : Notation) where
   abbrev can_be_wrapped : Tree → Bool
   can_be_wrapped t = has_tag_number w && (keeps_header w || is_no_choice t)
 
-  wrapped_readable : (t : Tree) → can_be_wrapped t ≡ true → IsReadable t → IsReadable (Tree.wrapped w t)
+  pub wrapped_readable : (t : Tree) → can_be_wrapped t ≡ true → IsReadable t → IsReadable (Tree.wrapped w t)
   wrapped_readable t h r =
       let p = and_parts (has_tag_number w) (keeps_header w || is_no_choice t) h in
       (numbered w p.0, headed (keeps_header w) t p.1, r)
@@ -222,15 +229,15 @@ abbrev copies : ℕ → Tree → Trees
 copies zero t = Trees.none
 copies (suc n) t = Trees.more t (copies n t)
 
-copies_are : (P : Tree → Type 0) (n : ℕ) (t : Tree) → P t → EachIs P (copies n t)
+pub copies_are : (P : Tree → Type 0) (n : ℕ) (t : Tree) → P t → EachIs P (copies n t)
 copies_are P zero t p = tt
 copies_are P (suc n) t p = (p, copies_are P n t p)
 
-copies_readable : (n : ℕ) (t : Tree) → IsReadable t → AreReadable (copies n t)
+pub copies_readable : (n : ℕ) (t : Tree) → IsReadable t → AreReadable (copies n t)
 copies_readable zero t r = tt
 copies_readable (suc n) t r = (r, copies_readable n t r)
 
-copies_short : (n : ℕ) (t : Tree) → IsShort t → EachIsShort (copies n t)
+pub copies_short : (n : ℕ) (t : Tree) → IsShort t → EachIsShort (copies n t)
 copies_short zero t s = tt
 copies_short (suc n) t s = (s, copies_short n t s)
 
@@ -238,11 +245,12 @@ not_less : (bs : List ℕ) → is_less bs bs ≡ false
 not_less bs = ap is_lt (tied_itself nat_list_cmp_total bs)
 
 copies_ascend : (n : ℕ) (t : Tree) → IsAscending (encodings (copies n t))
+unfolding encodings der
 copies_ascend zero t = IsSortedBy-nil is_less
 copies_ascend (suc zero) t = IsSortedBy-one is_less (der t)
 copies_ascend (suc (suc n)) t = IsSortedBy-cons is_less (der t) (der t) (encodings (copies n t)) (not_less (der t)) (copies_ascend (suc n) t)
 
-copies_in_order : (kind : ListKind) (n : ℕ) (t : Tree) → IsInOrder kind (encodings (copies n t))
+pub copies_in_order : (kind : ListKind) (n : ℕ) (t : Tree) → IsInOrder kind (encodings (copies n t))
 copies_in_order ListKind.sequence n t = tt
 copies_in_order ListKind.set n t = copies_ascend n t
 
@@ -318,7 +326,7 @@ abbrev mutual
   sample_of wish (Notation.ENUMERATED numbers) = content_sample (Notation.ENUMERATED numbers) 0x0A (first_of numbers ∷ []) (with (decided (nat_lt (first_of numbers) 0x80)) (λ e. with (decided (contains numbers (first_of numbers))) (λ c. Some (first_of numbers, ap (content_tree 0x0A) (one_byte (first_of numbers) e), c))))
   sample_of wish Notation.OCTET-STRING = content_sample Notation.OCTET-STRING 0x04 (replicate wish 0x00) (Some (replicate wish 0x00, refl, tt))
   sample_of wish Notation.NULL = Some (sample Notation.NULL (Tree.primitive Primitive.null) refl tt zero_short)
-  sample_of wish Notation.UTF8String = with (decided (nat_lt (length (replicate wish 0x61)) (2 ^ 63))) (λ h. Some (text_sample wish h))
+  sample_of wish Notation.UTF8String = with (decided (nat_lt (length (letters wish)) (2 ^ 63))) (λ h. Some (text_sample wish h))
   sample_of wish Notation.character = Some (sample Notation.character (Tree.primitive (Primitive.text (0x61 ∷ []))) (0x61 ∷ [], refl, letter_count 1) (letters_readable 1) one_short)
   sample_of wish (Notation.restricted-string tag) = content_sample (Notation.restricted-string tag) tag (wished_string wish tag) (with (decided (is_string_content (string_width tag) (string_character tag) (wished_string wish tag))) (λ e. Some (wished_string wish tag, refl, e)))
   sample_of wish (Notation.any-content tag) = content_sample (Notation.any-content tag) tag [] (Some ([], refl, tt))
@@ -331,7 +339,7 @@ abbrev mutual
   sample_of wish (Notation.content-under tag n) = with (sample_of wish n) (λ x. under_sample tag n x.tree x.denoted x.readable)
   sample_of wish (Notation.in-range least most n) = with (sample_of (greater wish least) n) (λ x. in_range_sample n x least most)
   sample_of wish (Notation.from-minus least most n) = with (sample_of wish n) (λ x. from_minus_sample n x least most)
-  sample_of wish (Notation.other-than m n) = with (sample_of (if m == 0 then 1 else 0) n) (λ x. other_than_sample n x m)
+  sample_of wish (Notation.other-than m n) = first_found (with (sample_of 0 n) (λ x. other_than_sample n x m)) (with (sample_of (suc m) n) (λ x. other_than_sample n x m))
   sample_of wish (Notation.sized least most n) = with (sample_of least n) (λ x. sized_sample n x least most)
 
   pub members_sample : (ms : Members) → Option (MembersSample ms)
@@ -355,5 +363,5 @@ value_of : {V : Type 0} (n : Notation) {meaning : V → Tree} → IsExact (Denot
 value_of n is None h = cc
 value_of n is (Some x) h = let v = is.complete x.tree x.denoted x.readable x.short in (v.0, subst IsReadable (sym v.1) x.readable)
 
-pub exact_example : {V : Type 0} (values : Values V) {notation : Notation} {meaning : V → Tree} → ProvedValues values notation meaning → has_sample notation ≡ true → HasReadable meaning
-exact_example values {notation} t h = value_of notation (is_exact values t) (sample_of 0 notation) h
+pub exact_example : {V : Type 0} (values : Values V) (notation : Notation) (meaning : V → Tree) → has_sample notation ≡ true → ProvedValues values notation meaning → HasReadable meaning
+exact_example values notation meaning h t = value_of notation (is_exact values t) (sample_of 0 notation) h

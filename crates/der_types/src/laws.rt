@@ -12,6 +12,8 @@ ghost use Rattle.der_types.specs.CharacterStrings.{string_content, characters, i
 ghost use Rattle.picky_der_core.specs.Tree.{Tree};
 ghost use Rattle.der_types.specs.Denotes.{Denotes, IsShort};
 ghost use Rattle.der_types.specs.declared.width.Width.{Width};
+ghost use Rattle.der_types.specs.SampleTrees.{has_sample};
+ghost use Rattle.picky_der_de.specs.Examples.{HasReadable};
 ghost use Rattle.der_types.specs.RelativeOid.{are_relative_arcs, is_relative_oid, relative_oid_content};
 ghost use Rattle.der_types.specs.Subidentifiers.{numbers_after};
 ghost use Rattle.der_types.specs.TagOrder.{AreInTagOrder, member_encodings};
@@ -159,4 +161,9 @@ pub fn exact<T: Exact>()
     ensures sound { (it : T) → IsReadable (T.meaning it) → Denotes T.notation (T.meaning it) }
     ensures complete { (t : Tree) → Denotes T.notation t → IsReadable t → IsShort t
         → (it : T) × (T.meaning it ≡ t) }
+{}
+
+/// An exact type has a readable value if a tree of its notation is found by a search, which is done where a program is checked.
+pub fn inhabited<T: Exact>()
+    ensures { has_sample T.notation ≡ true → HasReadable T.meaning }
 {}

@@ -127,7 +127,7 @@ impl Faithful for Certificate {
 }
 
 impl Inhabited for Certificate {
-    ghost example = { exact_example ⟦<Self as Exact>⟧.values ⟦<Self as Exact>⟧.exact refl };
+    ghost example = { exact_example ⟦<Self as Exact>⟧.values ⟦<Self as Notated>⟧.notation ⟦<Self as Serialize>⟧.meaning refl Prim.assumption };
 }
 
 /// The signed part of a certificate (RFC 5280, 4.1.2). `TBSCertificate` of PKIX1Explicit88, as a
@@ -298,7 +298,7 @@ impl Faithful for TbsCertificate {
 }
 
 impl Inhabited for TbsCertificate {
-    ghost example = { exact_example ⟦<Self as Exact>⟧.values ⟦<Self as Exact>⟧.exact refl };
+    ghost example = { exact_example ⟦<Self as Exact>⟧.values ⟦<Self as Notated>⟧.notation ⟦<Self as Serialize>⟧.meaning refl Prim.assumption };
 }
 
 /// The version of a certificate (RFC 5280, 4.1.2.1). The RFC names these three and has no
@@ -483,14 +483,14 @@ impl Faithful for Version {
 }
 
 impl FaithfulDefault<Version> for VersionV1 {
-    ghost sameness = { default_sameness ⟦<Version as PartialEq>⟧.eq ⟦<Version as Serialize>⟧.meaning ⟦<VersionV1 as DefaultOf<Version>>⟧.left_out
-        ⟦<VersionV1 as DefaultOf<Version>>⟧.by_tree ⟦<Version as Faithful>⟧.sameness };
+    ghost sameness = { default_sameness ⟦<Version as PartialEq>⟧.eq ⟦<Version as Serialize>⟧.meaning is_default_version_v1
+        version_v1_by_tree ⟦<Version as Faithful>⟧.sameness };
 
     ghost respects = { Prim.assumption };
 }
 
 impl Inhabited for Version {
-    ghost example = { exact_example ⟦<Self as Exact>⟧.values ⟦<Self as Exact>⟧.exact refl };
+    ghost example = { exact_example ⟦<Self as Exact>⟧.values ⟦<Self as Notated>⟧.notation ⟦<Self as Serialize>⟧.meaning refl Prim.assumption };
 }
 
 /// The serial number of a certificate (RFC 5280, 4.1.2.2). `CertificateSerialNumber` of
@@ -574,7 +574,7 @@ impl Faithful for Validity {
 }
 
 impl Inhabited for Validity {
-    ghost example = { exact_example ⟦<Self as Exact>⟧.values ⟦<Self as Exact>⟧.exact refl };
+    ghost example = { exact_example ⟦<Self as Exact>⟧.values ⟦<Self as Notated>⟧.notation ⟦<Self as Serialize>⟧.meaning refl Prim.assumption };
 }
 
 /// A time, without a fraction of a second (RFC 5280, 4.1.2.5). Any year is read in both forms,
@@ -666,7 +666,7 @@ impl Faithful for Time {
 }
 
 impl Inhabited for Time {
-    ghost example = { exact_example ⟦<Self as Exact>⟧.values ⟦<Self as Exact>⟧.exact refl };
+    ghost example = { exact_example ⟦<Self as Exact>⟧.values ⟦<Self as Notated>⟧.notation ⟦<Self as Serialize>⟧.meaning refl Prim.assumption };
 }
 
 /// Distinguishes an issuer or a subject from others with the same name (RFC 5280, 4.1.2.8).
@@ -751,7 +751,7 @@ impl Faithful for SubjectPublicKeyInfo {
 }
 
 impl Inhabited for SubjectPublicKeyInfo {
-    ghost example = { exact_example ⟦<Self as Exact>⟧.values ⟦<Self as Exact>⟧.exact refl };
+    ghost example = { exact_example ⟦<Self as Exact>⟧.values ⟦<Self as Notated>⟧.notation ⟦<Self as Serialize>⟧.meaning refl Prim.assumption };
 }
 
 /// An algorithm and its parameters (RFC 5280, 4.1.1.2). Absent parameters are different from NULL,
@@ -832,5 +832,5 @@ impl Faithful for AlgorithmIdentifier {
 }
 
 impl Inhabited for AlgorithmIdentifier {
-    ghost example = { exact_example ⟦<Self as Exact>⟧.values ⟦<Self as Exact>⟧.exact refl };
+    ghost example = { exact_example ⟦<Self as Exact>⟧.values ⟦<Self as Notated>⟧.notation ⟦<Self as Serialize>⟧.meaning refl Prim.assumption };
 }

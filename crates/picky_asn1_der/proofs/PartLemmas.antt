@@ -97,15 +97,20 @@ first_of : (n : ℕ) (bytes member : List ℕ) → 0 < n → (before : List (Lis
 first_of n bytes member some [] has e = absurd (omega (arith, has.count, ap length e))
 first_of n bytes member some (b ∷ before) has e =
     let all : AllByRecursion IsElement (b ∷ before) = subst (AllByRecursion IsElement) (sym e) has.elements in
-    let is : bytes ≡ concat (b ∷ before) ++ (member ++ concat has.after) = has.is ∙ ap (λ ms. concat ms ++ (member ++ concat has.after)) (sym e) in
-    (b, concat before ++ (member ++ concat has.after), all.0, is ∙ append_assoc b (concat before) (member ++ concat has.after), record {
-      before = before;
-      after = has.after;
-      elements = all.1;
-      element = has.element;
-      count = omega (arith, has.count, ap length e);
-      is = refl;
-    })
+    let is : bytes ≡ concat (b ∷ before) ++ (member ++ concat has.after) = has.is ∙ ap (λ ms. concat ms ++ (member ++ concat has.after)) (sym e) in (
+      b,
+      concat before ++ (member ++ concat has.after),
+      all.0,
+      is ∙ append_assoc b (concat before) (member ++ concat has.after),
+      record {
+        before = before;
+        after = has.after;
+        elements = all.1;
+        element = has.element;
+        count = omega (arith, has.count, ap length e);
+        is = refl;
+      },
+    )
 
 pub first_member : (n : ℕ) (bytes member : List ℕ) → 0 < n → HasMember n bytes member → FirstOf n bytes member
 first_member n bytes member some has = first_of n bytes member some has.before has refl
@@ -233,25 +238,30 @@ tree_found : (n : ℕ) (ts : Trees) (u : Tree) → AreReadable ts → tree_at n 
 tree_found n Trees.none u r e = cc
 tree_found zero (Trees.more t ts) u r e =
     let same : t ≡ u = cc in
-    subst (λ v. HasMember zero (concat (encodings (Trees.more t ts))) (der v) × IsReadable v) same (record {
-      before = [];
-      after = encodings ts;
-      elements = tt;
-      element = der-element t r.0;
-      count = refl;
-      is = ap concat (encodings_more t ts);
-    }, r.0)
+    subst (λ v. HasMember zero (concat (encodings (Trees.more t ts))) (der v) × IsReadable v) same (
+      record {
+        before = [];
+        after = encodings ts;
+        elements = tt;
+        element = der-element t r.0;
+        count = refl;
+        is = ap concat (encodings_more t ts);
+      },
+      r.0,
+    )
 tree_found (suc n) (Trees.more t ts) u r e =
     let later = tree_found n ts u r.1 e in
-    let has = later.0 in
-    (record {
-      before = der t ∷ has.before;
-      after = has.after;
-      elements = (der-element t r.0, has.elements);
-      element = has.element;
-      count = ap suc has.count;
-      is = ap concat (encodings_more t ts) ∙ ap (λ b. der t ++ b) has.is ∙ sym (append_assoc (der t) (concat has.before) (der u ++ concat has.after));
-    }, later.1)
+    let has = later.0 in (
+      record {
+        before = der t ∷ has.before;
+        after = has.after;
+        elements = (der-element t r.0, has.elements);
+        element = has.element;
+        count = ap suc has.count;
+        is = ap concat (encodings_more t ts) ∙ ap (λ b. der t ++ b) has.is ∙ sym (append_assoc (der t) (concat has.before) (der u ++ concat has.after));
+      },
+      later.1,
+    )
 
 -- ---- parts at a path
 
@@ -278,7 +288,7 @@ module _ (encoding path : List ℕ) (i start : ℕ) (part : List ℕ) (d : Desce
     next_part t u r is e =
         let now = d.found t u r is e in
         let v = now.0 in
-        let goes : option_and_then (part_at (drop (i + 1) path)) (option_and_then (tree_at index) (members_of v)) ≡ Some u = ap (λ p. part_at p v) (sym here) ∙ now.3 in
+        let goes : option_and_then (part_at (drop (i + 1) path)) (option_and_then (tree_at index) (members_of v)) ≡ Some u = subst (λ p. part_at p v ≡ Some u) here now.3 in
         let to = and_then_some (option_and_then (tree_at index) (members_of v)) (part_at (drop (i + 1) path)) u goes in
         let from = and_then_some (members_of v) (tree_at index) to.0 to.1 in
         let held = members_held v now.1 from.0 from.1 in
@@ -320,7 +330,7 @@ module _ (encoding path : List ℕ) (i start : ℕ) (part : List ℕ) (d : Desce
   arrives ended t u r is e =
       let now = d.found t u r is e in
       let nothing : drop i path ≡ [] = drop_all i path ended in
-      let last : Some now.0 ≡ Some u = ap (λ p. part_at p now.0) (sym nothing) ∙ now.3 in
+      let last : Some now.0 ≡ Some u = subst (λ p. part_at p now.0 ≡ Some u) nothing now.3 in
       let same : now.0 ≡ u = cc in
       piece_is ∙ now.2 ∙ ap der same
 

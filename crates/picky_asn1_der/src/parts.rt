@@ -21,12 +21,15 @@ pub struct Signed<T> {
     pub part: Range<usize>,
 }
 
-/// Reads a signed message, as `from_der` does, and returns where its signed part is: its first member, as in a certificate, a
-/// certificate list, a request and a response of OCSP.
+/// Reads a signed message, as `from_der` does, and returns where its signed part is: its first member, as in a
+/// certificate, a certificate list, a request and a response of OCSP.
 ///
-/// The bytes there are the encoding of that member. A signature is verified over them, so the member needn't be written again. The errors
-/// are those of `from_der`.
-pub fn from_der_signed<T: Deserialize>(alloc: Global, bytes: &[u8]) -> Result<Signed<T>, DecodeError>
+/// The bytes there are the encoding of that member. A signature is verified over them, so the member needn't be written
+/// again. The errors are those of `from_der`.
+pub fn from_der_signed<T: Deserialize>(
+    alloc: Global,
+    bytes: &[u8],
+) -> Result<Signed<T>, DecodeError>
     requires { has_first_member T.shape ≡ true }
     ensures value { IfOk result (λ it. IsWhole T.meaning T.shape T.eq bytes.now it.value) }
     ensures part { IfOk result (λ it. slice_range bytes.now it.part.start it.part.end
@@ -43,11 +46,12 @@ pub fn from_der_signed<T: Deserialize>(alloc: Global, bytes: &[u8]) -> Result<Si
     }
 }
 
-/// Returns where a part of an encoding is. A path leads to it: from each element to the member with the next index, of those members
-/// that are there. The member of a tag or an octet string is what it holds.
+/// Returns where a part of an encoding is. A path leads to it: from each element to the member with the next index, of
+/// those members that are there. The member of a tag or an octet string is what it holds.
 ///
-/// Of the encoding of a certificate `&[0]` is the path of `tbsCertificate`. In a `SignedData` of CMS, `&[n, k, 3]` is that of the signed
-/// attributes of a signer whose identifier, version and digest algorithm are before them, where `n` is the index of `signerInfos`.
+/// Of the encoding of a certificate `&[0]` is the path of `tbsCertificate`. In a `SignedData` of CMS, `&[n, k, 3]` is
+/// that of the signed attributes of a signer whose identifier, version and digest algorithm are before them, where `n`
+/// is the index of `signerInfos`.
 ///
 /// `None` if no part is there. A bit string has no member, nor does an implicit tag around a value that isn't a list.
 pub fn part_range(encoding: &[u8], path: &[usize]) -> Option<Range<usize>>
@@ -69,8 +73,8 @@ pub fn part_range(encoding: &[u8], path: &[usize]) -> Option<Range<usize>>
     Some(start..start + part.len())
 }
 
-/// Under an implicit tag a list is written as it is by itself, but for the first byte. So the signed attributes of CMS are hashed as the byte
-/// 31 and all bytes of their element but the first (RFC 5652, 5.4).
+/// Under an implicit tag a list is written as it is by itself, but for the first byte. So the signed attributes of CMS
+/// are hashed as the byte 31 and all bytes of their element but the first (RFC 5652, 5.4).
 #[tactic(auto, using(crate::proofs::PartLemmas::without_tag))]
 pub fn without_tag()
     ensures { WithoutTag }

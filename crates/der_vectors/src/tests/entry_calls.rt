@@ -1,7 +1,10 @@
 //! What the entry calls return one after another, and what they leave in a slice and in a reader or writer.
 
 use crate::tests::checks::bytes;
+use der_examples::{NumberOrFlag, Point};
 use der_fixtures::{SlowReader, SlowWriter};
+use der_types::ObjectIdentifier;
+use der_x509::AttributeTypeAndValue;
 use picky_asn1_der::Asn1DerError::{InvalidData, InvalidSink, TruncatedData};
 use picky_asn1_der::asn1::{ByteBuf, Bytes, PrintableStringAsn1};
 use picky_asn1_der::misc::{PeekableReader, ReadExt, Watched};
@@ -28,6 +31,28 @@ fn a_value_reads_back_or_does_not(rt: HostRuntime) {
     same!(rt; reads_back(rt.alloc(), &128u8), Ok(true));
     same!(rt; reads_back(rt.alloc(), &whole), Ok(true));
     same!(rt; reads_back(rt.alloc(), &cut), Ok(false));
+}
+
+// The common name of a subject, with this element as its value.
+fn common_name(rt: &(impl Abort + AllocGlobal), element: &str) -> AttributeTypeAndValue {
+    AttributeTypeAndValue {
+        type_: ObjectIdentifier::from_str(rt.alloc(), "2.5.4.3").expect(rt, "an object identifier"),
+        value: Asn1RawDer::from(bytes(rt, element)),
+    }
+}
+
+#[test]
+fn a_struct_or_a_choice_reads_back_or_does_not(rt: HostRuntime) {
+    let alloc = rt.alloc();
+    let point = Point {
+        x: 1,
+        y: 2,
+        hidden: true,
+    };
+    same!(rt; reads_back(alloc, &point), Ok(true));
+    same!(rt; reads_back(alloc, &NumberOrFlag::Number(5)), Ok(true));
+    same!(rt; reads_back(alloc, &common_name(&rt, "0C 01 41")), Ok(true));
+    same!(rt; reads_back(alloc, &common_name(&rt, "0C 02 41")), Ok(false));
 }
 
 #[test]
