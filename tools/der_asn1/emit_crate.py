@@ -93,7 +93,7 @@ class Crate:
     def context(self) -> Context:
         """What the files of types depend on."""
         fields = {part.name for it in self.types.values() if not isinstance(it, AliasDeclaration) for part in it.parts()}
-        return Context(self.name, self.homes(), PrivateNames([*self.homes(), *LIBRARY_NAMES, *fields]))
+        return Context(self.name, self.homes(), PrivateNames([*self.homes(), *LIBRARY_NAMES, *fields]), self.types)
 
     def homes(self) -> dict[str, str]:
         """The crate of each type, by its name, and of the defaults of enumerations: `crate` for this one."""

@@ -25,7 +25,7 @@ _TERMS = {
 # the file of the terms of all enumerations, and what it imports
 TERMS_FILE = "Enumerations"
 _PRELUDE_ORDER = ["ℕ", "Bool", "true", "false", "◌||◌", "◌==◌", "nat_lt", "List", "[]", "◌∷◌", "◌≡◌", "refl"]
-_PROOF_IMPORTS = """use Rattle.std.proofs.Common.{◌∙◌}
+_PROOF_IMPORTS = """use Rattle.std.proofs.Common.{ap, eqb-true, sym, ◌∙◌}
 use Rattle.std.proofs.lemmas.Bool.{eq-eqb}
 """.splitlines()
 _DEFAULT_IMPORTS = """use Rattle.picky_der_ser.specs.Defaults.{IsByTree}
@@ -71,6 +71,16 @@ def same_proof(declared: EnumDeclaration) -> str:
     return f"same_{snake(declared.name)}"
 
 
+def respects_proof(declared: EnumDeclaration) -> str:
+    """The name of the proof that equal values have one content."""
+    return f"{snake(declared.name)}_respects"
+
+
+def content_words(declared: EnumDeclaration) -> str:
+    """The tag and the term of the content of a value."""
+    return f"{tag_text(declared)} {content_term(declared)}"
+
+
 def default_term(name: str) -> str:
     """The name of the term that is the test of a default."""
     return f"is_default_{snake(name)}"
@@ -83,7 +93,7 @@ def default_proof(name: str) -> str:
 
 def enum_uses(declared: EnumDeclaration, crate: str, file: str = TERMS_FILE) -> Uses:
     """What the items of an enumeration name. `file` is the file of its terms."""
-    uses = Uses({*_NAMES}, terms={f"Rattle.{crate}.specs.{file}": own_terms(declared)})
+    uses = Uses({*_NAMES}, terms={f"Rattle.{crate}.specs.{file}": own_terms(declared) - {respects_proof(declared)}})
     uses.add(Uses(terms=_TERMS))
     uses.add(Uses(terms={_ENUMERATED: {_VALUES[declared.tag]}, _OWN_CONTENTS: {"own_contents"}}))
     if declared.defaults:
@@ -370,7 +380,7 @@ def terms_file(enumerations: list[EnumDeclaration], crate: str, stems: dict[str,
 
 def own_terms(declared: EnumDeclaration) -> set[str]:
     """The names of the terms of an enumeration that others may cite."""
-    names = {number_term(declared), test_term(declared), same_proof(declared)}
+    names = {number_term(declared), test_term(declared), same_proof(declared), respects_proof(declared)}
     return names | {term(it) for it in declared.defaults for term in (default_term, default_proof)}
 
 
@@ -395,8 +405,8 @@ def enum_terms(declared: EnumDeclaration, variants: str, compared: str) -> list[
 
 
 def same_terms(declared: EnumDeclaration, variants: str, compared: str) -> list[str]:
-    """The proof that values with one content are equal, by their numbers."""
-    name, number, same = declared.name, number_term(declared), same_proof(declared)
+    """The proofs that values are equal exactly if their contents are the same, by their numbers."""
+    name, number, same, respects = declared.name, number_term(declared), same_proof(declared), respects_proof(declared)
     equal = f"equal_{snake(name)}"
     rest = " | _ ↦ refl" if len(declared.items) > 1 else ""
     return [
@@ -407,6 +417,9 @@ def same_terms(declared: EnumDeclaration, variants: str, compared: str) -> list[
         "",
         f"pub {same} : (x y : {name}) → {number} x ∷ [] ≡ {number} y ∷ [] → {compared}.ghosts.eq x y ≡ true",
         f"{same} x y e = {equal} x y ∙ eq-eqb _ _ cc",
+        "",
+        f"pub {respects} : (x y : {name}) → {compared}.ghosts.eq x y ≡ true → {number} x ∷ [] ≡ {number} y ∷ []",
+        f"{respects} x y h = ap (λ n. n ∷ []) (eqb-true _ _ (sym ({equal} x y) ∙ h))",
     ]
 
 

@@ -19,6 +19,7 @@ _TERM_ORDER = [
     "Rattle.picky_der_de.specs.declared.choice4.Choice4.TheVariants",
     "Rattle.picky_der_de.specs.Facts",
     "Rattle.picky_der_de.specs.ChoiceFacts",
+    "Rattle.picky_der_de.specs.Faithful",
     "Rattle.picky_der_de.specs.MembersFacts",
     "Rattle.der_types.specs.ContentsFacts",
     "Rattle.der_types.specs.Notation",
@@ -28,6 +29,8 @@ _TERM_ORDER = [
     "Rattle.der_types.specs.ExactDefaults",
     "Rattle.der_types.specs.ExactEnumerated",
     "Rattle.der_types.specs.ExactMembers",
+    "Rattle.der_types.specs.Sameness",
+    "Rattle.der_types.specs.SampleTrees",
 ]
 # how wide a line of imports of terms is
 _TERMS_WIDTH = 140

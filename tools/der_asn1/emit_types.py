@@ -1,13 +1,26 @@
 """The files of a crate's types: which file each type is in, and the lines of a file."""
-from dataclasses import dataclass
+from dataclasses import dataclass, field
 
 from .declarations import AliasDeclaration, ChoiceDeclaration, Declaration, EnumDeclaration, NewtypeDeclaration, StructDeclaration
 from .emit_choice import choice_lines, choice_uses
 from .emit_comments import difference_note, sentence
-from .emit_enum import enum_lines, enum_uses
+from .emit_enum import content_words, enum_lines, enum_uses, respects_proof
+from .emit_faithful import (
+    faithful_content_impl,
+    faithful_content_uses,
+    faithful_default_impl,
+    faithful_default_uses,
+    faithful_impl,
+    faithful_part_impl,
+    faithful_part_uses,
+    faithful_uses,
+    inhabited_impl,
+    inhabited_uses,
+)
 from .emit_imports import Uses
 from .emit_newtype import newtype_lines, newtype_uses
 from .emit_struct import struct_lines, struct_uses
+from .examples import has_example
 from .layout import assigned, comment
 from .private_names import PrivateNames
 from .wording import snake
@@ -18,11 +31,12 @@ ONLY = "types"
 
 @dataclass(frozen=True)
 class Context:
-    """What the lines of a file depend on: the crate, the crates of types that are named, and the names of what is private."""
+    """What the lines of a file depend on: the crate, the crates of types that are named, the names of what is private, and the crate's types."""
 
     crate: str
     homes: dict[str, str]
     names: PrivateNames
+    types: dict[str, Declaration] = field(default_factory=dict)
 
 
 def stems_of(types: list[Declaration], groups: dict[str, list[str]], taken: frozenset[str]) -> dict[str, str]:
@@ -48,6 +62,9 @@ def types_file(types: list[Declaration], stem: str, context: Context) -> list[st
     for it in types:
         uses.add(uses_of(it, context))
         body += ["", *lines_of(it, stem, context)]
+        for more, lines in promises(it, stem, context):
+            uses.add(more)
+            body += ["", *lines]
     own = {it.name for it in types} | {name for it in types for name in getattr(it, "defaults", [])}
     terms, rust = uses.term_lines(), uses.rust_lines(context.homes, own)
     modules = list(dict.fromkeys(it.module for it in types))
@@ -70,7 +87,7 @@ def uses_of(declared: Declaration, context: Context) -> Uses:
 
 def lines_of(declared: Declaration, stem: str, context: Context) -> list[str]:
     """The items of a type."""
-    home = f"Rattle.{context.crate}.specs.declared.{stem}"
+    home = home_of_terms(stem, context)
     if isinstance(declared, NewtypeDeclaration):
         return newtype_lines(declared)
     if isinstance(declared, StructDeclaration):
@@ -80,6 +97,28 @@ def lines_of(declared: Declaration, stem: str, context: Context) -> list[str]:
     if isinstance(declared, EnumDeclaration):
         return enum_lines(declared, home)
     return alias_lines(declared)
+
+
+def promises(declared: Declaration, stem: str, context: Context) -> list[tuple[Uses, list[str]]]:
+    """What says that a type's `==` is sameness of encodings, and that a value of it is readable. A name of another type has what that has."""
+    if isinstance(declared, AliasDeclaration) and not isinstance(declared, NewtypeDeclaration):
+        return []
+    found = []
+    if isinstance(declared, (StructDeclaration, ChoiceDeclaration)):
+        parts = context.names.of(declared, "Parts")
+        found.append((faithful_uses(declared), faithful_impl(declared, parts, home_of_terms(stem, context))))
+    elif isinstance(declared, EnumDeclaration):
+        respects = respects_proof(declared)
+        found.append((faithful_content_uses(context.crate, respects), faithful_content_impl(declared.name, content_words(declared), respects)))
+        found += [(faithful_default_uses(), faithful_default_impl(it, declared.name)) for it in declared.defaults]
+    else:
+        found.append((faithful_part_uses(), faithful_part_impl(declared.name, str(declared.type))))
+    return [*found, *([(inhabited_uses(), inhabited_impl(declared.name))] if has_example(declared, context.types) else [])]
+
+
+def home_of_terms(stem: str, context: Context) -> str:
+    """The module of terms of the types of a file."""
+    return f"Rattle.{context.crate}.specs.declared.{stem}"
 
 
 def alias_lines(declared: AliasDeclaration) -> list[str]:

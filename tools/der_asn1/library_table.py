@@ -73,7 +73,7 @@ _NAMES = {
     "picky_asn1_der::application_tag": "ApplicationTag",
     _ASN1: """Asn1SequenceOf Asn1SetOf BitStringAsn1Container ExplicitContextTag ImplicitContextTag OctetStringAsn1Container ImplicitList
         TaggedBytes Tag""",
-    "picky_asn1_der::de": "Begins deserialize_choice_as",
+    "picky_asn1_der::de": "Begins Faithful FaithfulAlternatives FaithfulDefault FaithfulMembers Inhabited deserialize_choice_as",
     "picky_asn1_der::misc": "ReadExt WriteExt",
     "picky_asn1_der::ser": "DefaultOf Defaulted DefaultedRef False Number Optional OptionalRef Sequence SignedNumber True",
     _ROOT: """Via Alternatives Asn1RawDer Choice Deserialize DeserializeMembers Deserializer LaterMembers List NoneOf OneOf Choice4 Result

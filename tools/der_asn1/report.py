@@ -5,6 +5,7 @@ from typing import Iterable, Union
 
 from . import tree
 from .causes import counted, counts
+from .examples import of_type
 from .features import OUTSIDE, Feature, Level, Note
 from .meaning import Meaning, lacks
 from .meaning_types import Meanings
@@ -16,11 +17,12 @@ from .source import Problems, Severity
 
 @dataclass
 class Row:
-    """A type of a module with its meaning."""
+    """A type of a module with its meaning. `has_example` says that a readable value of it is found when a program is checked."""
 
     module: tree.Module
     name: str
     meaning: Meaning
+    has_example: bool = False
 
     @property
     def level(self) -> Level:
@@ -75,7 +77,9 @@ def _add(report: Report, meanings: Meanings, module: tree.Module, assignment: tr
         if assignment.parameters:
             report.templates += 1
         elif not _names_a_class(meanings, assignment, module):
-            report.rows.append(Row(module, assignment.name, meanings.of_assignment(assignment, module)))
+            meaning = meanings.of_assignment(assignment, module)
+            found = bool(meaning.rust) and of_type(meaning.rust.type, meanings.declarations.by_name)
+            report.rows.append(Row(module, assignment.name, meaning, found))
 
 
 def _names_a_class(meanings: Meanings, assignment: tree.TypeAssignment, module: tree.Module) -> bool:
@@ -144,11 +148,18 @@ def share(count: int, total: int) -> str:
 
 
 def without_exact(report: Report) -> list[str]:
-    """The types that can't have `Exact` of der_types, each with the reason: there is no type. Each one that is written has it."""
+    """The types that can't have `Exact` of der_types, each with the reason: there is no type. Each one that is written has it, and `Faithful`."""
     missing = [it for it in report.rows if it.meaning.rust is None]
     reasons = [", ".join(sorted(feature.text for feature in it.meaning.features)) for it in missing]
-    counted = f"{share(len(report.rows) - len(missing), len(report.rows))} with `Exact`"
+    counted = f"{share(len(report.rows) - len(missing), len(report.rows))} with `Exact` and `Faithful`"
     return [counted, *(f"    {it.module.name}.{it.name} has none: {reason}" for it, reason in zip(missing, reasons))]
+
+
+def without_inhabited(report: Report) -> list[str]:
+    """The types that can't have `Inhabited`: those without a type, and those of which no readable value is found."""
+    missing = [it for it in report.rows if it.meaning.rust and not it.has_example]
+    counted = f"{share(sum(it.has_example for it in report.rows), len(report.rows))} with `Inhabited`"
+    return [counted, *(f"    {it.module.name}.{it.name} has none: no readable value is found" for it in missing)]
 
 
 def features_table(report: Report) -> list[str]:
@@ -197,6 +208,7 @@ def whole(report: Report) -> list[str]:
         *summary(report),
         "",
         *without_exact(report),
+        *without_inhabited(report),
         "",
         *features_table(report),
         "",

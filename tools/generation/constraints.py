@@ -13,12 +13,13 @@ ghost use Rattle.picky_der_de.specs.Facts.{part_facts};
 ghost use Rattle.der_types.specs.Constraints.{$test_name, RefusesConstrained};
 ghost use Rattle.der_types.specs.ExactConstraints.{$exact_values};
 ghost use Rattle.der_types.specs.Notation.{Notation};
+ghost use Rattle.der_types.specs.Sameness.{newtype_sameness};
 
 use crate::{Constrained, Exact, $uses, deserialize_constrained_as};
 use picky_der_core::Result;
 use picky_der_core::asn1::Tag;
 use picky_der_core::misc::{ReadExt, WriteExt};
-use picky_der_de::{Begins, Deserialize, Deserializer};
+use picky_der_de::{Begins, Deserialize, Deserializer, Faithful};
 use picky_der_ser::{$list_use Serialize, Serializer};
 
 $doc
@@ -128,6 +129,12 @@ impl<T: $exact, $parameters> Exact for $type {
     ghost values = { $exact_values T.values T.notation T.meaning (λ it. it.value) $names T.$stated T.$measure (λ it. it.allowed) (λ x e. (record { value = x; allowed = e }, refl)) };
 
     ghost exact = { Prim.assumption };
+}
+
+impl<T: Faithful + $of, $parameters> Faithful for $type {
+    ghost sameness = { newtype_sameness T.sameness T.eq T.meaning (λ it. it.value) };
+
+    ghost respects = { Prim.assumption };
 }
 """
 

@@ -239,10 +239,21 @@ impl ExactContents for $name {
 
     ghost exact_contents = { Prim.assumption };
 }
+
+impl Faithful for $name {
+    ghost sameness = { content_sameness $tag (λ it. $content) ⟦<Self as PartialEq>⟧.eq ($respects) };
+
+    ghost respects = { Prim.assumption };
+}
+
+impl Inhabited for $name {
+    ghost example = { exact_example ⟦<Self as Exact>⟧.values ⟦<Self as Exact>⟧.exact refl };
+}
 """
 
 # an equality of the content, which is derived, and one that is proved
 DERIVED_SAME = "λ x y e. (bytes_decides $x $y).1 e"
+DERIVED_RESPECTS = "λ x y. same_list $x $y"
 DERIVED_FACTS = "bytes_facts $tag (λ it. $content)"
 PROVED_FACTS = "contents_facts $tag (λ it. $content) ⟦<Self as PartialEq>⟧.eq ⟦<Self as Contents>⟧.same"
 
@@ -265,6 +276,7 @@ def words_of(row: Content) -> dict[str, str]:
         words["it_shown"] = f"({words['it_shown']})"
     words |= {"valid": form.valid, "whole": form.whole}
     words["same"] = row.equality.proof if row.equality else filled(DERIVED_SAME, **words)
+    words["respects"] = row.equality.respects if row.equality else filled(DERIVED_RESPECTS, **words)
     words["facts"] = filled(PROVED_FACTS if row.equality else DERIVED_FACTS, **words)
     words["functions"] = filled(form.functions, **words)
     words["copy"] = filled(form.copy, **words)
@@ -274,7 +286,8 @@ def words_of(row: Content) -> dict[str, str]:
 def ghost_uses(row: Content) -> Lines:
     """The imports of its contracts."""
     form = FORMS[row.form]
-    equality = [f"Rattle.{row.equality.specs}.{{{row.equality.name}}}"] if row.equality else ["Rattle.std.specs.Cmp.Lexicographic.{bytes_decides}"]
+    cited = row.equality.cites if row.equality else ["std.specs.Cmp.Lexicographic.bytes_decides", "picky_der_de.specs.Faithful.same_list"]
+    equality = [f"Rattle.{home}.{{{name}}}" for home, _, name in (it.rpartition(".") for it in cited)]
     facts = "ContentsFacts.{contents_of, contents_shape, contents_facts}" if row.equality else "ContentsFacts.{contents_of, contents_shape}"
     return [
         "ghost use Rattle.std.proofs.Common.{lit≤};",
@@ -287,6 +300,8 @@ def ghost_uses(row: Content) -> Lines:
         "ghost use Rattle.der_types.specs.Exact.{content_exact, plain_values};",
         "ghost use Rattle.der_types.specs.ExactContents.{own_contents};",
         f"ghost use Rattle.der_types.specs.{facts};",
+        "ghost use Rattle.der_types.specs.Sameness.{content_sameness};",
+        "ghost use Rattle.der_types.specs.SampleTrees.{exact_example};",
         *(f"ghost use {it};" for it in form.ghost_uses),
     ]
 
@@ -300,7 +315,7 @@ def uses(row: Content) -> Lines:
         "picky_der_core::{Asn1DerError, Result}" if form.copy else "picky_der_core::Result",
         "picky_der_core::asn1::Tag",
         "picky_der_core::misc::{ReadExt, WriteExt}",
-        "picky_der_de::{Begins, Deserialize, Deserializer}",
+        "picky_der_de::{Begins, Deserialize, Deserializer, Faithful, Inhabited}",
         "picky_der_ser::{Serialize, Serializer}",
         *form.uses,
         *([row.code] if row.code else []),

@@ -15,11 +15,19 @@ def snake(name: str) -> str:
 
 @dataclass(frozen=True)
 class Named:
-    """A name of a file of specs, and the proof that is made of it."""
+    """A name of a file of specs."""
 
     name: str
     specs: str
-    proof: str = ""
+
+
+@dataclass(frozen=True)
+class Equality:
+    """Why values are equal exactly if their contents are, and the lemmas in that."""
+
+    proof: str
+    respects: str
+    cites: list[str]
 
 
 @dataclass(frozen=True)
@@ -40,7 +48,7 @@ class Content:
     named: bool = False
     sized: bool = True
     size: Named | None = None
-    equality: Named | None = None
+    equality: Equality | None = None
 
     @property
     def module(self) -> str:
@@ -125,8 +133,8 @@ def load(kind: str) -> list[dict[str, Any]]:
 
 def contents() -> list[Content]:
     """The types whose content passes a test."""
-    named = ("size", "equality")
-    return [Content(**{key: Named(**it) if key in named else it for key, it in row.items()}) for row in load("content")]
+    records = {"size": Named, "equality": Equality}
+    return [Content(**{key: records[key](**it) if key in records else it for key, it in row.items()}) for row in load("content")]
 
 
 def profiles() -> list[Profile]:

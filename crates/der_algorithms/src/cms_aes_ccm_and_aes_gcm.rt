@@ -2,15 +2,17 @@
 //!
 //! Types of CMS-AES-CCM-and-AES-GCM.
 ghost use Rattle.std.specs.Prelude.{refl};
+ghost use Rattle.picky_der_de.specs.Faithful.{struct_sameness};
 ghost use Rattle.picky_der_de.specs.MembersFacts.{sequence_of, sequence_shape, struct_facts};
 ghost use Rattle.der_types.specs.Notation.{Notation};
 ghost use Rattle.der_types.specs.ExactMembers.{struct_values};
+ghost use Rattle.der_types.specs.SampleTrees.{exact_example};
 
 use der_types::{
     Exact, ExactMembers, InRange, Integer, Notated, NotatedMembers, OtherThan, WithSize,
 };
 use picky_asn1_der::asn1::{ByteBuf, Tag};
-use picky_asn1_der::de::Begins;
+use picky_asn1_der::de::{Begins, Faithful, FaithfulMembers, Inhabited};
 use picky_asn1_der::misc::{ReadExt, WriteExt};
 use picky_asn1_der::ser::{Optional, OptionalRef};
 use picky_asn1_der::{
@@ -87,6 +89,16 @@ impl Exact for GcmParameters {
     ghost exact = { Prim.assumption };
 }
 
+impl Faithful for GcmParameters {
+    ghost sameness = { struct_sameness ⟦<GcmParametersParts as FaithfulMembers>⟧.sameness ⟦<Self as Struct>⟧.parts };
+
+    ghost respects = { Prim.assumption };
+}
+
+impl Inhabited for GcmParameters {
+    ghost example = { exact_example ⟦<Self as Exact>⟧.values ⟦<Self as Exact>⟧.exact refl };
+}
+
 /// `AES-GCM-ICVlen` of CMS-AES-CCM-and-AES-GCM: `INTEGER (12 | 13 | 14 | 15 | 16)`.
 pub type AesGcmIcVlen = InRange<u8, 12, 16>;
 
@@ -160,6 +172,16 @@ impl Exact for CcmParameters {
         (λ m. (record { aes_nonce = m.0; aes_ic_vlen = m.1.0 }, refl {a = m})) };
 
     ghost exact = { Prim.assumption };
+}
+
+impl Faithful for CcmParameters {
+    ghost sameness = { struct_sameness ⟦<CcmParametersParts as FaithfulMembers>⟧.sameness ⟦<Self as Struct>⟧.parts };
+
+    ghost respects = { Prim.assumption };
+}
+
+impl Inhabited for CcmParameters {
+    ghost example = { exact_example ⟦<Self as Exact>⟧.values ⟦<Self as Exact>⟧.exact refl };
 }
 
 /// `AES-CCM-ICVlen` of CMS-AES-CCM-and-AES-GCM: `INTEGER (4 | 6 | 8 | 10 | 12 | 14 | 16)`.

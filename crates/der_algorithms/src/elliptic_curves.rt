@@ -5,10 +5,12 @@ ghost use Rattle.std.specs.Prelude.{refl};
 ghost use Rattle.picky_der_core.specs.Shape.{Shape};
 ghost use Rattle.picky_der_de.specs.declared.alternatives.OneOf.TheVariants.{Other, This};
 ghost use Rattle.picky_der_de.specs.ChoiceFacts.{choice_facts};
+ghost use Rattle.picky_der_de.specs.Faithful.{choice_sameness, struct_sameness};
 ghost use Rattle.picky_der_de.specs.MembersFacts.{sequence_of, sequence_shape, struct_facts};
 ghost use Rattle.der_types.specs.Notation.{Notation};
 ghost use Rattle.der_types.specs.ExactChoices.{choice_values};
 ghost use Rattle.der_types.specs.ExactMembers.{struct_values};
+ghost use Rattle.der_types.specs.SampleTrees.{exact_example};
 
 use crate::FieldId;
 use der_types::{
@@ -17,7 +19,9 @@ use der_types::{
 };
 use picky_asn1_der::OneOf::{Other, This};
 use picky_asn1_der::asn1::{ByteBuf, Tag};
-use picky_asn1_der::de::{Begins, deserialize_choice_as};
+use picky_asn1_der::de::{
+    Begins, Faithful, FaithfulAlternatives, FaithfulMembers, Inhabited, deserialize_choice_as,
+};
 use picky_asn1_der::misc::{ReadExt, WriteExt};
 use picky_asn1_der::ser::{Optional, OptionalRef};
 use picky_asn1_der::{
@@ -115,6 +119,19 @@ impl Exact for EcpkParameters {
         ]) };
 
     ghost exact = { Prim.assumption };
+}
+
+impl Faithful for EcpkParameters {
+    ghost use Rattle.der_algorithms.specs.declared.elliptic_curves.EcpkParameters.TheVariants as variants;
+
+    ghost sameness = { choice_sameness ⟦<EcpkParametersParts as FaithfulAlternatives>⟧.sameness ⟦<Self as Choice>⟧.parts ⟦<Self as PartialEq>⟧.eq
+        (elim [ variants.EcParameters _ ↦ elim [ variants.EcParameters _ ↦ λ h. h | _ ↦ λ h. h ] | _ ↦ elim [ variants.EcParameters _ ↦ λ h. h | _ ↦ λ h. h ] ]) };
+
+    ghost respects = { Prim.assumption };
+}
+
+impl Inhabited for EcpkParameters {
+    ghost example = { exact_example ⟦<Self as Exact>⟧.values ⟦<Self as Exact>⟧.exact refl };
 }
 
 /// `ECParameters` of PKIX1Algorithms88, as a SEQUENCE.
@@ -225,6 +242,16 @@ impl Exact for EcParameters {
     ghost exact = { Prim.assumption };
 }
 
+impl Faithful for EcParameters {
+    ghost sameness = { struct_sameness ⟦<EcParametersParts as FaithfulMembers>⟧.sameness ⟦<Self as Struct>⟧.parts };
+
+    ghost respects = { Prim.assumption };
+}
+
+impl Inhabited for EcParameters {
+    ghost example = { exact_example ⟦<Self as Exact>⟧.values ⟦<Self as Exact>⟧.exact refl };
+}
+
 /// `ECPVer` of PKIX1Algorithms88: `INTEGER { ecpVer1 (1) }`.
 pub type EcpVer = Integer;
 
@@ -294,6 +321,16 @@ impl Exact for Curve {
         (λ m. (record { a = m.0; b = m.1; seed = m.2.0 }, refl {a = m})) };
 
     ghost exact = { Prim.assumption };
+}
+
+impl Faithful for Curve {
+    ghost sameness = { struct_sameness ⟦<CurveParts as FaithfulMembers>⟧.sameness ⟦<Self as Struct>⟧.parts };
+
+    ghost respects = { Prim.assumption };
+}
+
+impl Inhabited for Curve {
+    ghost example = { exact_example ⟦<Self as Exact>⟧.values ⟦<Self as Exact>⟧.exact refl };
 }
 
 /// `FieldElement` of PKIX1Algorithms88: `OCTET STRING`.

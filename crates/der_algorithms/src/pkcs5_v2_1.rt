@@ -5,10 +5,12 @@ ghost use Rattle.std.specs.Prelude.{refl};
 ghost use Rattle.picky_der_core.specs.Shape.{Shape};
 ghost use Rattle.picky_der_de.specs.declared.alternatives.OneOf.TheVariants.{Other, This};
 ghost use Rattle.picky_der_de.specs.ChoiceFacts.{choice_facts};
+ghost use Rattle.picky_der_de.specs.Faithful.{choice_sameness, struct_sameness};
 ghost use Rattle.picky_der_de.specs.MembersFacts.{sequence_of, sequence_shape, struct_facts};
 ghost use Rattle.der_types.specs.Notation.{Notation};
 ghost use Rattle.der_types.specs.ExactChoices.{choice_values};
 ghost use Rattle.der_types.specs.ExactMembers.{struct_values};
+ghost use Rattle.der_types.specs.SampleTrees.{exact_example};
 
 use der_types::{
     Exact, ExactAlternatives, ExactMembers, Integer, Notated, NotatedAlternatives, NotatedMembers,
@@ -17,7 +19,9 @@ use der_types::{
 use der_x509::AlgorithmIdentifier;
 use picky_asn1_der::OneOf::{Other, This};
 use picky_asn1_der::asn1::{ByteBuf, Tag};
-use picky_asn1_der::de::{Begins, deserialize_choice_as};
+use picky_asn1_der::de::{
+    Begins, Faithful, FaithfulAlternatives, FaithfulMembers, Inhabited, deserialize_choice_as,
+};
 use picky_asn1_der::misc::{ReadExt, WriteExt};
 use picky_asn1_der::ser::{Optional, OptionalRef};
 use picky_asn1_der::{
@@ -117,6 +121,16 @@ impl Exact for Pbkdf2Params {
     ghost exact = { Prim.assumption };
 }
 
+impl Faithful for Pbkdf2Params {
+    ghost sameness = { struct_sameness ⟦<Pbkdf2ParamsParts as FaithfulMembers>⟧.sameness ⟦<Self as Struct>⟧.parts };
+
+    ghost respects = { Prim.assumption };
+}
+
+impl Inhabited for Pbkdf2Params {
+    ghost example = { exact_example ⟦<Self as Exact>⟧.values ⟦<Self as Exact>⟧.exact refl };
+}
+
 /// RFC 8018 gives this type no name. The other source is the members of an AlgorithmIdentifier:
 /// there is no such algorithm yet. `PBKDF2-Salt` of PKCS5v2-1, as a CHOICE.
 #[derive(Debug, Drop, PartialEq, Eq)]
@@ -196,6 +210,19 @@ impl Exact for Pbkdf2Salt {
     ghost exact = { Prim.assumption };
 }
 
+impl Faithful for Pbkdf2Salt {
+    ghost use Rattle.der_algorithms.specs.declared.pkcs5_v2_1.Pbkdf2Salt.TheVariants as variants;
+
+    ghost sameness = { choice_sameness ⟦<Pbkdf2SaltParts as FaithfulAlternatives>⟧.sameness ⟦<Self as Choice>⟧.parts ⟦<Self as PartialEq>⟧.eq
+        (elim [ variants.Specified _ ↦ elim [ variants.Specified _ ↦ λ h. h | _ ↦ λ h. h ] | _ ↦ elim [ variants.Specified _ ↦ λ h. h | _ ↦ λ h. h ] ]) };
+
+    ghost respects = { Prim.assumption };
+}
+
+impl Inhabited for Pbkdf2Salt {
+    ghost example = { exact_example ⟦<Self as Exact>⟧.values ⟦<Self as Exact>⟧.exact refl };
+}
+
 /// The parameters of PBES1. `PBEParameter` of PKCS5v2-1, as a SEQUENCE.
 #[derive(Debug, Drop, PartialEq, Eq)]
 pub struct PbeParameter {
@@ -263,6 +290,16 @@ impl Exact for PbeParameter {
         (λ m. (record { salt = m.0; iteration_count = m.1 }, refl {a = m})) };
 
     ghost exact = { Prim.assumption };
+}
+
+impl Faithful for PbeParameter {
+    ghost sameness = { struct_sameness ⟦<PbeParameterParts as FaithfulMembers>⟧.sameness ⟦<Self as Struct>⟧.parts };
+
+    ghost respects = { Prim.assumption };
+}
+
+impl Inhabited for PbeParameter {
+    ghost example = { exact_example ⟦<Self as Exact>⟧.values ⟦<Self as Exact>⟧.exact refl };
 }
 
 /// `PBES2-params` of PKCS5v2-1, as a SEQUENCE.
@@ -334,6 +371,16 @@ impl Exact for Pbes2Params {
     ghost exact = { Prim.assumption };
 }
 
+impl Faithful for Pbes2Params {
+    ghost sameness = { struct_sameness ⟦<Pbes2ParamsParts as FaithfulMembers>⟧.sameness ⟦<Self as Struct>⟧.parts };
+
+    ghost respects = { Prim.assumption };
+}
+
+impl Inhabited for Pbes2Params {
+    ghost example = { exact_example ⟦<Self as Exact>⟧.values ⟦<Self as Exact>⟧.exact refl };
+}
+
 /// `PBMAC1-params` of PKCS5v2-1, as a SEQUENCE.
 #[derive(Debug, Drop, PartialEq, Eq)]
 pub struct Pbmac1Params {
@@ -401,6 +448,16 @@ impl Exact for Pbmac1Params {
         (λ m. (record { key_derivation_func = m.0; message_auth_scheme = m.1 }, refl {a = m})) };
 
     ghost exact = { Prim.assumption };
+}
+
+impl Faithful for Pbmac1Params {
+    ghost sameness = { struct_sameness ⟦<Pbmac1ParamsParts as FaithfulMembers>⟧.sameness ⟦<Self as Struct>⟧.parts };
+
+    ghost respects = { Prim.assumption };
+}
+
+impl Inhabited for Pbmac1Params {
+    ghost example = { exact_example ⟦<Self as Exact>⟧.values ⟦<Self as Exact>⟧.exact refl };
 }
 
 /// The parameters of AES, whose block is the initialization vector. RFC 8018 gives this type no
@@ -474,4 +531,14 @@ impl Exact for Rc2CbcParameter {
         (λ m. (record { rc2_parameter_version = m.0.0; iv = m.1 }, refl {a = m})) };
 
     ghost exact = { Prim.assumption };
+}
+
+impl Faithful for Rc2CbcParameter {
+    ghost sameness = { struct_sameness ⟦<Rc2CbcParameterParts as FaithfulMembers>⟧.sameness ⟦<Self as Struct>⟧.parts };
+
+    ghost respects = { Prim.assumption };
+}
+
+impl Inhabited for Rc2CbcParameter {
+    ghost example = { exact_example ⟦<Self as Exact>⟧.values ⟦<Self as Exact>⟧.exact refl };
 }

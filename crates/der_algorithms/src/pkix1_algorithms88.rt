@@ -2,15 +2,17 @@
 //!
 //! Types of PKIX1Algorithms88.
 ghost use Rattle.std.specs.Prelude.{refl};
+ghost use Rattle.picky_der_de.specs.Faithful.{struct_sameness};
 ghost use Rattle.picky_der_de.specs.MembersFacts.{sequence_of, sequence_shape, struct_facts};
 ghost use Rattle.der_types.specs.Notation.{Notation};
 ghost use Rattle.der_types.specs.ExactMembers.{struct_values};
+ghost use Rattle.der_types.specs.SampleTrees.{exact_example};
 
 use der_types::{
     BitString, Exact, ExactMembers, Integer, Notated, NotatedMembers, ObjectIdentifier,
 };
 use picky_asn1_der::asn1::Tag;
-use picky_asn1_der::de::Begins;
+use picky_asn1_der::de::{Begins, Faithful, FaithfulMembers, Inhabited};
 use picky_asn1_der::misc::{ReadExt, WriteExt};
 use picky_asn1_der::ser::{Optional, OptionalRef};
 use picky_asn1_der::{
@@ -89,6 +91,16 @@ impl Exact for DssParms {
     ghost exact = { Prim.assumption };
 }
 
+impl Faithful for DssParms {
+    ghost sameness = { struct_sameness ⟦<DssParmsParts as FaithfulMembers>⟧.sameness ⟦<Self as Struct>⟧.parts };
+
+    ghost respects = { Prim.assumption };
+}
+
+impl Inhabited for DssParms {
+    ghost example = { exact_example ⟦<Self as Exact>⟧.values ⟦<Self as Exact>⟧.exact refl };
+}
+
 /// `Dss-Sig-Value` of PKIX1Algorithms88, as a SEQUENCE.
 #[derive(Debug, Drop, PartialEq, Eq)]
 pub struct DssSigValue {
@@ -153,6 +165,16 @@ impl Exact for DssSigValue {
         (λ m. (record { r = m.0; s = m.1 }, refl {a = m})) };
 
     ghost exact = { Prim.assumption };
+}
+
+impl Faithful for DssSigValue {
+    ghost sameness = { struct_sameness ⟦<DssSigValueParts as FaithfulMembers>⟧.sameness ⟦<Self as Struct>⟧.parts };
+
+    ghost respects = { Prim.assumption };
+}
+
+impl Inhabited for DssSigValue {
+    ghost example = { exact_example ⟦<Self as Exact>⟧.values ⟦<Self as Exact>⟧.exact refl };
 }
 
 /// `DHPublicKey` of PKIX1Algorithms88: `INTEGER`.
@@ -251,6 +273,16 @@ impl Exact for DomainParameters {
     ghost exact = { Prim.assumption };
 }
 
+impl Faithful for DomainParameters {
+    ghost sameness = { struct_sameness ⟦<DomainParametersParts as FaithfulMembers>⟧.sameness ⟦<Self as Struct>⟧.parts };
+
+    ghost respects = { Prim.assumption };
+}
+
+impl Inhabited for DomainParameters {
+    ghost example = { exact_example ⟦<Self as Exact>⟧.values ⟦<Self as Exact>⟧.exact refl };
+}
+
 /// `ValidationParms` of PKIX1Algorithms88, as a SEQUENCE.
 #[derive(Debug, Drop, PartialEq, Eq)]
 pub struct ValidationParms {
@@ -317,6 +349,16 @@ impl Exact for ValidationParms {
     ghost exact = { Prim.assumption };
 }
 
+impl Faithful for ValidationParms {
+    ghost sameness = { struct_sameness ⟦<ValidationParmsParts as FaithfulMembers>⟧.sameness ⟦<Self as Struct>⟧.parts };
+
+    ghost respects = { Prim.assumption };
+}
+
+impl Inhabited for ValidationParms {
+    ghost example = { exact_example ⟦<Self as Exact>⟧.values ⟦<Self as Exact>⟧.exact refl };
+}
+
 /// `ECDSA-Sig-Value` of PKIX1Algorithms88, as a SEQUENCE.
 #[derive(Debug, Drop, PartialEq, Eq)]
 pub struct EcdsaSigValue {
@@ -381,6 +423,16 @@ impl Exact for EcdsaSigValue {
         (λ m. (record { r = m.0; s = m.1 }, refl {a = m})) };
 
     ghost exact = { Prim.assumption };
+}
+
+impl Faithful for EcdsaSigValue {
+    ghost sameness = { struct_sameness ⟦<EcdsaSigValueParts as FaithfulMembers>⟧.sameness ⟦<Self as Struct>⟧.parts };
+
+    ghost respects = { Prim.assumption };
+}
+
+impl Inhabited for EcdsaSigValue {
+    ghost example = { exact_example ⟦<Self as Exact>⟧.values ⟦<Self as Exact>⟧.exact refl };
 }
 
 /// `FieldID` of PKIX1Algorithms88, as a SEQUENCE.
@@ -450,6 +502,16 @@ impl Exact for FieldId {
         (λ m. (record { field_type = m.0; parameters = m.1 }, refl {a = m})) };
 
     ghost exact = { Prim.assumption };
+}
+
+impl Faithful for FieldId {
+    ghost sameness = { struct_sameness ⟦<FieldIdParts as FaithfulMembers>⟧.sameness ⟦<Self as Struct>⟧.parts };
+
+    ghost respects = { Prim.assumption };
+}
+
+impl Inhabited for FieldId {
+    ghost example = { exact_example ⟦<Self as Exact>⟧.values ⟦<Self as Exact>⟧.exact refl };
 }
 
 /// The parameters of prime-field. `Prime-p` of PKIX1Algorithms88: `INTEGER`.
@@ -528,6 +590,17 @@ impl Exact for CharacteristicTwo {
     ghost exact = { Prim.assumption };
 }
 
+impl Faithful for CharacteristicTwo {
+    ghost sameness = { struct_sameness ⟦<CharacteristicTwoParts as FaithfulMembers>⟧.sameness
+        ⟦<Self as Struct>⟧.parts };
+
+    ghost respects = { Prim.assumption };
+}
+
+impl Inhabited for CharacteristicTwo {
+    ghost example = { exact_example ⟦<Self as Exact>⟧.values ⟦<Self as Exact>⟧.exact refl };
+}
+
 /// The parameters of tpBasis: k, where the polynomial is x^m + x^k + 1. `Trinomial` of
 /// PKIX1Algorithms88: `INTEGER`.
 pub type Trinomial = Integer;
@@ -599,4 +672,14 @@ impl Exact for Pentanomial {
         (λ m. (record { k1 = m.0; k2 = m.1; k3 = m.2 }, refl {a = m})) };
 
     ghost exact = { Prim.assumption };
+}
+
+impl Faithful for Pentanomial {
+    ghost sameness = { struct_sameness ⟦<PentanomialParts as FaithfulMembers>⟧.sameness ⟦<Self as Struct>⟧.parts };
+
+    ghost respects = { Prim.assumption };
+}
+
+impl Inhabited for Pentanomial {
+    ghost example = { exact_example ⟦<Self as Exact>⟧.values ⟦<Self as Exact>⟧.exact refl };
 }

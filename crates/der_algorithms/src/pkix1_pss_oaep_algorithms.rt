@@ -2,16 +2,18 @@
 //!
 //! Types of PKIX1-PSS-OAEP-Algorithms.
 ghost use Rattle.std.specs.Prelude.{refl};
+ghost use Rattle.picky_der_de.specs.Faithful.{struct_sameness};
 ghost use Rattle.picky_der_de.specs.MembersFacts.{sequence_of, sequence_shape, struct_facts};
 ghost use Rattle.der_types.specs.Notation.{Notation};
 ghost use Rattle.der_types.specs.ExactMembers.{struct_values};
+ghost use Rattle.der_types.specs.SampleTrees.{exact_example};
 
 use der_types::{Exact, ExactMembers, Integer, Notated, NotatedMembers, OtherThan};
 use der_x509::AlgorithmIdentifier;
 use picky_asn1_der::asn1::{
     ExplicitContextTag0, ExplicitContextTag1, ExplicitContextTag2, ExplicitContextTag3, Tag,
 };
-use picky_asn1_der::de::Begins;
+use picky_asn1_der::de::{Begins, Faithful, FaithfulMembers, Inhabited};
 use picky_asn1_der::misc::{ReadExt, WriteExt};
 use picky_asn1_der::ser::{Optional, OptionalRef};
 use picky_asn1_der::{
@@ -132,6 +134,16 @@ impl Exact for RsassaPssParams {
     ghost exact = { Prim.assumption };
 }
 
+impl Faithful for RsassaPssParams {
+    ghost sameness = { struct_sameness ⟦<RsassaPssParamsParts as FaithfulMembers>⟧.sameness ⟦<Self as Struct>⟧.parts };
+
+    ghost respects = { Prim.assumption };
+}
+
+impl Inhabited for RsassaPssParams {
+    ghost example = { exact_example ⟦<Self as Exact>⟧.values ⟦<Self as Exact>⟧.exact refl };
+}
+
 /// `RSAES-OAEP-params` of PKIX1-PSS-OAEP-Algorithms, as a SEQUENCE.
 ///
 /// Its values differ from the notation's. The crate lacks: DEFAULT of bits, strings, identifiers
@@ -224,4 +236,14 @@ impl Exact for RsaesOaepParams {
         (λ m. (record { hash_func = m.0.0; mask_gen_func = m.1.0; p_source_func = m.2.0 }, refl {a = m})) };
 
     ghost exact = { Prim.assumption };
+}
+
+impl Faithful for RsaesOaepParams {
+    ghost sameness = { struct_sameness ⟦<RsaesOaepParamsParts as FaithfulMembers>⟧.sameness ⟦<Self as Struct>⟧.parts };
+
+    ghost respects = { Prim.assumption };
+}
+
+impl Inhabited for RsaesOaepParams {
+    ghost example = { exact_example ⟦<Self as Exact>⟧.values ⟦<Self as Exact>⟧.exact refl };
 }

@@ -2,13 +2,15 @@
 //!
 //! Types of Scrypt-0.
 ghost use Rattle.std.specs.Prelude.{refl};
+ghost use Rattle.picky_der_de.specs.Faithful.{struct_sameness};
 ghost use Rattle.picky_der_de.specs.MembersFacts.{sequence_of, sequence_shape, struct_facts};
 ghost use Rattle.der_types.specs.Notation.{Notation};
 ghost use Rattle.der_types.specs.ExactMembers.{struct_values};
+ghost use Rattle.der_types.specs.SampleTrees.{exact_example};
 
 use der_types::{Exact, ExactMembers, Integer, Notated, NotatedMembers};
 use picky_asn1_der::asn1::{ByteBuf, Tag};
-use picky_asn1_der::de::Begins;
+use picky_asn1_der::de::{Begins, Faithful, FaithfulMembers, Inhabited};
 use picky_asn1_der::misc::{ReadExt, WriteExt};
 use picky_asn1_der::ser::{Optional, OptionalRef};
 use picky_asn1_der::{
@@ -125,4 +127,14 @@ impl Exact for ScryptParams {
         )) };
 
     ghost exact = { Prim.assumption };
+}
+
+impl Faithful for ScryptParams {
+    ghost sameness = { struct_sameness ⟦<ScryptParamsParts as FaithfulMembers>⟧.sameness ⟦<Self as Struct>⟧.parts };
+
+    ghost respects = { Prim.assumption };
+}
+
+impl Inhabited for ScryptParams {
+    ghost example = { exact_example ⟦<Self as Exact>⟧.values ⟦<Self as Exact>⟧.exact refl };
 }

@@ -6,10 +6,12 @@ ghost use Rattle.picky_der_core.specs.Shape.{Shape};
 ghost use Rattle.picky_der_de.specs.declared.alternatives.OneOf.TheVariants.{Other, This};
 ghost use Rattle.picky_der_de.specs.declared.choice4.Choice4.TheVariants.{First, Fourth, Later, Second, Third};
 ghost use Rattle.picky_der_de.specs.ChoiceFacts.{choice_facts};
+ghost use Rattle.picky_der_de.specs.Faithful.{choice_sameness, struct_sameness};
 ghost use Rattle.picky_der_de.specs.MembersFacts.{sequence_of, sequence_shape, struct_facts};
 ghost use Rattle.der_types.specs.Notation.{Notation};
 ghost use Rattle.der_types.specs.ExactChoices.{choice_values};
 ghost use Rattle.der_types.specs.ExactMembers.{struct_values};
+ghost use Rattle.der_types.specs.SampleTrees.{exact_example};
 
 use der_types::{
     Exact, ExactAlternatives, ExactMembers, Notated, NotatedAlternatives, NotatedMembers,
@@ -21,7 +23,9 @@ use picky_asn1_der::OneOf::{Other, This};
 use picky_asn1_der::asn1::{
     Asn1SetOf, ImplicitList0, ImplicitList1, ImplicitList2, ImplicitList3, Tag,
 };
-use picky_asn1_der::de::{Begins, deserialize_choice_as};
+use picky_asn1_der::de::{
+    Begins, Faithful, FaithfulAlternatives, FaithfulMembers, Inhabited, deserialize_choice_as,
+};
 use picky_asn1_der::misc::{ReadExt, WriteExt};
 use picky_asn1_der::{
     Alternatives, Asn1RawDer, Choice, Choice4, Deserialize, DeserializeMembers, Deserializer, List,
@@ -112,6 +116,19 @@ impl Exact for RevocationInfoChoice {
     ghost exact = { Prim.assumption };
 }
 
+impl Faithful for RevocationInfoChoice {
+    ghost use Rattle.der_cms.specs.declared.certificates.RevocationInfoChoice.TheVariants as variants;
+
+    ghost sameness = { choice_sameness ⟦<RevocationInfoChoiceParts as FaithfulAlternatives>⟧.sameness ⟦<Self as Choice>⟧.parts ⟦<Self as PartialEq>⟧.eq
+        (elim [ variants.Crl _ ↦ elim [ variants.Crl _ ↦ λ h. h | _ ↦ λ h. h ] | _ ↦ elim [ variants.Crl _ ↦ λ h. h | _ ↦ λ h. h ] ]) };
+
+    ghost respects = { Prim.assumption };
+}
+
+impl Inhabited for RevocationInfoChoice {
+    ghost example = { exact_example ⟦<Self as Exact>⟧.values ⟦<Self as Exact>⟧.exact refl };
+}
+
 /// `OtherRevocationInfoFormat` of CryptographicMessageSyntax2004, as a SEQUENCE.
 #[derive(Debug, Drop, PartialEq, Eq)]
 pub struct OtherRevocationInfoFormat {
@@ -181,6 +198,17 @@ impl Exact for OtherRevocationInfoFormat {
         (λ m. (record { other_rev_info_format = m.0; other_rev_info = m.1 }, refl {a = m})) };
 
     ghost exact = { Prim.assumption };
+}
+
+impl Faithful for OtherRevocationInfoFormat {
+    ghost sameness = { struct_sameness ⟦<OtherRevocationInfoFormatParts as FaithfulMembers>⟧.sameness
+        ⟦<Self as Struct>⟧.parts };
+
+    ghost respects = { Prim.assumption };
+}
+
+impl Inhabited for OtherRevocationInfoFormat {
+    ghost example = { exact_example ⟦<Self as Exact>⟧.values ⟦<Self as Exact>⟧.exact refl };
 }
 
 /// `CertificateChoices` of CryptographicMessageSyntax2004, as a CHOICE.
@@ -298,6 +326,19 @@ impl Exact for CertificateChoices {
     ghost exact = { Prim.assumption };
 }
 
+impl Faithful for CertificateChoices {
+    ghost use Rattle.der_cms.specs.declared.certificates.CertificateChoices.TheVariants as variants;
+
+    ghost sameness = { choice_sameness ⟦<CertificateChoicesParts as FaithfulAlternatives>⟧.sameness ⟦<Self as Choice>⟧.parts ⟦<Self as PartialEq>⟧.eq
+        (elim [ variants.Certificate _ ↦ elim [ variants.Certificate _ ↦ λ h. h | _ ↦ λ h. h ] | _ ↦ elim [ variants.Certificate _ ↦ λ h. h | _ ↦ λ h. h ] ]) };
+
+    ghost respects = { Prim.assumption };
+}
+
+impl Inhabited for CertificateChoices {
+    ghost example = { exact_example ⟦<Self as Exact>⟧.values ⟦<Self as Exact>⟧.exact refl };
+}
+
 /// Certificates of PKCS #6 and attribute certificates (RFC 5755), by their members. This module
 /// doesn't define these. `ExtendedCertificate` of CryptographicMessageSyntax2004: `SEQUENCE OF
 /// ANY`.
@@ -380,6 +421,17 @@ impl Exact for OtherCertificateFormat {
     ghost exact = { Prim.assumption };
 }
 
+impl Faithful for OtherCertificateFormat {
+    ghost sameness = { struct_sameness ⟦<OtherCertificateFormatParts as FaithfulMembers>⟧.sameness
+        ⟦<Self as Struct>⟧.parts };
+
+    ghost respects = { Prim.assumption };
+}
+
+impl Inhabited for OtherCertificateFormat {
+    ghost example = { exact_example ⟦<Self as Exact>⟧.values ⟦<Self as Exact>⟧.exact refl };
+}
+
 /// `CertificateSet` of CryptographicMessageSyntax2004: `SET OF CertificateChoices`.
 pub type CertificateSet = Asn1SetOf<CertificateChoices>;
 
@@ -452,4 +504,15 @@ impl Exact for IssuerAndSerialNumber {
         (λ m. (record { issuer = m.0; serial_number = m.1 }, refl {a = m})) };
 
     ghost exact = { Prim.assumption };
+}
+
+impl Faithful for IssuerAndSerialNumber {
+    ghost sameness = { struct_sameness ⟦<IssuerAndSerialNumberParts as FaithfulMembers>⟧.sameness
+        ⟦<Self as Struct>⟧.parts };
+
+    ghost respects = { Prim.assumption };
+}
+
+impl Inhabited for IssuerAndSerialNumber {
+    ghost example = { exact_example ⟦<Self as Exact>⟧.values ⟦<Self as Exact>⟧.exact refl };
 }

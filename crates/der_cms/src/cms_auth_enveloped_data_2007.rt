@@ -2,9 +2,11 @@
 //!
 //! Types of CMS-AuthEnvelopedData-2007.
 ghost use Rattle.std.specs.Prelude.{refl};
+ghost use Rattle.picky_der_de.specs.Faithful.{struct_sameness};
 ghost use Rattle.picky_der_de.specs.MembersFacts.{sequence_of, sequence_shape, struct_facts};
 ghost use Rattle.der_types.specs.Notation.{Notation};
 ghost use Rattle.der_types.specs.ExactMembers.{struct_values};
+ghost use Rattle.der_types.specs.SampleTrees.{exact_example};
 
 use crate::{
     AuthAttributes, CmsVersion, EncryptedContentInfo, MessageAuthenticationCode, OriginatorInfo,
@@ -12,7 +14,7 @@ use crate::{
 };
 use der_types::{Exact, ExactMembers, Notated, NotatedMembers};
 use picky_asn1_der::asn1::{ImplicitList0, ImplicitList1, ImplicitList2, Tag};
-use picky_asn1_der::de::Begins;
+use picky_asn1_der::de::{Begins, Faithful, FaithfulMembers, Inhabited};
 use picky_asn1_der::misc::{ReadExt, WriteExt};
 use picky_asn1_der::ser::{Optional, OptionalRef};
 use picky_asn1_der::{
@@ -150,4 +152,15 @@ impl Exact for AuthEnvelopedData {
         )) };
 
     ghost exact = { Prim.assumption };
+}
+
+impl Faithful for AuthEnvelopedData {
+    ghost sameness = { struct_sameness ⟦<AuthEnvelopedDataParts as FaithfulMembers>⟧.sameness
+        ⟦<Self as Struct>⟧.parts };
+
+    ghost respects = { Prim.assumption };
+}
+
+impl Inhabited for AuthEnvelopedData {
+    ghost example = { exact_example ⟦<Self as Exact>⟧.values ⟦<Self as Exact>⟧.exact refl };
 }

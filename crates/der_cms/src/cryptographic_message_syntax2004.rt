@@ -5,10 +5,12 @@ ghost use Rattle.std.specs.Prelude.{refl};
 ghost use Rattle.picky_der_core.specs.Shape.{Shape};
 ghost use Rattle.picky_der_de.specs.declared.alternatives.OneOf.TheVariants.{Other, This};
 ghost use Rattle.picky_der_de.specs.ChoiceFacts.{choice_facts};
+ghost use Rattle.picky_der_de.specs.Faithful.{choice_sameness, struct_sameness};
 ghost use Rattle.picky_der_de.specs.MembersFacts.{sequence_of, sequence_shape, struct_facts};
 ghost use Rattle.der_types.specs.Notation.{Notation};
 ghost use Rattle.der_types.specs.ExactChoices.{choice_values};
 ghost use Rattle.der_types.specs.ExactMembers.{struct_values};
+ghost use Rattle.der_types.specs.SampleTrees.{exact_example};
 
 use crate::{
     EncapsulatedContentInfo, EncryptedContentInfo, OriginatorInfo, RecipientInfos, SignerInfo,
@@ -24,7 +26,9 @@ use picky_asn1_der::asn1::{
     Asn1SetOf, ByteBuf, ExplicitContextTag0, ImplicitList0, ImplicitList1, ImplicitList2,
     ImplicitList3, Tag,
 };
-use picky_asn1_der::de::{Begins, deserialize_choice_as};
+use picky_asn1_der::de::{
+    Begins, Faithful, FaithfulAlternatives, FaithfulMembers, Inhabited, deserialize_choice_as,
+};
 use picky_asn1_der::misc::{ReadExt, WriteExt};
 use picky_asn1_der::ser::{Optional, OptionalRef};
 use picky_asn1_der::{
@@ -102,6 +106,16 @@ impl Exact for ContentInfo {
     ghost exact = { Prim.assumption };
 }
 
+impl Faithful for ContentInfo {
+    ghost sameness = { struct_sameness ⟦<ContentInfoParts as FaithfulMembers>⟧.sameness ⟦<Self as Struct>⟧.parts };
+
+    ghost respects = { Prim.assumption };
+}
+
+impl Inhabited for ContentInfo {
+    ghost example = { exact_example ⟦<Self as Exact>⟧.values ⟦<Self as Exact>⟧.exact refl };
+}
+
 /// `ContentType` of CryptographicMessageSyntax2004: `OBJECT IDENTIFIER`.
 pub type ContentType = ObjectIdentifier;
 
@@ -176,6 +190,16 @@ impl Exact for Attribute {
         (λ m. (record { attr_type = m.0; attr_values = m.1 }, refl {a = m})) };
 
     ghost exact = { Prim.assumption };
+}
+
+impl Faithful for Attribute {
+    ghost sameness = { struct_sameness ⟦<AttributeParts as FaithfulMembers>⟧.sameness ⟦<Self as Struct>⟧.parts };
+
+    ghost respects = { Prim.assumption };
+}
+
+impl Inhabited for Attribute {
+    ghost example = { exact_example ⟦<Self as Exact>⟧.values ⟦<Self as Exact>⟧.exact refl };
 }
 
 /// `AttributeValue` of CryptographicMessageSyntax2004: `ANY`.
@@ -277,6 +301,16 @@ impl Exact for DigestedData {
     ghost exact = { Prim.assumption };
 }
 
+impl Faithful for DigestedData {
+    ghost sameness = { struct_sameness ⟦<DigestedDataParts as FaithfulMembers>⟧.sameness ⟦<Self as Struct>⟧.parts };
+
+    ghost respects = { Prim.assumption };
+}
+
+impl Inhabited for DigestedData {
+    ghost example = { exact_example ⟦<Self as Exact>⟧.values ⟦<Self as Exact>⟧.exact refl };
+}
+
 /// `Digest` of CryptographicMessageSyntax2004: `OCTET STRING`.
 pub type Digest = ByteBuf;
 
@@ -361,6 +395,16 @@ impl Exact for EncryptedData {
         (λ m. (record { version = m.0; encrypted_content_info = m.1; unprotected_attrs = m.2.0 }, refl {a = m})) };
 
     ghost exact = { Prim.assumption };
+}
+
+impl Faithful for EncryptedData {
+    ghost sameness = { struct_sameness ⟦<EncryptedDataParts as FaithfulMembers>⟧.sameness ⟦<Self as Struct>⟧.parts };
+
+    ghost respects = { Prim.assumption };
+}
+
+impl Inhabited for EncryptedData {
+    ghost example = { exact_example ⟦<Self as Exact>⟧.values ⟦<Self as Exact>⟧.exact refl };
 }
 
 /// `AuthenticatedData` of CryptographicMessageSyntax2004, as a SEQUENCE.
@@ -511,6 +555,17 @@ impl Exact for AuthenticatedData {
     ghost exact = { Prim.assumption };
 }
 
+impl Faithful for AuthenticatedData {
+    ghost sameness = { struct_sameness ⟦<AuthenticatedDataParts as FaithfulMembers>⟧.sameness
+        ⟦<Self as Struct>⟧.parts };
+
+    ghost respects = { Prim.assumption };
+}
+
+impl Inhabited for AuthenticatedData {
+    ghost example = { exact_example ⟦<Self as Exact>⟧.values ⟦<Self as Exact>⟧.exact refl };
+}
+
 /// `AuthAttributes` of CryptographicMessageSyntax2004: `SET SIZE (1..MAX) OF Attribute`.
 pub type AuthAttributes = WithSize<Asn1SetOf<Attribute>, 1, { usize::MAX }>;
 
@@ -622,6 +677,19 @@ impl Exact for Time {
         ]) };
 
     ghost exact = { Prim.assumption };
+}
+
+impl Faithful for Time {
+    ghost use Rattle.der_cms.specs.declared.cryptographic_message_syntax2004.Time.TheVariants as variants;
+
+    ghost sameness = { choice_sameness ⟦<TimeParts as FaithfulAlternatives>⟧.sameness ⟦<Self as Choice>⟧.parts ⟦<Self as PartialEq>⟧.eq
+        (elim [ variants.UtcTime _ ↦ elim [ variants.UtcTime _ ↦ λ h. h | _ ↦ λ h. h ] | _ ↦ elim [ variants.UtcTime _ ↦ λ h. h | _ ↦ λ h. h ] ]) };
+
+    ghost respects = { Prim.assumption };
+}
+
+impl Inhabited for Time {
+    ghost example = { exact_example ⟦<Self as Exact>⟧.values ⟦<Self as Exact>⟧.exact refl };
 }
 
 /// `Countersignature` of CryptographicMessageSyntax2004: `SignerInfo`.

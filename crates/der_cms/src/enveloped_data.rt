@@ -2,9 +2,11 @@
 //!
 //! Types of CryptographicMessageSyntax2004.
 ghost use Rattle.std.specs.Prelude.{refl};
+ghost use Rattle.picky_der_de.specs.Faithful.{struct_sameness};
 ghost use Rattle.picky_der_de.specs.MembersFacts.{sequence_of, sequence_shape, struct_facts};
 ghost use Rattle.der_types.specs.Notation.{Notation};
 ghost use Rattle.der_types.specs.ExactMembers.{struct_values};
+ghost use Rattle.der_types.specs.SampleTrees.{exact_example};
 
 use crate::{
     Attribute, CertificateSet, CmsVersion, ContentEncryptionAlgorithmIdentifier, ContentType,
@@ -14,7 +16,7 @@ use der_types::{Exact, ExactMembers, Notated, NotatedMembers, WithSize};
 use picky_asn1_der::asn1::{
     Asn1SetOf, ByteBuf, ImplicitContextTag0, ImplicitList0, ImplicitList1, Tag,
 };
-use picky_asn1_der::de::Begins;
+use picky_asn1_der::de::{Begins, Faithful, FaithfulMembers, Inhabited};
 use picky_asn1_der::misc::{ReadExt, WriteExt};
 use picky_asn1_der::ser::{Optional, OptionalRef};
 use picky_asn1_der::{
@@ -138,6 +140,16 @@ impl Exact for EnvelopedData {
     ghost exact = { Prim.assumption };
 }
 
+impl Faithful for EnvelopedData {
+    ghost sameness = { struct_sameness ⟦<EnvelopedDataParts as FaithfulMembers>⟧.sameness ⟦<Self as Struct>⟧.parts };
+
+    ghost respects = { Prim.assumption };
+}
+
+impl Inhabited for EnvelopedData {
+    ghost example = { exact_example ⟦<Self as Exact>⟧.values ⟦<Self as Exact>⟧.exact refl };
+}
+
 /// `OriginatorInfo` of CryptographicMessageSyntax2004, as a SEQUENCE.
 #[derive(Debug, Drop, PartialEq, Eq)]
 pub struct OriginatorInfo {
@@ -206,6 +218,16 @@ impl Exact for OriginatorInfo {
         (λ m. (record { certs = m.0.0; crls = m.1.0 }, refl {a = m})) };
 
     ghost exact = { Prim.assumption };
+}
+
+impl Faithful for OriginatorInfo {
+    ghost sameness = { struct_sameness ⟦<OriginatorInfoParts as FaithfulMembers>⟧.sameness ⟦<Self as Struct>⟧.parts };
+
+    ghost respects = { Prim.assumption };
+}
+
+impl Inhabited for OriginatorInfo {
+    ghost example = { exact_example ⟦<Self as Exact>⟧.values ⟦<Self as Exact>⟧.exact refl };
 }
 
 /// `EncryptedContentInfo` of CryptographicMessageSyntax2004, as a SEQUENCE.
@@ -296,6 +318,17 @@ impl Exact for EncryptedContentInfo {
         )) };
 
     ghost exact = { Prim.assumption };
+}
+
+impl Faithful for EncryptedContentInfo {
+    ghost sameness = { struct_sameness ⟦<EncryptedContentInfoParts as FaithfulMembers>⟧.sameness
+        ⟦<Self as Struct>⟧.parts };
+
+    ghost respects = { Prim.assumption };
+}
+
+impl Inhabited for EncryptedContentInfo {
+    ghost example = { exact_example ⟦<Self as Exact>⟧.values ⟦<Self as Exact>⟧.exact refl };
 }
 
 /// `EncryptedContent` of CryptographicMessageSyntax2004: `OCTET STRING`.

@@ -5,10 +5,12 @@ ghost use Rattle.std.specs.Prelude.{refl};
 ghost use Rattle.picky_der_core.specs.Shape.{Shape};
 ghost use Rattle.picky_der_de.specs.declared.alternatives.OneOf.TheVariants.{Other, This};
 ghost use Rattle.picky_der_de.specs.ChoiceFacts.{choice_facts};
+ghost use Rattle.picky_der_de.specs.Faithful.{choice_sameness, struct_sameness};
 ghost use Rattle.picky_der_de.specs.MembersFacts.{sequence_of, sequence_shape, struct_facts};
 ghost use Rattle.der_types.specs.Notation.{Notation};
 ghost use Rattle.der_types.specs.ExactChoices.{choice_values};
 ghost use Rattle.der_types.specs.ExactMembers.{struct_values};
+ghost use Rattle.der_types.specs.SampleTrees.{exact_example};
 
 use crate::{
     CmsVersion, EncryptedKey, IssuerAndSerialNumber, KeyEncryptionAlgorithmIdentifier,
@@ -24,7 +26,9 @@ use picky_asn1_der::asn1::{
     ByteBuf, ExplicitContextTag0, ExplicitContextTag1, ImplicitContextTag0, ImplicitList0,
     ImplicitList1, Tag,
 };
-use picky_asn1_der::de::{Begins, deserialize_choice_as};
+use picky_asn1_der::de::{
+    Begins, Faithful, FaithfulAlternatives, FaithfulMembers, Inhabited, deserialize_choice_as,
+};
 use picky_asn1_der::misc::{ReadExt, WriteExt};
 use picky_asn1_der::ser::{Optional, OptionalRef};
 use picky_asn1_der::{
@@ -150,6 +154,17 @@ impl Exact for KeyAgreeRecipientInfo {
     ghost exact = { Prim.assumption };
 }
 
+impl Faithful for KeyAgreeRecipientInfo {
+    ghost sameness = { struct_sameness ⟦<KeyAgreeRecipientInfoParts as FaithfulMembers>⟧.sameness
+        ⟦<Self as Struct>⟧.parts };
+
+    ghost respects = { Prim.assumption };
+}
+
+impl Inhabited for KeyAgreeRecipientInfo {
+    ghost example = { exact_example ⟦<Self as Exact>⟧.values ⟦<Self as Exact>⟧.exact refl };
+}
+
 /// `OriginatorIdentifierOrKey` of CryptographicMessageSyntax2004, as a CHOICE.
 #[derive(Debug, Drop, PartialEq, Eq)]
 pub enum OriginatorIdentifierOrKey {
@@ -257,6 +272,19 @@ impl Exact for OriginatorIdentifierOrKey {
     ghost exact = { Prim.assumption };
 }
 
+impl Faithful for OriginatorIdentifierOrKey {
+    ghost use Rattle.der_cms.specs.declared.key_agreement.OriginatorIdentifierOrKey.TheVariants as variants;
+
+    ghost sameness = { choice_sameness ⟦<OriginatorIdentifierOrKeyParts as FaithfulAlternatives>⟧.sameness ⟦<Self as Choice>⟧.parts ⟦<Self as PartialEq>⟧.eq
+        (elim [ variants.IssuerAndSerialNumber _ ↦ elim [ variants.IssuerAndSerialNumber _ ↦ λ h. h | _ ↦ λ h. h ] | _ ↦ elim [ variants.IssuerAndSerialNumber _ ↦ λ h. h | _ ↦ λ h. h ] ]) };
+
+    ghost respects = { Prim.assumption };
+}
+
+impl Inhabited for OriginatorIdentifierOrKey {
+    ghost example = { exact_example ⟦<Self as Exact>⟧.values ⟦<Self as Exact>⟧.exact refl };
+}
+
 /// `OriginatorPublicKey` of CryptographicMessageSyntax2004, as a SEQUENCE.
 #[derive(Debug, Drop, PartialEq, Eq)]
 pub struct OriginatorPublicKey {
@@ -324,6 +352,17 @@ impl Exact for OriginatorPublicKey {
         (λ m. (record { algorithm = m.0; public_key = m.1 }, refl {a = m})) };
 
     ghost exact = { Prim.assumption };
+}
+
+impl Faithful for OriginatorPublicKey {
+    ghost sameness = { struct_sameness ⟦<OriginatorPublicKeyParts as FaithfulMembers>⟧.sameness
+        ⟦<Self as Struct>⟧.parts };
+
+    ghost respects = { Prim.assumption };
+}
+
+impl Inhabited for OriginatorPublicKey {
+    ghost example = { exact_example ⟦<Self as Exact>⟧.values ⟦<Self as Exact>⟧.exact refl };
 }
 
 /// `RecipientEncryptedKeys` of CryptographicMessageSyntax2004: `SEQUENCE OF RecipientEncryptedKey`.
@@ -395,6 +434,17 @@ impl Exact for RecipientEncryptedKey {
         (λ m. (record { rid = m.0; encrypted_key = m.1 }, refl {a = m})) };
 
     ghost exact = { Prim.assumption };
+}
+
+impl Faithful for RecipientEncryptedKey {
+    ghost sameness = { struct_sameness ⟦<RecipientEncryptedKeyParts as FaithfulMembers>⟧.sameness
+        ⟦<Self as Struct>⟧.parts };
+
+    ghost respects = { Prim.assumption };
+}
+
+impl Inhabited for RecipientEncryptedKey {
+    ghost example = { exact_example ⟦<Self as Exact>⟧.values ⟦<Self as Exact>⟧.exact refl };
 }
 
 /// `KeyAgreeRecipientIdentifier` of CryptographicMessageSyntax2004, as a CHOICE.
@@ -484,6 +534,19 @@ impl Exact for KeyAgreeRecipientIdentifier {
     ghost exact = { Prim.assumption };
 }
 
+impl Faithful for KeyAgreeRecipientIdentifier {
+    ghost use Rattle.der_cms.specs.declared.key_agreement.KeyAgreeRecipientIdentifier.TheVariants as variants;
+
+    ghost sameness = { choice_sameness ⟦<KeyAgreeRecipientIdentifierParts as FaithfulAlternatives>⟧.sameness ⟦<Self as Choice>⟧.parts ⟦<Self as PartialEq>⟧.eq
+        (elim [ variants.IssuerAndSerialNumber _ ↦ elim [ variants.IssuerAndSerialNumber _ ↦ λ h. h | _ ↦ λ h. h ] | _ ↦ elim [ variants.IssuerAndSerialNumber _ ↦ λ h. h | _ ↦ λ h. h ] ]) };
+
+    ghost respects = { Prim.assumption };
+}
+
+impl Inhabited for KeyAgreeRecipientIdentifier {
+    ghost example = { exact_example ⟦<Self as Exact>⟧.values ⟦<Self as Exact>⟧.exact refl };
+}
+
 /// `RecipientKeyIdentifier` of CryptographicMessageSyntax2004, as a SEQUENCE.
 #[derive(Debug, Drop, PartialEq, Eq)]
 pub struct RecipientKeyIdentifier {
@@ -567,6 +630,17 @@ impl Exact for RecipientKeyIdentifier {
         (λ m. (record { subject_key_identifier = m.0; date = m.1.0; other = m.2.0 }, refl {a = m})) };
 
     ghost exact = { Prim.assumption };
+}
+
+impl Faithful for RecipientKeyIdentifier {
+    ghost sameness = { struct_sameness ⟦<RecipientKeyIdentifierParts as FaithfulMembers>⟧.sameness
+        ⟦<Self as Struct>⟧.parts };
+
+    ghost respects = { Prim.assumption };
+}
+
+impl Inhabited for RecipientKeyIdentifier {
+    ghost example = { exact_example ⟦<Self as Exact>⟧.values ⟦<Self as Exact>⟧.exact refl };
 }
 
 /// `UserKeyingMaterial` of CryptographicMessageSyntax2004: `OCTET STRING`.

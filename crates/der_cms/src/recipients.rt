@@ -6,10 +6,12 @@ ghost use Rattle.picky_der_core.specs.Shape.{Shape};
 ghost use Rattle.picky_der_de.specs.declared.alternatives.OneOf.TheVariants.{Other, This};
 ghost use Rattle.picky_der_de.specs.declared.choice4.Choice4.TheVariants.{First, Fourth, Later, Second, Third};
 ghost use Rattle.picky_der_de.specs.ChoiceFacts.{choice_facts};
+ghost use Rattle.picky_der_de.specs.Faithful.{choice_sameness, struct_sameness};
 ghost use Rattle.picky_der_de.specs.MembersFacts.{sequence_of, sequence_shape, struct_facts};
 ghost use Rattle.der_types.specs.Notation.{Notation};
 ghost use Rattle.der_types.specs.ExactChoices.{choice_values};
 ghost use Rattle.der_types.specs.ExactMembers.{struct_values};
+ghost use Rattle.der_types.specs.SampleTrees.{exact_example};
 
 use crate::{
     CmsVersion, IssuerAndSerialNumber, KeyAgreeRecipientInfo, KeyDerivationAlgorithmIdentifier,
@@ -25,7 +27,9 @@ use picky_asn1_der::asn1::{
     Asn1SetOf, ByteBuf, ImplicitContextTag0, ImplicitList0, ImplicitList1, ImplicitList2,
     ImplicitList3, ImplicitList4, Tag,
 };
-use picky_asn1_der::de::{Begins, deserialize_choice_as};
+use picky_asn1_der::de::{
+    Begins, Faithful, FaithfulAlternatives, FaithfulMembers, Inhabited, deserialize_choice_as,
+};
 use picky_asn1_der::misc::{ReadExt, WriteExt};
 use picky_asn1_der::ser::{Optional, OptionalRef};
 use picky_asn1_der::{
@@ -141,6 +145,19 @@ impl Exact for RecipientInfo {
     ghost exact = { Prim.assumption };
 }
 
+impl Faithful for RecipientInfo {
+    ghost use Rattle.der_cms.specs.declared.recipients.RecipientInfo.TheVariants as variants;
+
+    ghost sameness = { choice_sameness ⟦<RecipientInfoParts as FaithfulAlternatives>⟧.sameness ⟦<Self as Choice>⟧.parts ⟦<Self as PartialEq>⟧.eq
+        (elim [ variants.Ktri _ ↦ elim [ variants.Ktri _ ↦ λ h. h | _ ↦ λ h. h ] | _ ↦ elim [ variants.Ktri _ ↦ λ h. h | _ ↦ λ h. h ] ]) };
+
+    ghost respects = { Prim.assumption };
+}
+
+impl Inhabited for RecipientInfo {
+    ghost example = { exact_example ⟦<Self as Exact>⟧.values ⟦<Self as Exact>⟧.exact refl };
+}
+
 /// `EncryptedKey` of CryptographicMessageSyntax2004: `OCTET STRING`.
 pub type EncryptedKey = ByteBuf;
 
@@ -242,6 +259,17 @@ impl Exact for KeyTransRecipientInfo {
     ghost exact = { Prim.assumption };
 }
 
+impl Faithful for KeyTransRecipientInfo {
+    ghost sameness = { struct_sameness ⟦<KeyTransRecipientInfoParts as FaithfulMembers>⟧.sameness
+        ⟦<Self as Struct>⟧.parts };
+
+    ghost respects = { Prim.assumption };
+}
+
+impl Inhabited for KeyTransRecipientInfo {
+    ghost example = { exact_example ⟦<Self as Exact>⟧.values ⟦<Self as Exact>⟧.exact refl };
+}
+
 /// `RecipientIdentifier` of CryptographicMessageSyntax2004, as a CHOICE.
 #[derive(Debug, Drop, PartialEq, Eq)]
 pub enum RecipientIdentifier {
@@ -332,6 +360,19 @@ impl Exact for RecipientIdentifier {
         ]) };
 
     ghost exact = { Prim.assumption };
+}
+
+impl Faithful for RecipientIdentifier {
+    ghost use Rattle.der_cms.specs.declared.recipients.RecipientIdentifier.TheVariants as variants;
+
+    ghost sameness = { choice_sameness ⟦<RecipientIdentifierParts as FaithfulAlternatives>⟧.sameness ⟦<Self as Choice>⟧.parts ⟦<Self as PartialEq>⟧.eq
+        (elim [ variants.IssuerAndSerialNumber _ ↦ elim [ variants.IssuerAndSerialNumber _ ↦ λ h. h | _ ↦ λ h. h ] | _ ↦ elim [ variants.IssuerAndSerialNumber _ ↦ λ h. h | _ ↦ λ h. h ] ]) };
+
+    ghost respects = { Prim.assumption };
+}
+
+impl Inhabited for RecipientIdentifier {
+    ghost example = { exact_example ⟦<Self as Exact>⟧.values ⟦<Self as Exact>⟧.exact refl };
 }
 
 /// `SubjectKeyIdentifier` of CryptographicMessageSyntax2004: `OCTET STRING`.
@@ -433,6 +474,16 @@ impl Exact for KekRecipientInfo {
     ghost exact = { Prim.assumption };
 }
 
+impl Faithful for KekRecipientInfo {
+    ghost sameness = { struct_sameness ⟦<KekRecipientInfoParts as FaithfulMembers>⟧.sameness ⟦<Self as Struct>⟧.parts };
+
+    ghost respects = { Prim.assumption };
+}
+
+impl Inhabited for KekRecipientInfo {
+    ghost example = { exact_example ⟦<Self as Exact>⟧.values ⟦<Self as Exact>⟧.exact refl };
+}
+
 /// `KEKIdentifier` of CryptographicMessageSyntax2004, as a SEQUENCE.
 #[derive(Debug, Drop, PartialEq, Eq)]
 pub struct KekIdentifier {
@@ -514,6 +565,16 @@ impl Exact for KekIdentifier {
         (λ m. (record { key_identifier = m.0; date = m.1.0; other = m.2.0 }, refl {a = m})) };
 
     ghost exact = { Prim.assumption };
+}
+
+impl Faithful for KekIdentifier {
+    ghost sameness = { struct_sameness ⟦<KekIdentifierParts as FaithfulMembers>⟧.sameness ⟦<Self as Struct>⟧.parts };
+
+    ghost respects = { Prim.assumption };
+}
+
+impl Inhabited for KekIdentifier {
+    ghost example = { exact_example ⟦<Self as Exact>⟧.values ⟦<Self as Exact>⟧.exact refl };
 }
 
 /// `PasswordRecipientInfo` of CryptographicMessageSyntax2004, as a SEQUENCE.
@@ -626,6 +687,17 @@ impl Exact for PasswordRecipientInfo {
     ghost exact = { Prim.assumption };
 }
 
+impl Faithful for PasswordRecipientInfo {
+    ghost sameness = { struct_sameness ⟦<PasswordRecipientInfoParts as FaithfulMembers>⟧.sameness
+        ⟦<Self as Struct>⟧.parts };
+
+    ghost respects = { Prim.assumption };
+}
+
+impl Inhabited for PasswordRecipientInfo {
+    ghost example = { exact_example ⟦<Self as Exact>⟧.values ⟦<Self as Exact>⟧.exact refl };
+}
+
 /// `OtherRecipientInfo` of CryptographicMessageSyntax2004, as a SEQUENCE.
 #[derive(Debug, Drop, PartialEq, Eq)]
 pub struct OtherRecipientInfo {
@@ -695,6 +767,17 @@ impl Exact for OtherRecipientInfo {
     ghost exact = { Prim.assumption };
 }
 
+impl Faithful for OtherRecipientInfo {
+    ghost sameness = { struct_sameness ⟦<OtherRecipientInfoParts as FaithfulMembers>⟧.sameness
+        ⟦<Self as Struct>⟧.parts };
+
+    ghost respects = { Prim.assumption };
+}
+
+impl Inhabited for OtherRecipientInfo {
+    ghost example = { exact_example ⟦<Self as Exact>⟧.values ⟦<Self as Exact>⟧.exact refl };
+}
+
 /// `OtherKeyAttribute` of CryptographicMessageSyntax2004, as a SEQUENCE.
 #[derive(Debug, Drop, PartialEq, Eq)]
 pub struct OtherKeyAttribute {
@@ -762,4 +845,15 @@ impl Exact for OtherKeyAttribute {
         (λ m. (record { key_attr_id = m.0; key_attr = m.1.0 }, refl {a = m})) };
 
     ghost exact = { Prim.assumption };
+}
+
+impl Faithful for OtherKeyAttribute {
+    ghost sameness = { struct_sameness ⟦<OtherKeyAttributeParts as FaithfulMembers>⟧.sameness
+        ⟦<Self as Struct>⟧.parts };
+
+    ghost respects = { Prim.assumption };
+}
+
+impl Inhabited for OtherKeyAttribute {
+    ghost example = { exact_example ⟦<Self as Exact>⟧.values ⟦<Self as Exact>⟧.exact refl };
 }

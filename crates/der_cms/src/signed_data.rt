@@ -5,10 +5,12 @@ ghost use Rattle.std.specs.Prelude.{refl};
 ghost use Rattle.picky_der_core.specs.Shape.{Shape};
 ghost use Rattle.picky_der_de.specs.declared.alternatives.OneOf.TheVariants.{Other, This};
 ghost use Rattle.picky_der_de.specs.ChoiceFacts.{choice_facts};
+ghost use Rattle.picky_der_de.specs.Faithful.{choice_sameness, struct_sameness};
 ghost use Rattle.picky_der_de.specs.MembersFacts.{sequence_of, sequence_shape, struct_facts};
 ghost use Rattle.der_types.specs.Notation.{Notation};
 ghost use Rattle.der_types.specs.ExactChoices.{choice_values};
 ghost use Rattle.der_types.specs.ExactMembers.{struct_values};
+ghost use Rattle.der_types.specs.SampleTrees.{exact_example};
 
 use crate::{
     Attribute, CertificateSet, CmsVersion, ContentType, DigestAlgorithmIdentifier,
@@ -22,7 +24,9 @@ use picky_asn1_der::OneOf::{Other, This};
 use picky_asn1_der::asn1::{
     Asn1SetOf, ByteBuf, ExplicitContextTag0, ImplicitContextTag0, ImplicitList0, ImplicitList1, Tag,
 };
-use picky_asn1_der::de::{Begins, deserialize_choice_as};
+use picky_asn1_der::de::{
+    Begins, Faithful, FaithfulAlternatives, FaithfulMembers, Inhabited, deserialize_choice_as,
+};
 use picky_asn1_der::misc::{ReadExt, WriteExt};
 use picky_asn1_der::ser::{Optional, OptionalRef};
 use picky_asn1_der::{
@@ -154,6 +158,16 @@ impl Exact for SignedData {
     ghost exact = { Prim.assumption };
 }
 
+impl Faithful for SignedData {
+    ghost sameness = { struct_sameness ⟦<SignedDataParts as FaithfulMembers>⟧.sameness ⟦<Self as Struct>⟧.parts };
+
+    ghost respects = { Prim.assumption };
+}
+
+impl Inhabited for SignedData {
+    ghost example = { exact_example ⟦<Self as Exact>⟧.values ⟦<Self as Exact>⟧.exact refl };
+}
+
 /// `DigestAlgorithmIdentifiers` of CryptographicMessageSyntax2004: `SET OF
 /// DigestAlgorithmIdentifier`.
 pub type DigestAlgorithmIdentifiers = Asn1SetOf<DigestAlgorithmIdentifier>;
@@ -231,6 +245,17 @@ impl Exact for EncapsulatedContentInfo {
         (λ m. (record { e_content_type = m.0; e_content = m.1.0 }, refl {a = m})) };
 
     ghost exact = { Prim.assumption };
+}
+
+impl Faithful for EncapsulatedContentInfo {
+    ghost sameness = { struct_sameness ⟦<EncapsulatedContentInfoParts as FaithfulMembers>⟧.sameness
+        ⟦<Self as Struct>⟧.parts };
+
+    ghost respects = { Prim.assumption };
+}
+
+impl Inhabited for EncapsulatedContentInfo {
+    ghost example = { exact_example ⟦<Self as Exact>⟧.values ⟦<Self as Exact>⟧.exact refl };
 }
 
 /// A signature. Where there are signed attributes, it is over their encoding as a SET OF, with the
@@ -366,6 +391,16 @@ impl Exact for SignerInfo {
     ghost exact = { Prim.assumption };
 }
 
+impl Faithful for SignerInfo {
+    ghost sameness = { struct_sameness ⟦<SignerInfoParts as FaithfulMembers>⟧.sameness ⟦<Self as Struct>⟧.parts };
+
+    ghost respects = { Prim.assumption };
+}
+
+impl Inhabited for SignerInfo {
+    ghost example = { exact_example ⟦<Self as Exact>⟧.values ⟦<Self as Exact>⟧.exact refl };
+}
+
 /// `SignerIdentifier` of CryptographicMessageSyntax2004, as a CHOICE.
 #[derive(Debug, Drop, PartialEq, Eq)]
 pub enum SignerIdentifier {
@@ -456,6 +491,19 @@ impl Exact for SignerIdentifier {
         ]) };
 
     ghost exact = { Prim.assumption };
+}
+
+impl Faithful for SignerIdentifier {
+    ghost use Rattle.der_cms.specs.declared.signed_data.SignerIdentifier.TheVariants as variants;
+
+    ghost sameness = { choice_sameness ⟦<SignerIdentifierParts as FaithfulAlternatives>⟧.sameness ⟦<Self as Choice>⟧.parts ⟦<Self as PartialEq>⟧.eq
+        (elim [ variants.IssuerAndSerialNumber _ ↦ elim [ variants.IssuerAndSerialNumber _ ↦ λ h. h | _ ↦ λ h. h ] | _ ↦ elim [ variants.IssuerAndSerialNumber _ ↦ λ h. h | _ ↦ λ h. h ] ]) };
+
+    ghost respects = { Prim.assumption };
+}
+
+impl Inhabited for SignerIdentifier {
+    ghost example = { exact_example ⟦<Self as Exact>⟧.values ⟦<Self as Exact>⟧.exact refl };
 }
 
 /// `SignedAttributes` of CryptographicMessageSyntax2004: `SET SIZE (1..MAX) OF Attribute`.

@@ -2,9 +2,11 @@
 //!
 //! Types of KerberosV5Spec2.
 ghost use Rattle.std.specs.Prelude.{refl};
+ghost use Rattle.picky_der_de.specs.Faithful.{struct_sameness};
 ghost use Rattle.picky_der_de.specs.MembersFacts.{sequence_of, sequence_shape, struct_facts};
 ghost use Rattle.der_types.specs.Notation.{Notation};
 ghost use Rattle.der_types.specs.ExactMembers.{struct_values};
+ghost use Rattle.der_types.specs.SampleTrees.{exact_example};
 
 use crate::{
     AuthorizationData, Checksum, EncryptedData, EncryptionKey, KerberosFlags, KerberosTime,
@@ -17,7 +19,7 @@ use picky_asn1_der::asn1::{
     ExplicitContextTag4, ExplicitContextTag5, ExplicitContextTag6, ExplicitContextTag7,
     ExplicitContextTag8, Tag,
 };
-use picky_asn1_der::de::Begins;
+use picky_asn1_der::de::{Begins, Faithful, FaithfulMembers, Inhabited};
 use picky_asn1_der::misc::{ReadExt, WriteExt};
 use picky_asn1_der::ser::{Optional, OptionalRef};
 use picky_asn1_der::{
@@ -133,6 +135,16 @@ impl Exact for ApReqMembers {
         )) };
 
     ghost exact = { Prim.assumption };
+}
+
+impl Faithful for ApReqMembers {
+    ghost sameness = { struct_sameness ⟦<ApReqMembersParts as FaithfulMembers>⟧.sameness ⟦<Self as Struct>⟧.parts };
+
+    ghost respects = { Prim.assumption };
+}
+
+impl Inhabited for ApReqMembers {
+    ghost example = { exact_example ⟦<Self as Exact>⟧.values ⟦<Self as Exact>⟧.exact refl };
 }
 
 /// Bits from 0: reserved, use-session-key, mutual-required. `APOptions` of KerberosV5Spec2:
@@ -297,6 +309,17 @@ impl Exact for AuthenticatorMembers {
     ghost exact = { Prim.assumption };
 }
 
+impl Faithful for AuthenticatorMembers {
+    ghost sameness = { struct_sameness ⟦<AuthenticatorMembersParts as FaithfulMembers>⟧.sameness
+        ⟦<Self as Struct>⟧.parts };
+
+    ghost respects = { Prim.assumption };
+}
+
+impl Inhabited for AuthenticatorMembers {
+    ghost example = { exact_example ⟦<Self as Exact>⟧.values ⟦<Self as Exact>⟧.exact refl };
+}
+
 /// `AP-REP` of KerberosV5Spec2: `[APPLICATION 15] SEQUENCE { pvno [0] INTEGER (5), msg-type [1]
 /// INTEGER (15), enc-part [2] EncryptedData }`.
 pub type ApRep = ApplicationTag<ApRepMembers, 15>;
@@ -376,6 +399,16 @@ impl Exact for ApRepMembers {
         (λ m. (record { pvno = m.0; msg_type = m.1; enc_part = m.2 }, refl {a = m})) };
 
     ghost exact = { Prim.assumption };
+}
+
+impl Faithful for ApRepMembers {
+    ghost sameness = { struct_sameness ⟦<ApRepMembersParts as FaithfulMembers>⟧.sameness ⟦<Self as Struct>⟧.parts };
+
+    ghost respects = { Prim.assumption };
+}
+
+impl Inhabited for ApRepMembers {
+    ghost example = { exact_example ⟦<Self as Exact>⟧.values ⟦<Self as Exact>⟧.exact refl };
 }
 
 /// `EncAPRepPart` of KerberosV5Spec2: `[APPLICATION 27] SEQUENCE { ctime [0] KerberosTime, cusec
@@ -468,4 +501,15 @@ impl Exact for EncApRepPartMembers {
         (λ m. (record { ctime = m.0; cusec = m.1; subkey = m.2.0; seq_number = m.3.0 }, refl {a = m})) };
 
     ghost exact = { Prim.assumption };
+}
+
+impl Faithful for EncApRepPartMembers {
+    ghost sameness = { struct_sameness ⟦<EncApRepPartMembersParts as FaithfulMembers>⟧.sameness
+        ⟦<Self as Struct>⟧.parts };
+
+    ghost respects = { Prim.assumption };
+}
+
+impl Inhabited for EncApRepPartMembers {
+    ghost example = { exact_example ⟦<Self as Exact>⟧.values ⟦<Self as Exact>⟧.exact refl };
 }

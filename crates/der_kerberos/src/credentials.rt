@@ -2,9 +2,11 @@
 //!
 //! Types of KerberosV5Spec2.
 ghost use Rattle.std.specs.Prelude.{refl};
+ghost use Rattle.picky_der_de.specs.Faithful.{struct_sameness};
 ghost use Rattle.picky_der_de.specs.MembersFacts.{sequence_of, sequence_shape, struct_facts};
 ghost use Rattle.der_types.specs.Notation.{Notation};
 ghost use Rattle.der_types.specs.ExactMembers.{struct_values};
+ghost use Rattle.der_types.specs.SampleTrees.{exact_example};
 
 use crate::{
     EncryptedData, EncryptionKey, HostAddress, HostAddresses, KerberosTime, Microseconds,
@@ -17,7 +19,7 @@ use picky_asn1_der::asn1::{
     ExplicitContextTag4, ExplicitContextTag5, ExplicitContextTag6, ExplicitContextTag7,
     ExplicitContextTag8, ExplicitContextTag9, ExplicitContextTag10, Tag,
 };
-use picky_asn1_der::de::Begins;
+use picky_asn1_der::de::{Begins, Faithful, FaithfulMembers, Inhabited};
 use picky_asn1_der::misc::{ReadExt, WriteExt};
 use picky_asn1_der::ser::{Optional, OptionalRef};
 use picky_asn1_der::{
@@ -119,6 +121,16 @@ impl Exact for KrbCredMembers {
         (λ m. (record { pvno = m.0; msg_type = m.1; tickets = m.2; enc_part = m.3 }, refl {a = m})) };
 
     ghost exact = { Prim.assumption };
+}
+
+impl Faithful for KrbCredMembers {
+    ghost sameness = { struct_sameness ⟦<KrbCredMembersParts as FaithfulMembers>⟧.sameness ⟦<Self as Struct>⟧.parts };
+
+    ghost respects = { Prim.assumption };
+}
+
+impl Inhabited for KrbCredMembers {
+    ghost example = { exact_example ⟦<Self as Exact>⟧.values ⟦<Self as Exact>⟧.exact refl };
 }
 
 /// `EncKrbCredPart` of KerberosV5Spec2: `[APPLICATION 29] SEQUENCE { ticket-info [0] SEQUENCE OF
@@ -255,6 +267,17 @@ impl Exact for EncKrbCredPartMembers {
         )) };
 
     ghost exact = { Prim.assumption };
+}
+
+impl Faithful for EncKrbCredPartMembers {
+    ghost sameness = { struct_sameness ⟦<EncKrbCredPartMembersParts as FaithfulMembers>⟧.sameness
+        ⟦<Self as Struct>⟧.parts };
+
+    ghost respects = { Prim.assumption };
+}
+
+impl Inhabited for EncKrbCredPartMembers {
+    ghost example = { exact_example ⟦<Self as Exact>⟧.values ⟦<Self as Exact>⟧.exact refl };
 }
 
 /// `KrbCredInfo` of KerberosV5Spec2, as a SEQUENCE.
@@ -420,4 +443,14 @@ impl Exact for KrbCredInfo {
         )) };
 
     ghost exact = { Prim.assumption };
+}
+
+impl Faithful for KrbCredInfo {
+    ghost sameness = { struct_sameness ⟦<KrbCredInfoParts as FaithfulMembers>⟧.sameness ⟦<Self as Struct>⟧.parts };
+
+    ghost respects = { Prim.assumption };
+}
+
+impl Inhabited for KrbCredInfo {
+    ghost example = { exact_example ⟦<Self as Exact>⟧.values ⟦<Self as Exact>⟧.exact refl };
 }

@@ -2,9 +2,11 @@
 //!
 //! Types of KerberosV5Spec2.
 ghost use Rattle.std.specs.Prelude.{refl};
+ghost use Rattle.picky_der_de.specs.Faithful.{struct_sameness};
 ghost use Rattle.picky_der_de.specs.MembersFacts.{sequence_of, sequence_shape, struct_facts};
 ghost use Rattle.der_types.specs.Notation.{Notation};
 ghost use Rattle.der_types.specs.ExactMembers.{struct_values};
+ghost use Rattle.der_types.specs.SampleTrees.{exact_example};
 
 use crate::{Int32, KerberosString, KerberosTime, Microseconds, PaData, PrincipalName, Realm};
 use der_types::{Exact, ExactMembers, InRange, Notated, NotatedMembers, WithSize};
@@ -15,7 +17,7 @@ use picky_asn1_der::asn1::{
     ExplicitContextTag8, ExplicitContextTag9, ExplicitContextTag10, ExplicitContextTag11,
     ExplicitContextTag12, Tag,
 };
-use picky_asn1_der::de::Begins;
+use picky_asn1_der::de::{Begins, Faithful, FaithfulMembers, Inhabited};
 use picky_asn1_der::misc::{ReadExt, WriteExt};
 use picky_asn1_der::ser::{Optional, OptionalRef};
 use picky_asn1_der::{
@@ -209,6 +211,16 @@ impl Exact for KrbErrorMembers {
     ghost exact = { Prim.assumption };
 }
 
+impl Faithful for KrbErrorMembers {
+    ghost sameness = { struct_sameness ⟦<KrbErrorMembersParts as FaithfulMembers>⟧.sameness ⟦<Self as Struct>⟧.parts };
+
+    ghost respects = { Prim.assumption };
+}
+
+impl Inhabited for KrbErrorMembers {
+    ghost example = { exact_example ⟦<Self as Exact>⟧.values ⟦<Self as Exact>⟧.exact refl };
+}
+
 /// `METHOD-DATA` of KerberosV5Spec2: `SEQUENCE OF PA-DATA`.
 pub type MethodData = Vec<PaData>;
 
@@ -287,4 +299,14 @@ impl Exact for TypedDataItem {
         (λ m. (record { data_type = m.0; data_value = m.1.0 }, refl {a = m})) };
 
     ghost exact = { Prim.assumption };
+}
+
+impl Faithful for TypedDataItem {
+    ghost sameness = { struct_sameness ⟦<TypedDataItemParts as FaithfulMembers>⟧.sameness ⟦<Self as Struct>⟧.parts };
+
+    ghost respects = { Prim.assumption };
+}
+
+impl Inhabited for TypedDataItem {
+    ghost example = { exact_example ⟦<Self as Exact>⟧.values ⟦<Self as Exact>⟧.exact refl };
 }

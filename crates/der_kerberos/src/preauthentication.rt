@@ -2,16 +2,18 @@
 //!
 //! Types of KerberosV5Spec2.
 ghost use Rattle.std.specs.Prelude.{refl};
+ghost use Rattle.picky_der_de.specs.Faithful.{struct_sameness};
 ghost use Rattle.picky_der_de.specs.MembersFacts.{sequence_of, sequence_shape, struct_facts};
 ghost use Rattle.der_types.specs.Notation.{Notation};
 ghost use Rattle.der_types.specs.ExactMembers.{struct_values};
+ghost use Rattle.der_types.specs.SampleTrees.{exact_example};
 
 use crate::{EncryptedData, Int32, KerberosString, KerberosTime, Microseconds};
 use der_types::{Exact, ExactMembers, Notated, NotatedMembers, WithSize};
 use picky_asn1_der::asn1::{
     ByteBuf, ExplicitContextTag0, ExplicitContextTag1, ExplicitContextTag2, Tag,
 };
-use picky_asn1_der::de::Begins;
+use picky_asn1_der::de::{Begins, Faithful, FaithfulMembers, Inhabited};
 use picky_asn1_der::misc::{ReadExt, WriteExt};
 use picky_asn1_der::ser::{Optional, OptionalRef};
 use picky_asn1_der::{
@@ -95,6 +97,16 @@ impl Exact for PaEncTsEnc {
     ghost exact = { Prim.assumption };
 }
 
+impl Faithful for PaEncTsEnc {
+    ghost sameness = { struct_sameness ⟦<PaEncTsEncParts as FaithfulMembers>⟧.sameness ⟦<Self as Struct>⟧.parts };
+
+    ghost respects = { Prim.assumption };
+}
+
+impl Inhabited for PaEncTsEnc {
+    ghost example = { exact_example ⟦<Self as Exact>⟧.values ⟦<Self as Exact>⟧.exact refl };
+}
+
 /// `ETYPE-INFO-ENTRY` of KerberosV5Spec2, as a SEQUENCE.
 #[derive(Debug, Drop, PartialEq, Eq)]
 pub struct EtypeInfoEntry {
@@ -163,6 +175,16 @@ impl Exact for EtypeInfoEntry {
         (λ m. (record { etype = m.0; salt = m.1.0 }, refl {a = m})) };
 
     ghost exact = { Prim.assumption };
+}
+
+impl Faithful for EtypeInfoEntry {
+    ghost sameness = { struct_sameness ⟦<EtypeInfoEntryParts as FaithfulMembers>⟧.sameness ⟦<Self as Struct>⟧.parts };
+
+    ghost respects = { Prim.assumption };
+}
+
+impl Inhabited for EtypeInfoEntry {
+    ghost example = { exact_example ⟦<Self as Exact>⟧.values ⟦<Self as Exact>⟧.exact refl };
 }
 
 /// `ETYPE-INFO` of KerberosV5Spec2: `SEQUENCE OF ETYPE-INFO-ENTRY`.
@@ -251,6 +273,16 @@ impl Exact for EtypeInfo2Entry {
         (λ m. (record { etype = m.0; salt = m.1.0; s2kparams = m.2.0 }, refl {a = m})) };
 
     ghost exact = { Prim.assumption };
+}
+
+impl Faithful for EtypeInfo2Entry {
+    ghost sameness = { struct_sameness ⟦<EtypeInfo2EntryParts as FaithfulMembers>⟧.sameness ⟦<Self as Struct>⟧.parts };
+
+    ghost respects = { Prim.assumption };
+}
+
+impl Inhabited for EtypeInfo2Entry {
+    ghost example = { exact_example ⟦<Self as Exact>⟧.values ⟦<Self as Exact>⟧.exact refl };
 }
 
 /// `ETYPE-INFO2` of KerberosV5Spec2: `SEQUENCE SIZE (1..MAX) OF ETYPE-INFO2-ENTRY`.

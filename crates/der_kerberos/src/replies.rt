@@ -2,9 +2,11 @@
 //!
 //! Types of KerberosV5Spec2.
 ghost use Rattle.std.specs.Prelude.{refl};
+ghost use Rattle.picky_der_de.specs.Faithful.{struct_sameness};
 ghost use Rattle.picky_der_de.specs.MembersFacts.{sequence_of, sequence_shape, struct_facts};
 ghost use Rattle.der_types.specs.Notation.{Notation};
 ghost use Rattle.der_types.specs.ExactMembers.{struct_values};
+ghost use Rattle.der_types.specs.SampleTrees.{exact_example};
 
 use crate::{
     EncryptedData, EncryptionKey, HostAddresses, Int32, KerberosTime, PaData, PrincipalName, Realm,
@@ -18,7 +20,7 @@ use picky_asn1_der::asn1::{
     ExplicitContextTag8, ExplicitContextTag9, ExplicitContextTag10, ExplicitContextTag11,
     ExplicitContextTag12, Tag,
 };
-use picky_asn1_der::de::Begins;
+use picky_asn1_der::de::{Begins, Faithful, FaithfulMembers, Inhabited};
 use picky_asn1_der::misc::{ReadExt, WriteExt};
 use picky_asn1_der::ser::{Optional, OptionalRef};
 use picky_asn1_der::{
@@ -158,6 +160,16 @@ impl Exact for AsRepMembers {
     ghost exact = { Prim.assumption };
 }
 
+impl Faithful for AsRepMembers {
+    ghost sameness = { struct_sameness ⟦<AsRepMembersParts as FaithfulMembers>⟧.sameness ⟦<Self as Struct>⟧.parts };
+
+    ghost respects = { Prim.assumption };
+}
+
+impl Inhabited for AsRepMembers {
+    ghost example = { exact_example ⟦<Self as Exact>⟧.values ⟦<Self as Exact>⟧.exact refl };
+}
+
 /// `TGS-REP` of KerberosV5Spec2: `[APPLICATION 13] SEQUENCE { pvno [0] INTEGER (5), msg-type [1]
 /// INTEGER (13), padata [2] SEQUENCE OF PA-DATA OPTIONAL, crealm [3] Realm, cname [4]
 /// PrincipalName, ticket [5] Ticket, enc-part [6] EncryptedData }`.
@@ -288,6 +300,16 @@ impl Exact for TgsRepMembers {
         )) };
 
     ghost exact = { Prim.assumption };
+}
+
+impl Faithful for TgsRepMembers {
+    ghost sameness = { struct_sameness ⟦<TgsRepMembersParts as FaithfulMembers>⟧.sameness ⟦<Self as Struct>⟧.parts };
+
+    ghost respects = { Prim.assumption };
+}
+
+impl Inhabited for TgsRepMembers {
+    ghost example = { exact_example ⟦<Self as Exact>⟧.values ⟦<Self as Exact>⟧.exact refl };
 }
 
 /// `EncASRepPart` of KerberosV5Spec2: `[APPLICATION 25] EncKDCRepPart`.
@@ -491,6 +513,16 @@ impl Exact for EncKdcRepPart {
     ghost exact = { Prim.assumption };
 }
 
+impl Faithful for EncKdcRepPart {
+    ghost sameness = { struct_sameness ⟦<EncKdcRepPartParts as FaithfulMembers>⟧.sameness ⟦<Self as Struct>⟧.parts };
+
+    ghost respects = { Prim.assumption };
+}
+
+impl Inhabited for EncKdcRepPart {
+    ghost example = { exact_example ⟦<Self as Exact>⟧.values ⟦<Self as Exact>⟧.exact refl };
+}
+
 /// `LastReq` of KerberosV5Spec2: `SEQUENCE OF SEQUENCE { lr-type [0] Int32, lr-value [1]
 /// KerberosTime }`.
 pub type LastReq = Vec<LastReqItem>;
@@ -563,4 +595,14 @@ impl Exact for LastReqItem {
         (λ m. (record { lr_type = m.0; lr_value = m.1 }, refl {a = m})) };
 
     ghost exact = { Prim.assumption };
+}
+
+impl Faithful for LastReqItem {
+    ghost sameness = { struct_sameness ⟦<LastReqItemParts as FaithfulMembers>⟧.sameness ⟦<Self as Struct>⟧.parts };
+
+    ghost respects = { Prim.assumption };
+}
+
+impl Inhabited for LastReqItem {
+    ghost example = { exact_example ⟦<Self as Exact>⟧.values ⟦<Self as Exact>⟧.exact refl };
 }

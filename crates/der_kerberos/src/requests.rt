@@ -2,9 +2,11 @@
 //!
 //! Types of KerberosV5Spec2.
 ghost use Rattle.std.specs.Prelude.{refl};
+ghost use Rattle.picky_der_de.specs.Faithful.{struct_sameness};
 ghost use Rattle.picky_der_de.specs.MembersFacts.{sequence_of, sequence_shape, struct_facts};
 ghost use Rattle.der_types.specs.Notation.{Notation};
 ghost use Rattle.der_types.specs.ExactMembers.{struct_values};
+ghost use Rattle.der_types.specs.SampleTrees.{exact_example};
 
 use crate::{
     EncryptedData, HostAddresses, Int32, KerberosFlags, KerberosTime, PaData, PrincipalName, Realm,
@@ -17,7 +19,7 @@ use picky_asn1_der::asn1::{
     ExplicitContextTag4, ExplicitContextTag5, ExplicitContextTag6, ExplicitContextTag7,
     ExplicitContextTag8, ExplicitContextTag9, ExplicitContextTag10, ExplicitContextTag11, Tag,
 };
-use picky_asn1_der::de::Begins;
+use picky_asn1_der::de::{Begins, Faithful, FaithfulMembers, Inhabited};
 use picky_asn1_der::misc::{ReadExt, WriteExt};
 use picky_asn1_der::ser::{Optional, OptionalRef};
 use picky_asn1_der::{
@@ -125,6 +127,16 @@ impl Exact for AsReqMembers {
     ghost exact = { Prim.assumption };
 }
 
+impl Faithful for AsReqMembers {
+    ghost sameness = { struct_sameness ⟦<AsReqMembersParts as FaithfulMembers>⟧.sameness ⟦<Self as Struct>⟧.parts };
+
+    ghost respects = { Prim.assumption };
+}
+
+impl Inhabited for AsReqMembers {
+    ghost example = { exact_example ⟦<Self as Exact>⟧.values ⟦<Self as Exact>⟧.exact refl };
+}
+
 /// `TGS-REQ` of KerberosV5Spec2: `[APPLICATION 12] SEQUENCE { pvno [1] INTEGER (5), msg-type [2]
 /// INTEGER (12), padata [3] SEQUENCE OF PA-DATA OPTIONAL, req-body [4] KDC-REQ-BODY }`.
 ///
@@ -219,6 +231,16 @@ impl Exact for TgsReqMembers {
         (λ m. (record { pvno = m.0; msg_type = m.1; padata = m.2.0; req_body = m.3 }, refl {a = m})) };
 
     ghost exact = { Prim.assumption };
+}
+
+impl Faithful for TgsReqMembers {
+    ghost sameness = { struct_sameness ⟦<TgsReqMembersParts as FaithfulMembers>⟧.sameness ⟦<Self as Struct>⟧.parts };
+
+    ghost respects = { Prim.assumption };
+}
+
+impl Inhabited for TgsReqMembers {
+    ghost example = { exact_example ⟦<Self as Exact>⟧.values ⟦<Self as Exact>⟧.exact refl };
 }
 
 /// `KDC-REQ-BODY` of KerberosV5Spec2, as a SEQUENCE.
@@ -402,6 +424,16 @@ impl Exact for KdcReqBody {
         )) };
 
     ghost exact = { Prim.assumption };
+}
+
+impl Faithful for KdcReqBody {
+    ghost sameness = { struct_sameness ⟦<KdcReqBodyParts as FaithfulMembers>⟧.sameness ⟦<Self as Struct>⟧.parts };
+
+    ghost respects = { Prim.assumption };
+}
+
+impl Inhabited for KdcReqBody {
+    ghost example = { exact_example ⟦<Self as Exact>⟧.values ⟦<Self as Exact>⟧.exact refl };
 }
 
 /// Bits from 0: reserved, forwardable, forwarded, proxiable, proxy, allow-postdate, postdated,

@@ -2,9 +2,11 @@
 //!
 //! Types of KerberosV5Spec2.
 ghost use Rattle.std.specs.Prelude.{refl};
+ghost use Rattle.picky_der_de.specs.Faithful.{struct_sameness};
 ghost use Rattle.picky_der_de.specs.MembersFacts.{sequence_of, sequence_shape, struct_facts};
 ghost use Rattle.der_types.specs.Notation.{Notation};
 ghost use Rattle.der_types.specs.ExactMembers.{struct_values};
+ghost use Rattle.der_types.specs.SampleTrees.{exact_example};
 
 use crate::{Checksum, EncryptedData, HostAddress, KerberosTime, Microseconds, UInt32};
 use der_types::{Exact, ExactMembers, InRange, Notated, NotatedMembers};
@@ -13,7 +15,7 @@ use picky_asn1_der::asn1::{
     ByteBuf, ExplicitContextTag0, ExplicitContextTag1, ExplicitContextTag2, ExplicitContextTag3,
     ExplicitContextTag4, ExplicitContextTag5, Tag,
 };
-use picky_asn1_der::de::Begins;
+use picky_asn1_der::de::{Begins, Faithful, FaithfulMembers, Inhabited};
 use picky_asn1_der::misc::{ReadExt, WriteExt};
 use picky_asn1_der::ser::{Optional, OptionalRef};
 use picky_asn1_der::{
@@ -106,6 +108,16 @@ impl Exact for KrbSafeMembers {
         (λ m. (record { pvno = m.0; msg_type = m.1; safe_body = m.2; cksum = m.3 }, refl {a = m})) };
 
     ghost exact = { Prim.assumption };
+}
+
+impl Faithful for KrbSafeMembers {
+    ghost sameness = { struct_sameness ⟦<KrbSafeMembersParts as FaithfulMembers>⟧.sameness ⟦<Self as Struct>⟧.parts };
+
+    ghost respects = { Prim.assumption };
+}
+
+impl Inhabited for KrbSafeMembers {
+    ghost example = { exact_example ⟦<Self as Exact>⟧.values ⟦<Self as Exact>⟧.exact refl };
 }
 
 /// `KRB-SAFE-BODY` of KerberosV5Spec2, as a SEQUENCE.
@@ -232,6 +244,16 @@ impl Exact for KrbSafeBody {
     ghost exact = { Prim.assumption };
 }
 
+impl Faithful for KrbSafeBody {
+    ghost sameness = { struct_sameness ⟦<KrbSafeBodyParts as FaithfulMembers>⟧.sameness ⟦<Self as Struct>⟧.parts };
+
+    ghost respects = { Prim.assumption };
+}
+
+impl Inhabited for KrbSafeBody {
+    ghost example = { exact_example ⟦<Self as Exact>⟧.values ⟦<Self as Exact>⟧.exact refl };
+}
+
 /// `KRB-PRIV` of KerberosV5Spec2: `[APPLICATION 21] SEQUENCE { pvno [0] INTEGER (5), msg-type [1]
 /// INTEGER (21), enc-part [3] EncryptedData }`.
 pub type KrbPriv = ApplicationTag<KrbPrivMembers, 21>;
@@ -311,6 +333,16 @@ impl Exact for KrbPrivMembers {
         (λ m. (record { pvno = m.0; msg_type = m.1; enc_part = m.2 }, refl {a = m})) };
 
     ghost exact = { Prim.assumption };
+}
+
+impl Faithful for KrbPrivMembers {
+    ghost sameness = { struct_sameness ⟦<KrbPrivMembersParts as FaithfulMembers>⟧.sameness ⟦<Self as Struct>⟧.parts };
+
+    ghost respects = { Prim.assumption };
+}
+
+impl Inhabited for KrbPrivMembers {
+    ghost example = { exact_example ⟦<Self as Exact>⟧.values ⟦<Self as Exact>⟧.exact refl };
 }
 
 /// `EncKrbPrivPart` of KerberosV5Spec2: `[APPLICATION 28] SEQUENCE { user-data [0] OCTET STRING,
@@ -442,4 +474,15 @@ impl Exact for EncKrbPrivPartMembers {
         )) };
 
     ghost exact = { Prim.assumption };
+}
+
+impl Faithful for EncKrbPrivPartMembers {
+    ghost sameness = { struct_sameness ⟦<EncKrbPrivPartMembersParts as FaithfulMembers>⟧.sameness
+        ⟦<Self as Struct>⟧.parts };
+
+    ghost respects = { Prim.assumption };
+}
+
+impl Inhabited for EncKrbPrivPartMembers {
+    ghost example = { exact_example ⟦<Self as Exact>⟧.values ⟦<Self as Exact>⟧.exact refl };
 }

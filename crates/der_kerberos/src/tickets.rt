@@ -2,9 +2,11 @@
 //!
 //! Types of KerberosV5Spec2.
 ghost use Rattle.std.specs.Prelude.{refl};
+ghost use Rattle.picky_der_de.specs.Faithful.{struct_sameness};
 ghost use Rattle.picky_der_de.specs.MembersFacts.{sequence_of, sequence_shape, struct_facts};
 ghost use Rattle.der_types.specs.Notation.{Notation};
 ghost use Rattle.der_types.specs.ExactMembers.{struct_values};
+ghost use Rattle.der_types.specs.SampleTrees.{exact_example};
 
 use crate::{
     AuthorizationData, EncryptedData, EncryptionKey, HostAddresses, Int32, KerberosFlags,
@@ -17,7 +19,7 @@ use picky_asn1_der::asn1::{
     ExplicitContextTag4, ExplicitContextTag5, ExplicitContextTag6, ExplicitContextTag7,
     ExplicitContextTag8, ExplicitContextTag9, ExplicitContextTag10, Tag,
 };
-use picky_asn1_der::de::Begins;
+use picky_asn1_der::de::{Begins, Faithful, FaithfulMembers, Inhabited};
 use picky_asn1_der::misc::{ReadExt, WriteExt};
 use picky_asn1_der::ser::{Optional, OptionalRef};
 use picky_asn1_der::{
@@ -112,6 +114,16 @@ impl Exact for TicketMembers {
         (λ m. (record { tkt_vno = m.0; realm = m.1; sname = m.2; enc_part = m.3 }, refl {a = m})) };
 
     ghost exact = { Prim.assumption };
+}
+
+impl Faithful for TicketMembers {
+    ghost sameness = { struct_sameness ⟦<TicketMembersParts as FaithfulMembers>⟧.sameness ⟦<Self as Struct>⟧.parts };
+
+    ghost respects = { Prim.assumption };
+}
+
+impl Inhabited for TicketMembers {
+    ghost example = { exact_example ⟦<Self as Exact>⟧.values ⟦<Self as Exact>⟧.exact refl };
 }
 
 /// `EncTicketPart` of KerberosV5Spec2: `[APPLICATION 3] SEQUENCE { flags [0] TicketFlags, key [1]
@@ -279,6 +291,17 @@ impl Exact for EncTicketPartMembers {
     ghost exact = { Prim.assumption };
 }
 
+impl Faithful for EncTicketPartMembers {
+    ghost sameness = { struct_sameness ⟦<EncTicketPartMembersParts as FaithfulMembers>⟧.sameness
+        ⟦<Self as Struct>⟧.parts };
+
+    ghost respects = { Prim.assumption };
+}
+
+impl Inhabited for EncTicketPartMembers {
+    ghost example = { exact_example ⟦<Self as Exact>⟧.values ⟦<Self as Exact>⟧.exact refl };
+}
+
 /// `TransitedEncoding` of KerberosV5Spec2, as a SEQUENCE.
 #[derive(Debug, Drop, PartialEq, Eq)]
 pub struct TransitedEncoding {
@@ -343,6 +366,17 @@ impl Exact for TransitedEncoding {
         (λ m. (record { tr_type = m.0; contents = m.1 }, refl {a = m})) };
 
     ghost exact = { Prim.assumption };
+}
+
+impl Faithful for TransitedEncoding {
+    ghost sameness = { struct_sameness ⟦<TransitedEncodingParts as FaithfulMembers>⟧.sameness
+        ⟦<Self as Struct>⟧.parts };
+
+    ghost respects = { Prim.assumption };
+}
+
+impl Inhabited for TransitedEncoding {
+    ghost example = { exact_example ⟦<Self as Exact>⟧.values ⟦<Self as Exact>⟧.exact refl };
 }
 
 /// Bits from 0: reserved, forwardable, forwarded, proxiable, proxy, may-postdate, postdated,

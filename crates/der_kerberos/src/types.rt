@@ -2,9 +2,11 @@
 //!
 //! Types of KerberosV5Spec2.
 ghost use Rattle.std.specs.Prelude.{refl};
+ghost use Rattle.picky_der_de.specs.Faithful.{struct_sameness};
 ghost use Rattle.picky_der_de.specs.MembersFacts.{sequence_of, sequence_shape, struct_facts};
 ghost use Rattle.der_types.specs.Notation.{Notation};
 ghost use Rattle.der_types.specs.ExactMembers.{struct_values};
+ghost use Rattle.der_types.specs.SampleTrees.{exact_example};
 
 use der_types::{
     BitString, Exact, ExactMembers, GeneralString, GeneralizedTime, InRange, Notated,
@@ -14,7 +16,7 @@ use picky_asn1_der::asn1::{
     ByteBuf, ExplicitContextTag0, ExplicitContextTag1, ExplicitContextTag2, ExplicitContextTag3,
     Tag,
 };
-use picky_asn1_der::de::Begins;
+use picky_asn1_der::de::{Begins, Faithful, FaithfulMembers, Inhabited};
 use picky_asn1_der::misc::{ReadExt, WriteExt};
 use picky_asn1_der::ser::{Optional, OptionalRef};
 use picky_asn1_der::{
@@ -116,6 +118,16 @@ impl Exact for PrincipalName {
     ghost exact = { Prim.assumption };
 }
 
+impl Faithful for PrincipalName {
+    ghost sameness = { struct_sameness ⟦<PrincipalNameParts as FaithfulMembers>⟧.sameness ⟦<Self as Struct>⟧.parts };
+
+    ghost respects = { Prim.assumption };
+}
+
+impl Inhabited for PrincipalName {
+    ghost example = { exact_example ⟦<Self as Exact>⟧.values ⟦<Self as Exact>⟧.exact refl };
+}
+
 /// `YYYYMMDDHHMMSSZ`, without a fraction of a second. `KerberosTime` of KerberosV5Spec2:
 /// `GeneralizedTime (SIZE (15))`.
 pub type KerberosTime = WithSize<GeneralizedTime, 15, 15>;
@@ -184,6 +196,16 @@ impl Exact for HostAddress {
         (λ m. (record { addr_type = m.0; address = m.1 }, refl {a = m})) };
 
     ghost exact = { Prim.assumption };
+}
+
+impl Faithful for HostAddress {
+    ghost sameness = { struct_sameness ⟦<HostAddressParts as FaithfulMembers>⟧.sameness ⟦<Self as Struct>⟧.parts };
+
+    ghost respects = { Prim.assumption };
+}
+
+impl Inhabited for HostAddress {
+    ghost example = { exact_example ⟦<Self as Exact>⟧.values ⟦<Self as Exact>⟧.exact refl };
 }
 
 /// `HostAddresses` of KerberosV5Spec2: `SEQUENCE OF HostAddress`.
@@ -261,6 +283,17 @@ impl Exact for AuthorizationDataItem {
     ghost exact = { Prim.assumption };
 }
 
+impl Faithful for AuthorizationDataItem {
+    ghost sameness = { struct_sameness ⟦<AuthorizationDataItemParts as FaithfulMembers>⟧.sameness
+        ⟦<Self as Struct>⟧.parts };
+
+    ghost respects = { Prim.assumption };
+}
+
+impl Inhabited for AuthorizationDataItem {
+    ghost example = { exact_example ⟦<Self as Exact>⟧.values ⟦<Self as Exact>⟧.exact refl };
+}
+
 /// `PA-DATA` of KerberosV5Spec2, as a SEQUENCE.
 #[derive(Debug, Drop, PartialEq, Eq)]
 pub struct PaData {
@@ -328,6 +361,16 @@ impl Exact for PaData {
         (λ m. (record { padata_type = m.0; padata_value = m.1 }, refl {a = m})) };
 
     ghost exact = { Prim.assumption };
+}
+
+impl Faithful for PaData {
+    ghost sameness = { struct_sameness ⟦<PaDataParts as FaithfulMembers>⟧.sameness ⟦<Self as Struct>⟧.parts };
+
+    ghost respects = { Prim.assumption };
+}
+
+impl Inhabited for PaData {
+    ghost example = { exact_example ⟦<Self as Exact>⟧.values ⟦<Self as Exact>⟧.exact refl };
 }
 
 /// `KerberosFlags` of KerberosV5Spec2: `BIT STRING (SIZE (32..MAX))`.
@@ -410,6 +453,16 @@ impl Exact for EncryptedData {
     ghost exact = { Prim.assumption };
 }
 
+impl Faithful for EncryptedData {
+    ghost sameness = { struct_sameness ⟦<EncryptedDataParts as FaithfulMembers>⟧.sameness ⟦<Self as Struct>⟧.parts };
+
+    ghost respects = { Prim.assumption };
+}
+
+impl Inhabited for EncryptedData {
+    ghost example = { exact_example ⟦<Self as Exact>⟧.values ⟦<Self as Exact>⟧.exact refl };
+}
+
 /// `EncryptionKey` of KerberosV5Spec2, as a SEQUENCE.
 #[derive(Debug, Drop, PartialEq, Eq)]
 pub struct EncryptionKey {
@@ -474,6 +527,16 @@ impl Exact for EncryptionKey {
         (λ m. (record { keytype = m.0; keyvalue = m.1 }, refl {a = m})) };
 
     ghost exact = { Prim.assumption };
+}
+
+impl Faithful for EncryptionKey {
+    ghost sameness = { struct_sameness ⟦<EncryptionKeyParts as FaithfulMembers>⟧.sameness ⟦<Self as Struct>⟧.parts };
+
+    ghost respects = { Prim.assumption };
+}
+
+impl Inhabited for EncryptionKey {
+    ghost example = { exact_example ⟦<Self as Exact>⟧.values ⟦<Self as Exact>⟧.exact refl };
 }
 
 /// `Checksum` of KerberosV5Spec2, as a SEQUENCE.
@@ -543,6 +606,16 @@ impl Exact for Checksum {
         (λ m. (record { cksumtype = m.0; checksum = m.1 }, refl {a = m})) };
 
     ghost exact = { Prim.assumption };
+}
+
+impl Faithful for Checksum {
+    ghost sameness = { struct_sameness ⟦<ChecksumParts as FaithfulMembers>⟧.sameness ⟦<Self as Struct>⟧.parts };
+
+    ghost respects = { Prim.assumption };
+}
+
+impl Inhabited for Checksum {
+    ghost example = { exact_example ⟦<Self as Exact>⟧.values ⟦<Self as Exact>⟧.exact refl };
 }
 
 /// `AD-IF-RELEVANT` of KerberosV5Spec2: `AuthorizationData`.
@@ -638,6 +711,16 @@ impl Exact for AdKdcIssued {
     ghost exact = { Prim.assumption };
 }
 
+impl Faithful for AdKdcIssued {
+    ghost sameness = { struct_sameness ⟦<AdKdcIssuedParts as FaithfulMembers>⟧.sameness ⟦<Self as Struct>⟧.parts };
+
+    ghost respects = { Prim.assumption };
+}
+
+impl Inhabited for AdKdcIssued {
+    ghost example = { exact_example ⟦<Self as Exact>⟧.values ⟦<Self as Exact>⟧.exact refl };
+}
+
 /// `AD-AND-OR` of KerberosV5Spec2, as a SEQUENCE.
 #[derive(Debug, Drop, PartialEq, Eq)]
 pub struct AdAndOr {
@@ -709,6 +792,16 @@ impl Exact for AdAndOr {
         (λ m. (record { condition_count = m.0; elements = m.1 }, refl {a = m})) };
 
     ghost exact = { Prim.assumption };
+}
+
+impl Faithful for AdAndOr {
+    ghost sameness = { struct_sameness ⟦<AdAndOrParts as FaithfulMembers>⟧.sameness ⟦<Self as Struct>⟧.parts };
+
+    ghost respects = { Prim.assumption };
+}
+
+impl Inhabited for AdAndOr {
+    ghost example = { exact_example ⟦<Self as Exact>⟧.values ⟦<Self as Exact>⟧.exact refl };
 }
 
 /// `AD-MANDATORY-FOR-KDC` of KerberosV5Spec2: `AuthorizationData`.

@@ -2,9 +2,11 @@
 //!
 //! Types of PKCS-12.
 ghost use Rattle.std.specs.Prelude.{refl};
+ghost use Rattle.picky_der_de.specs.Faithful.{struct_sameness};
 ghost use Rattle.picky_der_de.specs.MembersFacts.{sequence_of, sequence_shape, struct_facts};
 ghost use Rattle.der_types.specs.Notation.{Notation};
 ghost use Rattle.der_types.specs.ExactMembers.{struct_values};
+ghost use Rattle.der_types.specs.SampleTrees.{exact_example};
 
 use der_cms::ContentInfo;
 use der_pkix::{EncryptedPrivateKeyInfo, PrivateKeyInfo};
@@ -13,7 +15,7 @@ use der_types::{
 };
 use der_x509::AlgorithmIdentifier;
 use picky_asn1_der::asn1::{Asn1SetOf, ByteBuf, ExplicitContextTag0, Tag};
-use picky_asn1_der::de::Begins;
+use picky_asn1_der::de::{Begins, Faithful, FaithfulMembers, Inhabited};
 use picky_asn1_der::misc::{ReadExt, WriteExt};
 use picky_asn1_der::ser::{Optional, OptionalRef};
 use picky_asn1_der::{
@@ -100,6 +102,16 @@ impl Exact for Pfx {
     ghost exact = { Prim.assumption };
 }
 
+impl Faithful for Pfx {
+    ghost sameness = { struct_sameness ⟦<PfxParts as FaithfulMembers>⟧.sameness ⟦<Self as Struct>⟧.parts };
+
+    ghost respects = { Prim.assumption };
+}
+
+impl Inhabited for Pfx {
+    ghost example = { exact_example ⟦<Self as Exact>⟧.values ⟦<Self as Exact>⟧.exact refl };
+}
+
 /// What authenticates the content by a password. `MacData` of PKCS-12, as a SEQUENCE.
 #[derive(Debug, Drop, PartialEq, Eq)]
 pub struct MacData {
@@ -174,6 +186,16 @@ impl Exact for MacData {
     ghost exact = { Prim.assumption };
 }
 
+impl Faithful for MacData {
+    ghost sameness = { struct_sameness ⟦<MacDataParts as FaithfulMembers>⟧.sameness ⟦<Self as Struct>⟧.parts };
+
+    ghost respects = { Prim.assumption };
+}
+
+impl Inhabited for MacData {
+    ghost example = { exact_example ⟦<Self as Exact>⟧.values ⟦<Self as Exact>⟧.exact refl };
+}
+
 /// Defined in RFC 2315, 9.4. `DigestInfo` of PKCS-12, as a SEQUENCE.
 #[derive(Debug, Drop, PartialEq, Eq)]
 pub struct DigestInfo {
@@ -241,6 +263,16 @@ impl Exact for DigestInfo {
         (λ m. (record { digest_algorithm = m.0; digest = m.1 }, refl {a = m})) };
 
     ghost exact = { Prim.assumption };
+}
+
+impl Faithful for DigestInfo {
+    ghost sameness = { struct_sameness ⟦<DigestInfoParts as FaithfulMembers>⟧.sameness ⟦<Self as Struct>⟧.parts };
+
+    ghost respects = { Prim.assumption };
+}
+
+impl Inhabited for DigestInfo {
+    ghost example = { exact_example ⟦<Self as Exact>⟧.values ⟦<Self as Exact>⟧.exact refl };
 }
 
 /// Messages of the kinds id-data, id-encryptedData and id-envelopedData, whose contents are
@@ -333,6 +365,16 @@ impl Exact for SafeBag {
     ghost exact = { Prim.assumption };
 }
 
+impl Faithful for SafeBag {
+    ghost sameness = { struct_sameness ⟦<SafeBagParts as FaithfulMembers>⟧.sameness ⟦<Self as Struct>⟧.parts };
+
+    ghost respects = { Prim.assumption };
+}
+
+impl Inhabited for SafeBag {
+    ghost example = { exact_example ⟦<Self as Exact>⟧.values ⟦<Self as Exact>⟧.exact refl };
+}
+
 /// `PKCS12Attribute` of PKCS-12, as a SEQUENCE.
 #[derive(Debug, Drop, PartialEq, Eq)]
 pub struct Pkcs12Attribute {
@@ -400,6 +442,16 @@ impl Exact for Pkcs12Attribute {
         (λ m. (record { attr_id = m.0; attr_values = m.1 }, refl {a = m})) };
 
     ghost exact = { Prim.assumption };
+}
+
+impl Faithful for Pkcs12Attribute {
+    ghost sameness = { struct_sameness ⟦<Pkcs12AttributeParts as FaithfulMembers>⟧.sameness ⟦<Self as Struct>⟧.parts };
+
+    ghost respects = { Prim.assumption };
+}
+
+impl Inhabited for Pkcs12Attribute {
+    ghost example = { exact_example ⟦<Self as Exact>⟧.values ⟦<Self as Exact>⟧.exact refl };
 }
 
 /// `KeyBag` of PKCS-12: `PrivateKeyInfo`.
@@ -477,6 +529,16 @@ impl Exact for CertBag {
     ghost exact = { Prim.assumption };
 }
 
+impl Faithful for CertBag {
+    ghost sameness = { struct_sameness ⟦<CertBagParts as FaithfulMembers>⟧.sameness ⟦<Self as Struct>⟧.parts };
+
+    ghost respects = { Prim.assumption };
+}
+
+impl Inhabited for CertBag {
+    ghost example = { exact_example ⟦<Self as Exact>⟧.values ⟦<Self as Exact>⟧.exact refl };
+}
+
 /// `CRLBag` of PKCS-12, as a SEQUENCE.
 #[derive(Debug, Drop, PartialEq, Eq)]
 pub struct CrlBag {
@@ -541,6 +603,16 @@ impl Exact for CrlBag {
         (λ m. (record { crl_id = m.0; crl_value = m.1 }, refl {a = m})) };
 
     ghost exact = { Prim.assumption };
+}
+
+impl Faithful for CrlBag {
+    ghost sameness = { struct_sameness ⟦<CrlBagParts as FaithfulMembers>⟧.sameness ⟦<Self as Struct>⟧.parts };
+
+    ghost respects = { Prim.assumption };
+}
+
+impl Inhabited for CrlBag {
+    ghost example = { exact_example ⟦<Self as Exact>⟧.values ⟦<Self as Exact>⟧.exact refl };
 }
 
 /// `SecretBag` of PKCS-12, as a SEQUENCE.
@@ -612,6 +684,16 @@ impl Exact for SecretBag {
     ghost exact = { Prim.assumption };
 }
 
+impl Faithful for SecretBag {
+    ghost sameness = { struct_sameness ⟦<SecretBagParts as FaithfulMembers>⟧.sameness ⟦<Self as Struct>⟧.parts };
+
+    ghost respects = { Prim.assumption };
+}
+
+impl Inhabited for SecretBag {
+    ghost example = { exact_example ⟦<Self as Exact>⟧.values ⟦<Self as Exact>⟧.exact refl };
+}
+
 /// RFC 7292 writes this name with a small letter. `PKCS-12PbeParams` of PKCS-12, as a SEQUENCE.
 #[derive(Debug, Drop, PartialEq, Eq)]
 pub struct Pkcs12PbeParams {
@@ -676,4 +758,14 @@ impl Exact for Pkcs12PbeParams {
         (λ m. (record { salt = m.0; iterations = m.1 }, refl {a = m})) };
 
     ghost exact = { Prim.assumption };
+}
+
+impl Faithful for Pkcs12PbeParams {
+    ghost sameness = { struct_sameness ⟦<Pkcs12PbeParamsParts as FaithfulMembers>⟧.sameness ⟦<Self as Struct>⟧.parts };
+
+    ghost respects = { Prim.assumption };
+}
+
+impl Inhabited for Pkcs12PbeParams {
+    ghost example = { exact_example ⟦<Self as Exact>⟧.values ⟦<Self as Exact>⟧.exact refl };
 }

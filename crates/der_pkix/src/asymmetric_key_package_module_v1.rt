@@ -4,13 +4,16 @@
 ghost use Rattle.std.proofs.Common.{lit≤};
 ghost use Rattle.std.specs.Prelude.{[], refl, ◌∷◌, ◌≡◌};
 ghost use Rattle.picky_der_core.specs.Equality.{IsKept};
+ghost use Rattle.picky_der_de.specs.Faithful.{struct_sameness};
 ghost use Rattle.picky_der_de.specs.MembersFacts.{sequence_of, sequence_shape, struct_facts};
 ghost use Rattle.der_types.specs.ContentsFacts.{contents_facts, contents_of, contents_shape};
 ghost use Rattle.der_types.specs.Notation.{Notation};
 ghost use Rattle.der_types.specs.ExactContents.{own_contents};
 ghost use Rattle.der_types.specs.ExactEnumerated.{named_values};
 ghost use Rattle.der_types.specs.ExactMembers.{struct_values};
-ghost use Rattle.der_pkix.specs.Enumerations.{is_key_version, key_version_number, same_key_version};
+ghost use Rattle.der_types.specs.Sameness.{content_sameness};
+ghost use Rattle.der_types.specs.SampleTrees.{exact_example};
+ghost use Rattle.der_pkix.specs.Enumerations.{is_key_version, key_version_number, key_version_respects, same_key_version};
 
 use crate::Attribute;
 use der_types::{
@@ -19,7 +22,7 @@ use der_types::{
 };
 use der_x509::AlgorithmIdentifier;
 use picky_asn1_der::asn1::{Asn1SetOf, ByteBuf, ImplicitContextTag1, ImplicitList0, Tag};
-use picky_asn1_der::de::Begins;
+use picky_asn1_der::de::{Begins, Faithful, FaithfulMembers, Inhabited};
 use picky_asn1_der::misc::{ReadExt, WriteExt};
 use picky_asn1_der::ser::{Optional, OptionalRef};
 use picky_asn1_der::{
@@ -148,6 +151,16 @@ impl Exact for OneAsymmetricKey {
     ghost exact = { Prim.assumption };
 }
 
+impl Faithful for OneAsymmetricKey {
+    ghost sameness = { struct_sameness ⟦<OneAsymmetricKeyParts as FaithfulMembers>⟧.sameness ⟦<Self as Struct>⟧.parts };
+
+    ghost respects = { Prim.assumption };
+}
+
+impl Inhabited for OneAsymmetricKey {
+    ghost example = { exact_example ⟦<Self as Exact>⟧.values ⟦<Self as Exact>⟧.exact refl };
+}
+
 /// The name of RFC 5208, whose type had no public key. `PrivateKeyInfo` of
 /// AsymmetricKeyPackageModuleV1: `OneAsymmetricKey`.
 pub type PrivateKeyInfo = OneAsymmetricKey;
@@ -274,6 +287,16 @@ impl ExactContents for KeyVersion {
     ghost exact_contents = { Prim.assumption };
 }
 
+impl Faithful for KeyVersion {
+    ghost sameness = { content_sameness 0x02 (λ it. key_version_number it ∷ []) ⟦<Self as PartialEq>⟧.eq key_version_respects };
+
+    ghost respects = { Prim.assumption };
+}
+
+impl Inhabited for KeyVersion {
+    ghost example = { exact_example ⟦<Self as Exact>⟧.values ⟦<Self as Exact>⟧.exact refl };
+}
+
 /// `PrivateKeyAlgorithmIdentifier` of AsymmetricKeyPackageModuleV1: `AlgorithmIdentifier`.
 pub type PrivateKeyAlgorithmIdentifier = AlgorithmIdentifier;
 
@@ -356,4 +379,15 @@ impl Exact for EncryptedPrivateKeyInfo {
         (λ m. (record { encryption_algorithm = m.0; encrypted_data = m.1 }, refl {a = m})) };
 
     ghost exact = { Prim.assumption };
+}
+
+impl Faithful for EncryptedPrivateKeyInfo {
+    ghost sameness = { struct_sameness ⟦<EncryptedPrivateKeyInfoParts as FaithfulMembers>⟧.sameness
+        ⟦<Self as Struct>⟧.parts };
+
+    ghost respects = { Prim.assumption };
+}
+
+impl Inhabited for EncryptedPrivateKeyInfo {
+    ghost example = { exact_example ⟦<Self as Exact>⟧.values ⟦<Self as Exact>⟧.exact refl };
 }

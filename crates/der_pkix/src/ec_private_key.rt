@@ -2,15 +2,17 @@
 //!
 //! Types of ECPrivateKey.
 ghost use Rattle.std.specs.Prelude.{refl};
+ghost use Rattle.picky_der_de.specs.Faithful.{struct_sameness};
 ghost use Rattle.picky_der_de.specs.MembersFacts.{sequence_of, sequence_shape, struct_facts};
 ghost use Rattle.der_types.specs.Notation.{Notation};
 ghost use Rattle.der_types.specs.ExactMembers.{struct_values};
+ghost use Rattle.der_types.specs.SampleTrees.{exact_example};
 
 use der_types::{
     BitString, Exact, ExactMembers, InRange, Notated, NotatedMembers, ObjectIdentifier,
 };
 use picky_asn1_der::asn1::{ByteBuf, ExplicitContextTag0, ExplicitContextTag1, Tag};
-use picky_asn1_der::de::Begins;
+use picky_asn1_der::de::{Begins, Faithful, FaithfulMembers, Inhabited};
 use picky_asn1_der::misc::{ReadExt, WriteExt};
 use picky_asn1_der::ser::{Optional, OptionalRef};
 use picky_asn1_der::{
@@ -110,6 +112,16 @@ impl Exact for EcPrivateKey {
         (λ m. (record { version = m.0; private_key = m.1; parameters = m.2.0; public_key = m.3.0 }, refl {a = m})) };
 
     ghost exact = { Prim.assumption };
+}
+
+impl Faithful for EcPrivateKey {
+    ghost sameness = { struct_sameness ⟦<EcPrivateKeyParts as FaithfulMembers>⟧.sameness ⟦<Self as Struct>⟧.parts };
+
+    ghost respects = { Prim.assumption };
+}
+
+impl Inhabited for EcPrivateKey {
+    ghost example = { exact_example ⟦<Self as Exact>⟧.values ⟦<Self as Exact>⟧.exact refl };
 }
 
 /// The name of the curve. RFC 5480 has a CHOICE with this alternative alone, whose encoding is the

@@ -6,10 +6,12 @@ ghost use Rattle.picky_der_core.specs.Shape.{Shape};
 ghost use Rattle.picky_der_de.specs.declared.alternatives.OneOf.TheVariants.{Other, This};
 ghost use Rattle.picky_der_de.specs.declared.choice4.Choice4.TheVariants.{First, Fourth, Later, Second, Third};
 ghost use Rattle.picky_der_de.specs.ChoiceFacts.{choice_facts};
+ghost use Rattle.picky_der_de.specs.Faithful.{choice_sameness, struct_sameness};
 ghost use Rattle.picky_der_de.specs.MembersFacts.{sequence_of, sequence_shape, struct_facts};
 ghost use Rattle.der_types.specs.Notation.{Notation};
 ghost use Rattle.der_types.specs.ExactChoices.{choice_values};
 ghost use Rattle.der_types.specs.ExactMembers.{struct_values};
+ghost use Rattle.der_types.specs.SampleTrees.{exact_example};
 
 use der_types::{
     Exact, ExactAlternatives, ExactMembers, Ia5String, Notated, NotatedAlternatives,
@@ -23,7 +25,9 @@ use picky_asn1_der::asn1::{
     ImplicitContextTag6, ImplicitContextTag7, ImplicitContextTag8, ImplicitList0, ImplicitList3,
     ImplicitList5, Tag,
 };
-use picky_asn1_der::de::{Begins, deserialize_choice_as};
+use picky_asn1_der::de::{
+    Begins, Faithful, FaithfulAlternatives, FaithfulMembers, Inhabited, deserialize_choice_as,
+};
 use picky_asn1_der::misc::{ReadExt, WriteExt};
 use picky_asn1_der::{
     Alternatives, Asn1RawDer, Choice, Choice4, Deserialize, DeserializeMembers, Deserializer, List,
@@ -179,6 +183,19 @@ impl Exact for GeneralName {
     ghost exact = { Prim.assumption };
 }
 
+impl Faithful for GeneralName {
+    ghost use Rattle.der_pkix.specs.declared.general_names.GeneralName.TheVariants as variants;
+
+    ghost sameness = { choice_sameness ⟦<GeneralNameParts as FaithfulAlternatives>⟧.sameness ⟦<Self as Choice>⟧.parts ⟦<Self as PartialEq>⟧.eq
+        (elim [ variants.OtherName _ ↦ elim [ variants.OtherName _ ↦ λ h. h | _ ↦ λ h. h ] | _ ↦ elim [ variants.OtherName _ ↦ λ h. h | _ ↦ λ h. h ] ]) };
+
+    ghost respects = { Prim.assumption };
+}
+
+impl Inhabited for GeneralName {
+    ghost example = { exact_example ⟦<Self as Exact>⟧.values ⟦<Self as Exact>⟧.exact refl };
+}
+
 /// `AnotherName` of PKIX1Implicit88, as a SEQUENCE.
 #[derive(Debug, Drop, PartialEq, Eq)]
 pub struct AnotherName {
@@ -243,6 +260,16 @@ impl Exact for AnotherName {
         (λ m. (record { type_id = m.0; value = m.1 }, refl {a = m})) };
 
     ghost exact = { Prim.assumption };
+}
+
+impl Faithful for AnotherName {
+    ghost sameness = { struct_sameness ⟦<AnotherNameParts as FaithfulMembers>⟧.sameness ⟦<Self as Struct>⟧.parts };
+
+    ghost respects = { Prim.assumption };
+}
+
+impl Inhabited for AnotherName {
+    ghost example = { exact_example ⟦<Self as Exact>⟧.values ⟦<Self as Exact>⟧.exact refl };
 }
 
 /// An X.400 address and an EDI name, by their members. The module that defines these isn't here.

@@ -7,6 +7,7 @@ ghost use Rattle.picky_der_core.specs.Equality.{IsKept};
 ghost use Rattle.picky_der_core.specs.Shape.{Shape};
 ghost use Rattle.picky_der_de.specs.declared.alternatives.OneOf.TheVariants.{Other, This};
 ghost use Rattle.picky_der_de.specs.ChoiceFacts.{choice_facts};
+ghost use Rattle.picky_der_de.specs.Faithful.{choice_sameness, struct_sameness};
 ghost use Rattle.picky_der_de.specs.MembersFacts.{sequence_of, sequence_shape, struct_facts};
 ghost use Rattle.der_types.specs.ContentsFacts.{contents_facts, contents_of, contents_shape};
 ghost use Rattle.der_types.specs.Notation.{Notation};
@@ -14,7 +15,10 @@ ghost use Rattle.der_types.specs.ExactChoices.{choice_values};
 ghost use Rattle.der_types.specs.ExactContents.{own_contents};
 ghost use Rattle.der_types.specs.ExactEnumerated.{enumerated_values};
 ghost use Rattle.der_types.specs.ExactMembers.{struct_values};
-ghost use Rattle.der_pkix.specs.Enumerations.{digested_object_type_number, is_digested_object_type, same_digested_object_type};
+ghost use Rattle.der_types.specs.Sameness.{content_sameness};
+ghost use Rattle.der_types.specs.SampleTrees.{exact_example};
+ghost use Rattle.der_pkix.specs.Enumerations.{digested_object_type_number, digested_object_type_respects, is_digested_object_type};
+ghost use Rattle.der_pkix.specs.Enumerations.{same_digested_object_type};
 
 use crate::GeneralNames;
 use der_types::{
@@ -24,7 +28,9 @@ use der_types::{
 use der_x509::{AlgorithmIdentifier, CertificateSerialNumber, UniqueIdentifier};
 use picky_asn1_der::OneOf::{Other, This};
 use picky_asn1_der::asn1::{ImplicitList0, ImplicitList1, ImplicitList2, Tag};
-use picky_asn1_der::de::{Begins, deserialize_choice_as};
+use picky_asn1_der::de::{
+    Begins, Faithful, FaithfulAlternatives, FaithfulMembers, Inhabited, deserialize_choice_as,
+};
 use picky_asn1_der::misc::{ReadExt, WriteExt};
 use picky_asn1_der::ser::{Optional, OptionalRef};
 use picky_asn1_der::{
@@ -133,6 +139,16 @@ impl Exact for Holder {
     ghost exact = { Prim.assumption };
 }
 
+impl Faithful for Holder {
+    ghost sameness = { struct_sameness ⟦<HolderParts as FaithfulMembers>⟧.sameness ⟦<Self as Struct>⟧.parts };
+
+    ghost respects = { Prim.assumption };
+}
+
+impl Inhabited for Holder {
+    ghost example = { exact_example ⟦<Self as Exact>⟧.values ⟦<Self as Exact>⟧.exact refl };
+}
+
 /// `ObjectDigestInfo` of PKIXAttributeCertificate-2008, as a SEQUENCE.
 #[derive(Debug, Drop, PartialEq, Eq)]
 pub struct ObjectDigestInfo {
@@ -239,6 +255,16 @@ impl Exact for ObjectDigestInfo {
         )) };
 
     ghost exact = { Prim.assumption };
+}
+
+impl Faithful for ObjectDigestInfo {
+    ghost sameness = { struct_sameness ⟦<ObjectDigestInfoParts as FaithfulMembers>⟧.sameness ⟦<Self as Struct>⟧.parts };
+
+    ghost respects = { Prim.assumption };
+}
+
+impl Inhabited for ObjectDigestInfo {
+    ghost example = { exact_example ⟦<Self as Exact>⟧.values ⟦<Self as Exact>⟧.exact refl };
 }
 
 /// RFC 5755 gives this type no name. `DigestedObjectType` of PKIXAttributeCertificate-2008, as an
@@ -374,6 +400,16 @@ impl ExactContents for DigestedObjectType {
     ghost exact_contents = { Prim.assumption };
 }
 
+impl Faithful for DigestedObjectType {
+    ghost sameness = { content_sameness 0x0A (λ it. digested_object_type_number it ∷ []) ⟦<Self as PartialEq>⟧.eq digested_object_type_respects };
+
+    ghost respects = { Prim.assumption };
+}
+
+impl Inhabited for DigestedObjectType {
+    ghost example = { exact_example ⟦<Self as Exact>⟧.values ⟦<Self as Exact>⟧.exact refl };
+}
+
 /// `AttCertIssuer` of PKIXAttributeCertificate-2008, as a CHOICE.
 #[derive(Debug, Drop, PartialEq, Eq)]
 pub enum AttCertIssuer {
@@ -450,6 +486,19 @@ impl Exact for AttCertIssuer {
         ]) };
 
     ghost exact = { Prim.assumption };
+}
+
+impl Faithful for AttCertIssuer {
+    ghost use Rattle.der_pkix.specs.declared.holders.AttCertIssuer.TheVariants as variants;
+
+    ghost sameness = { choice_sameness ⟦<AttCertIssuerParts as FaithfulAlternatives>⟧.sameness ⟦<Self as Choice>⟧.parts ⟦<Self as PartialEq>⟧.eq
+        (elim [ variants.V1Form _ ↦ elim [ variants.V1Form _ ↦ λ h. h | _ ↦ λ h. h ] | _ ↦ elim [ variants.V1Form _ ↦ λ h. h | _ ↦ λ h. h ] ]) };
+
+    ghost respects = { Prim.assumption };
+}
+
+impl Inhabited for AttCertIssuer {
+    ghost example = { exact_example ⟦<Self as Exact>⟧.values ⟦<Self as Exact>⟧.exact refl };
 }
 
 /// `V2Form` of PKIXAttributeCertificate-2008, as a SEQUENCE.
@@ -552,6 +601,16 @@ impl Exact for V2Form {
     ghost exact = { Prim.assumption };
 }
 
+impl Faithful for V2Form {
+    ghost sameness = { struct_sameness ⟦<V2FormParts as FaithfulMembers>⟧.sameness ⟦<Self as Struct>⟧.parts };
+
+    ghost respects = { Prim.assumption };
+}
+
+impl Inhabited for V2Form {
+    ghost example = { exact_example ⟦<Self as Exact>⟧.values ⟦<Self as Exact>⟧.exact refl };
+}
+
 /// `IssuerSerial` of PKIXAttributeCertificate-2008, as a SEQUENCE.
 #[derive(Debug, Drop, PartialEq, Eq)]
 pub struct IssuerSerial {
@@ -633,4 +692,14 @@ impl Exact for IssuerSerial {
         (λ m. (record { issuer = m.0; serial = m.1; issuer_uid = m.2.0 }, refl {a = m})) };
 
     ghost exact = { Prim.assumption };
+}
+
+impl Faithful for IssuerSerial {
+    ghost sameness = { struct_sameness ⟦<IssuerSerialParts as FaithfulMembers>⟧.sameness ⟦<Self as Struct>⟧.parts };
+
+    ghost respects = { Prim.assumption };
+}
+
+impl Inhabited for IssuerSerial {
+    ghost example = { exact_example ⟦<Self as Exact>⟧.values ⟦<Self as Exact>⟧.exact refl };
 }

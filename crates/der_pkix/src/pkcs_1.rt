@@ -2,13 +2,15 @@
 //!
 //! Types of PKCS-1.
 ghost use Rattle.std.specs.Prelude.{refl};
+ghost use Rattle.picky_der_de.specs.Faithful.{struct_sameness};
 ghost use Rattle.picky_der_de.specs.MembersFacts.{sequence_of, sequence_shape, struct_facts};
 ghost use Rattle.der_types.specs.Notation.{Notation};
 ghost use Rattle.der_types.specs.ExactMembers.{struct_values};
+ghost use Rattle.der_types.specs.SampleTrees.{exact_example};
 
 use der_types::{Exact, ExactMembers, Integer, Notated, NotatedMembers, WithSize};
 use picky_asn1_der::asn1::Tag;
-use picky_asn1_der::de::Begins;
+use picky_asn1_der::de::{Begins, Faithful, FaithfulMembers, Inhabited};
 use picky_asn1_der::misc::{ReadExt, WriteExt};
 use picky_asn1_der::ser::{Optional, OptionalRef};
 use picky_asn1_der::{
@@ -83,6 +85,16 @@ impl Exact for RsaPublicKey {
         (λ m. (record { modulus = m.0; public_exponent = m.1 }, refl {a = m})) };
 
     ghost exact = { Prim.assumption };
+}
+
+impl Faithful for RsaPublicKey {
+    ghost sameness = { struct_sameness ⟦<RsaPublicKeyParts as FaithfulMembers>⟧.sameness ⟦<Self as Struct>⟧.parts };
+
+    ghost respects = { Prim.assumption };
+}
+
+impl Inhabited for RsaPublicKey {
+    ghost example = { exact_example ⟦<Self as Exact>⟧.values ⟦<Self as Exact>⟧.exact refl };
 }
 
 /// `RSAPrivateKey` of PKCS-1, as a SEQUENCE.
@@ -238,6 +250,16 @@ impl Exact for RsaPrivateKey {
     ghost exact = { Prim.assumption };
 }
 
+impl Faithful for RsaPrivateKey {
+    ghost sameness = { struct_sameness ⟦<RsaPrivateKeyParts as FaithfulMembers>⟧.sameness ⟦<Self as Struct>⟧.parts };
+
+    ghost respects = { Prim.assumption };
+}
+
+impl Inhabited for RsaPrivateKey {
+    ghost example = { exact_example ⟦<Self as Exact>⟧.values ⟦<Self as Exact>⟧.exact refl };
+}
+
 /// `multi` exactly where there are other primes. RFC 8017 calls it Version. `RSAVersion` of PKCS-1:
 /// `INTEGER { two-prime (0), multi (1) }`.
 pub type RsaVersion = Integer;
@@ -315,4 +337,14 @@ impl Exact for OtherPrimeInfo {
         (λ m. (record { prime = m.0; exponent = m.1; coefficient = m.2 }, refl {a = m})) };
 
     ghost exact = { Prim.assumption };
+}
+
+impl Faithful for OtherPrimeInfo {
+    ghost sameness = { struct_sameness ⟦<OtherPrimeInfoParts as FaithfulMembers>⟧.sameness ⟦<Self as Struct>⟧.parts };
+
+    ghost respects = { Prim.assumption };
+}
+
+impl Inhabited for OtherPrimeInfo {
+    ghost example = { exact_example ⟦<Self as Exact>⟧.values ⟦<Self as Exact>⟧.exact refl };
 }

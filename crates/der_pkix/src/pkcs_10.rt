@@ -2,15 +2,17 @@
 //!
 //! Types of PKCS-10.
 ghost use Rattle.std.specs.Prelude.{refl};
+ghost use Rattle.picky_der_de.specs.Faithful.{struct_sameness};
 ghost use Rattle.picky_der_de.specs.MembersFacts.{sequence_of, sequence_shape, struct_facts};
 ghost use Rattle.der_types.specs.Notation.{Notation};
 ghost use Rattle.der_types.specs.ExactMembers.{struct_values};
+ghost use Rattle.der_types.specs.SampleTrees.{exact_example};
 
 use crate::Attribute;
 use der_types::{BitString, Exact, ExactMembers, InRange, Notated, NotatedMembers};
 use der_x509::{AlgorithmIdentifier, Name, SubjectPublicKeyInfo};
 use picky_asn1_der::asn1::{Asn1SetOf, ImplicitList0, Tag};
-use picky_asn1_der::de::Begins;
+use picky_asn1_der::de::{Begins, Faithful, FaithfulMembers, Inhabited};
 use picky_asn1_der::misc::{ReadExt, WriteExt};
 use picky_asn1_der::{
     Deserialize, DeserializeMembers, Deserializer, List, Result, Serialize, SerializeMembers,
@@ -103,6 +105,17 @@ impl Exact for CertificationRequest {
     ghost exact = { Prim.assumption };
 }
 
+impl Faithful for CertificationRequest {
+    ghost sameness = { struct_sameness ⟦<CertificationRequestParts as FaithfulMembers>⟧.sameness
+        ⟦<Self as Struct>⟧.parts };
+
+    ghost respects = { Prim.assumption };
+}
+
+impl Inhabited for CertificationRequest {
+    ghost example = { exact_example ⟦<Self as Exact>⟧.values ⟦<Self as Exact>⟧.exact refl };
+}
+
 /// `CertificationRequestInfo` of PKCS-10, as a SEQUENCE.
 #[derive(Debug, Drop, PartialEq, Eq)]
 pub struct CertificationRequestInfo {
@@ -191,6 +204,17 @@ impl Exact for CertificationRequestInfo {
         (λ m. (record { version = m.0; subject = m.1; subject_pk_info = m.2; attributes = m.3 }, refl {a = m})) };
 
     ghost exact = { Prim.assumption };
+}
+
+impl Faithful for CertificationRequestInfo {
+    ghost sameness = { struct_sameness ⟦<CertificationRequestInfoParts as FaithfulMembers>⟧.sameness
+        ⟦<Self as Struct>⟧.parts };
+
+    ghost respects = { Prim.assumption };
+}
+
+impl Inhabited for CertificationRequestInfo {
+    ghost example = { exact_example ⟦<Self as Exact>⟧.values ⟦<Self as Exact>⟧.exact refl };
 }
 
 /// RFC 2986 calls it Attributes. `CRIAttributes` of PKCS-10: `SET OF Attribute`.

@@ -2,9 +2,11 @@
 //!
 //! Types of PKIX1Implicit88.
 ghost use Rattle.std.specs.Prelude.{refl};
+ghost use Rattle.picky_der_de.specs.Faithful.{struct_sameness};
 ghost use Rattle.picky_der_de.specs.MembersFacts.{sequence_of, sequence_shape, struct_facts};
 ghost use Rattle.der_types.specs.Notation.{Notation};
 ghost use Rattle.der_types.specs.ExactMembers.{struct_values};
+ghost use Rattle.der_types.specs.SampleTrees.{exact_example};
 
 use crate::{GeneralName, GeneralNames};
 use der_types::{
@@ -15,7 +17,7 @@ use picky_asn1_der::asn1::{
     ByteBuf, ImplicitContextTag0, ImplicitContextTag1, ImplicitContextTag2, ImplicitList0,
     ImplicitList1, Tag,
 };
-use picky_asn1_der::de::Begins;
+use picky_asn1_der::de::{Begins, Faithful, FaithfulMembers, Inhabited};
 use picky_asn1_der::misc::{ReadExt, WriteExt};
 use picky_asn1_der::ser::{Defaulted, DefaultedRef, False, Optional, OptionalRef};
 use picky_asn1_der::{
@@ -125,6 +127,17 @@ impl Exact for AuthorityKeyIdentifier {
     ghost exact = { Prim.assumption };
 }
 
+impl Faithful for AuthorityKeyIdentifier {
+    ghost sameness = { struct_sameness ⟦<AuthorityKeyIdentifierParts as FaithfulMembers>⟧.sameness
+        ⟦<Self as Struct>⟧.parts };
+
+    ghost respects = { Prim.assumption };
+}
+
+impl Inhabited for AuthorityKeyIdentifier {
+    ghost example = { exact_example ⟦<Self as Exact>⟧.values ⟦<Self as Exact>⟧.exact refl };
+}
+
 /// `KeyIdentifier` of PKIX1Implicit88: `OCTET STRING`.
 pub type KeyIdentifier = ByteBuf;
 
@@ -207,6 +220,16 @@ impl Exact for BasicConstraints {
     ghost exact = { Prim.assumption };
 }
 
+impl Faithful for BasicConstraints {
+    ghost sameness = { struct_sameness ⟦<BasicConstraintsParts as FaithfulMembers>⟧.sameness ⟦<Self as Struct>⟧.parts };
+
+    ghost respects = { Prim.assumption };
+}
+
+impl Inhabited for BasicConstraints {
+    ghost example = { exact_example ⟦<Self as Exact>⟧.values ⟦<Self as Exact>⟧.exact refl };
+}
+
 /// `NameConstraints` of PKIX1Implicit88, as a SEQUENCE.
 ///
 /// Its values differ from the notation's. The crate lacks: DEFAULT of a constrained type; a type of
@@ -286,6 +309,16 @@ impl Exact for NameConstraints {
         (λ m. (record { permitted_subtrees = m.0.0; excluded_subtrees = m.1.0 }, refl {a = m})) };
 
     ghost exact = { Prim.assumption };
+}
+
+impl Faithful for NameConstraints {
+    ghost sameness = { struct_sameness ⟦<NameConstraintsParts as FaithfulMembers>⟧.sameness ⟦<Self as Struct>⟧.parts };
+
+    ghost respects = { Prim.assumption };
+}
+
+impl Inhabited for NameConstraints {
+    ghost example = { exact_example ⟦<Self as Exact>⟧.values ⟦<Self as Exact>⟧.exact refl };
 }
 
 /// `GeneralSubtrees` of PKIX1Implicit88: `SEQUENCE SIZE (1..MAX) OF GeneralSubtree`.
@@ -380,6 +413,16 @@ impl Exact for GeneralSubtree {
     ghost exact = { Prim.assumption };
 }
 
+impl Faithful for GeneralSubtree {
+    ghost sameness = { struct_sameness ⟦<GeneralSubtreeParts as FaithfulMembers>⟧.sameness ⟦<Self as Struct>⟧.parts };
+
+    ghost respects = { Prim.assumption };
+}
+
+impl Inhabited for GeneralSubtree {
+    ghost example = { exact_example ⟦<Self as Exact>⟧.values ⟦<Self as Exact>⟧.exact refl };
+}
+
 /// `BaseDistance` of PKIX1Implicit88: `INTEGER (0..MAX)`.
 ///
 /// Its values differ from the notation's. The crate lacks: a type of its own with `Constrained`.
@@ -464,4 +507,15 @@ impl Exact for AccessDescription {
         (λ m. (record { access_method = m.0; access_location = m.1 }, refl {a = m})) };
 
     ghost exact = { Prim.assumption };
+}
+
+impl Faithful for AccessDescription {
+    ghost sameness = { struct_sameness ⟦<AccessDescriptionParts as FaithfulMembers>⟧.sameness
+        ⟦<Self as Struct>⟧.parts };
+
+    ghost respects = { Prim.assumption };
+}
+
+impl Inhabited for AccessDescription {
+    ghost example = { exact_example ⟦<Self as Exact>⟧.values ⟦<Self as Exact>⟧.exact refl };
 }

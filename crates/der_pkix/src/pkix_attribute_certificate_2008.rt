@@ -5,10 +5,12 @@ ghost use Rattle.std.specs.Prelude.{refl};
 ghost use Rattle.picky_der_core.specs.Shape.{Shape};
 ghost use Rattle.picky_der_de.specs.declared.alternatives.OneOf.TheVariants.{Other, This};
 ghost use Rattle.picky_der_de.specs.ChoiceFacts.{choice_facts};
+ghost use Rattle.picky_der_de.specs.Faithful.{choice_sameness, struct_sameness};
 ghost use Rattle.picky_der_de.specs.MembersFacts.{sequence_of, sequence_shape, struct_facts};
 ghost use Rattle.der_types.specs.Notation.{Notation};
 ghost use Rattle.der_types.specs.ExactChoices.{choice_values};
 ghost use Rattle.der_types.specs.ExactMembers.{struct_values};
+ghost use Rattle.der_types.specs.SampleTrees.{exact_example};
 
 use crate::{AttCertIssuer, Attribute, GeneralName, Holder, IssuerSerial, ObjectDigestInfo};
 use der_types::{
@@ -20,7 +22,9 @@ use picky_asn1_der::OneOf::{Other, This};
 use picky_asn1_der::asn1::{
     ExplicitContextTag0, ExplicitContextTag1, ImplicitList0, ImplicitList1, ImplicitList2, Tag,
 };
-use picky_asn1_der::de::{Begins, deserialize_choice_as};
+use picky_asn1_der::de::{
+    Begins, Faithful, FaithfulAlternatives, FaithfulMembers, Inhabited, deserialize_choice_as,
+};
 use picky_asn1_der::misc::{ReadExt, WriteExt};
 use picky_asn1_der::ser::{Defaulted, DefaultedRef, Optional, OptionalRef, True};
 use picky_asn1_der::{
@@ -105,6 +109,17 @@ impl Exact for AttributeCertificate {
         (λ m. (record { acinfo = m.0; signature_algorithm = m.1; signature_value = m.2 }, refl {a = m})) };
 
     ghost exact = { Prim.assumption };
+}
+
+impl Faithful for AttributeCertificate {
+    ghost sameness = { struct_sameness ⟦<AttributeCertificateParts as FaithfulMembers>⟧.sameness
+        ⟦<Self as Struct>⟧.parts };
+
+    ghost respects = { Prim.assumption };
+}
+
+impl Inhabited for AttributeCertificate {
+    ghost example = { exact_example ⟦<Self as Exact>⟧.values ⟦<Self as Exact>⟧.exact refl };
 }
 
 /// `AttributeCertificateInfo` of PKIXAttributeCertificate-2008, as a SEQUENCE.
@@ -257,6 +272,17 @@ impl Exact for AttributeCertificateInfo {
     ghost exact = { Prim.assumption };
 }
 
+impl Faithful for AttributeCertificateInfo {
+    ghost sameness = { struct_sameness ⟦<AttributeCertificateInfoParts as FaithfulMembers>⟧.sameness
+        ⟦<Self as Struct>⟧.parts };
+
+    ghost respects = { Prim.assumption };
+}
+
+impl Inhabited for AttributeCertificateInfo {
+    ghost example = { exact_example ⟦<Self as Exact>⟧.values ⟦<Self as Exact>⟧.exact refl };
+}
+
 /// `AttCertVersion` of PKIXAttributeCertificate-2008: `INTEGER { v2 (1) } (v2)`.
 pub type AttCertVersion = InRange<u8, 1, 1>;
 
@@ -334,6 +360,17 @@ impl Exact for AttCertValidityPeriod {
         (λ m. (record { not_before_time = m.0; not_after_time = m.1 }, refl {a = m})) };
 
     ghost exact = { Prim.assumption };
+}
+
+impl Faithful for AttCertValidityPeriod {
+    ghost sameness = { struct_sameness ⟦<AttCertValidityPeriodParts as FaithfulMembers>⟧.sameness
+        ⟦<Self as Struct>⟧.parts };
+
+    ghost respects = { Prim.assumption };
+}
+
+impl Inhabited for AttCertValidityPeriod {
+    ghost example = { exact_example ⟦<Self as Exact>⟧.values ⟦<Self as Exact>⟧.exact refl };
 }
 
 /// The value of the extension id-ce-targetInformation. RFC 5755 gives this type no name.
@@ -433,6 +470,19 @@ impl Exact for Target {
     ghost exact = { Prim.assumption };
 }
 
+impl Faithful for Target {
+    ghost use Rattle.der_pkix.specs.declared.pkix_attribute_certificate_2008.Target.TheVariants as variants;
+
+    ghost sameness = { choice_sameness ⟦<TargetParts as FaithfulAlternatives>⟧.sameness ⟦<Self as Choice>⟧.parts ⟦<Self as PartialEq>⟧.eq
+        (elim [ variants.TargetName _ ↦ elim [ variants.TargetName _ ↦ λ h. h | _ ↦ λ h. h ] | _ ↦ elim [ variants.TargetName _ ↦ λ h. h | _ ↦ λ h. h ] ]) };
+
+    ghost respects = { Prim.assumption };
+}
+
+impl Inhabited for Target {
+    ghost example = { exact_example ⟦<Self as Exact>⟧.values ⟦<Self as Exact>⟧.exact refl };
+}
+
 /// `TargetCert` of PKIXAttributeCertificate-2008, as a SEQUENCE.
 #[derive(Debug, Drop, PartialEq, Eq)]
 pub struct TargetCert {
@@ -519,6 +569,16 @@ impl Exact for TargetCert {
         (λ m. (record { target_certificate = m.0; target_name = m.1.0; cert_digest_info = m.2.0 }, refl {a = m})) };
 
     ghost exact = { Prim.assumption };
+}
+
+impl Faithful for TargetCert {
+    ghost sameness = { struct_sameness ⟦<TargetCertParts as FaithfulMembers>⟧.sameness ⟦<Self as Struct>⟧.parts };
+
+    ghost respects = { Prim.assumption };
+}
+
+impl Inhabited for TargetCert {
+    ghost example = { exact_example ⟦<Self as Exact>⟧.values ⟦<Self as Exact>⟧.exact refl };
 }
 
 /// `ProxyInfo` of PKIXAttributeCertificate-2008: `SEQUENCE OF Targets`.
@@ -632,6 +692,16 @@ impl Exact for AaControls {
         )) };
 
     ghost exact = { Prim.assumption };
+}
+
+impl Faithful for AaControls {
+    ghost sameness = { struct_sameness ⟦<AaControlsParts as FaithfulMembers>⟧.sameness ⟦<Self as Struct>⟧.parts };
+
+    ghost respects = { Prim.assumption };
+}
+
+impl Inhabited for AaControls {
+    ghost example = { exact_example ⟦<Self as Exact>⟧.values ⟦<Self as Exact>⟧.exact refl };
 }
 
 /// `AttrSpec` of PKIXAttributeCertificate-2008: `SEQUENCE OF OBJECT IDENTIFIER`.

@@ -5,10 +5,12 @@ ghost use Rattle.std.specs.Prelude.{refl};
 ghost use Rattle.picky_der_core.specs.Shape.{Shape};
 ghost use Rattle.picky_der_de.specs.declared.choice4.Choice4.TheVariants.{First, Fourth, Later, Second, Third};
 ghost use Rattle.picky_der_de.specs.ChoiceFacts.{choice_facts};
+ghost use Rattle.picky_der_de.specs.Faithful.{choice_sameness, struct_sameness};
 ghost use Rattle.picky_der_de.specs.MembersFacts.{sequence_of, sequence_shape, struct_facts};
 ghost use Rattle.der_types.specs.Notation.{Notation};
 ghost use Rattle.der_types.specs.ExactChoices.{choice_values};
 ghost use Rattle.der_types.specs.ExactMembers.{struct_values};
+ghost use Rattle.der_types.specs.SampleTrees.{exact_example};
 
 use der_types::{
     BmpString, Exact, ExactAlternatives, ExactMembers, Ia5String, Integer, Notated,
@@ -16,7 +18,9 @@ use der_types::{
 };
 use picky_asn1_der::Choice4::{First, Fourth, Second, Third};
 use picky_asn1_der::asn1::{ImplicitContextTag0, ImplicitContextTag1, Tag};
-use picky_asn1_der::de::{Begins, deserialize_choice_as};
+use picky_asn1_der::de::{
+    Begins, Faithful, FaithfulAlternatives, FaithfulMembers, Inhabited, deserialize_choice_as,
+};
 use picky_asn1_der::misc::{ReadExt, WriteExt};
 use picky_asn1_der::ser::{Optional, OptionalRef};
 use picky_asn1_der::{
@@ -105,6 +109,17 @@ impl Exact for PolicyInformation {
     ghost exact = { Prim.assumption };
 }
 
+impl Faithful for PolicyInformation {
+    ghost sameness = { struct_sameness ⟦<PolicyInformationParts as FaithfulMembers>⟧.sameness
+        ⟦<Self as Struct>⟧.parts };
+
+    ghost respects = { Prim.assumption };
+}
+
+impl Inhabited for PolicyInformation {
+    ghost example = { exact_example ⟦<Self as Exact>⟧.values ⟦<Self as Exact>⟧.exact refl };
+}
+
 /// `CertPolicyId` of PKIX1Implicit88: `OBJECT IDENTIFIER`.
 pub type CertPolicyId = ObjectIdentifier;
 
@@ -175,6 +190,17 @@ impl Exact for PolicyQualifierInfo {
         (λ m. (record { policy_qualifier_id = m.0; qualifier = m.1 }, refl {a = m})) };
 
     ghost exact = { Prim.assumption };
+}
+
+impl Faithful for PolicyQualifierInfo {
+    ghost sameness = { struct_sameness ⟦<PolicyQualifierInfoParts as FaithfulMembers>⟧.sameness
+        ⟦<Self as Struct>⟧.parts };
+
+    ghost respects = { Prim.assumption };
+}
+
+impl Inhabited for PolicyQualifierInfo {
+    ghost example = { exact_example ⟦<Self as Exact>⟧.values ⟦<Self as Exact>⟧.exact refl };
 }
 
 /// `PolicyQualifierId` of PKIX1Implicit88: `OBJECT IDENTIFIER`.
@@ -257,6 +283,16 @@ impl Exact for UserNotice {
     ghost exact = { Prim.assumption };
 }
 
+impl Faithful for UserNotice {
+    ghost sameness = { struct_sameness ⟦<UserNoticeParts as FaithfulMembers>⟧.sameness ⟦<Self as Struct>⟧.parts };
+
+    ghost respects = { Prim.assumption };
+}
+
+impl Inhabited for UserNotice {
+    ghost example = { exact_example ⟦<Self as Exact>⟧.values ⟦<Self as Exact>⟧.exact refl };
+}
+
 /// `NoticeReference` of PKIX1Implicit88, as a SEQUENCE.
 #[derive(Debug, Drop, PartialEq, Eq)]
 pub struct NoticeReference {
@@ -324,6 +360,16 @@ impl Exact for NoticeReference {
         (λ m. (record { organization = m.0; notice_numbers = m.1 }, refl {a = m})) };
 
     ghost exact = { Prim.assumption };
+}
+
+impl Faithful for NoticeReference {
+    ghost sameness = { struct_sameness ⟦<NoticeReferenceParts as FaithfulMembers>⟧.sameness ⟦<Self as Struct>⟧.parts };
+
+    ghost respects = { Prim.assumption };
+}
+
+impl Inhabited for NoticeReference {
+    ghost example = { exact_example ⟦<Self as Exact>⟧.values ⟦<Self as Exact>⟧.exact refl };
 }
 
 /// `DisplayText` of PKIX1Implicit88, as a CHOICE.
@@ -427,6 +473,19 @@ impl Exact for DisplayText {
     ghost exact = { Prim.assumption };
 }
 
+impl Faithful for DisplayText {
+    ghost use Rattle.der_pkix.specs.declared.policies.DisplayText.TheVariants as variants;
+
+    ghost sameness = { choice_sameness ⟦<DisplayTextParts as FaithfulAlternatives>⟧.sameness ⟦<Self as Choice>⟧.parts ⟦<Self as PartialEq>⟧.eq
+        (elim [ variants.Ia5String _ ↦ elim [ variants.Ia5String _ ↦ λ h. h | _ ↦ λ h. h ] | _ ↦ elim [ variants.Ia5String _ ↦ λ h. h | _ ↦ λ h. h ] ]) };
+
+    ghost respects = { Prim.assumption };
+}
+
+impl Inhabited for DisplayText {
+    ghost example = { exact_example ⟦<Self as Exact>⟧.values ⟦<Self as Exact>⟧.exact refl };
+}
+
 /// `PolicyMappings` of PKIX1Implicit88: `SEQUENCE SIZE (1..MAX) OF SEQUENCE { issuerDomainPolicy
 /// CertPolicyId, subjectDomainPolicy CertPolicyId }`.
 pub type PolicyMappings = WithSize<Vec<PolicyMappingsItem>, 1, { usize::MAX }>;
@@ -498,6 +557,17 @@ impl Exact for PolicyMappingsItem {
         (λ m. (record { issuer_domain_policy = m.0; subject_domain_policy = m.1 }, refl {a = m})) };
 
     ghost exact = { Prim.assumption };
+}
+
+impl Faithful for PolicyMappingsItem {
+    ghost sameness = { struct_sameness ⟦<PolicyMappingsItemParts as FaithfulMembers>⟧.sameness
+        ⟦<Self as Struct>⟧.parts };
+
+    ghost respects = { Prim.assumption };
+}
+
+impl Inhabited for PolicyMappingsItem {
+    ghost example = { exact_example ⟦<Self as Exact>⟧.values ⟦<Self as Exact>⟧.exact refl };
 }
 
 /// `PolicyConstraints` of PKIX1Implicit88, as a SEQUENCE.
@@ -578,6 +648,17 @@ impl Exact for PolicyConstraints {
         (λ m. (record { require_explicit_policy = m.0.0; inhibit_policy_mapping = m.1.0 }, refl {a = m})) };
 
     ghost exact = { Prim.assumption };
+}
+
+impl Faithful for PolicyConstraints {
+    ghost sameness = { struct_sameness ⟦<PolicyConstraintsParts as FaithfulMembers>⟧.sameness
+        ⟦<Self as Struct>⟧.parts };
+
+    ghost respects = { Prim.assumption };
+}
+
+impl Inhabited for PolicyConstraints {
+    ghost example = { exact_example ⟦<Self as Exact>⟧.values ⟦<Self as Exact>⟧.exact refl };
 }
 
 /// `SkipCerts` of PKIX1Implicit88: `INTEGER (0..MAX)`.

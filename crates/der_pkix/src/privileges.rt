@@ -5,10 +5,12 @@ ghost use Rattle.std.specs.Prelude.{refl};
 ghost use Rattle.picky_der_core.specs.Shape.{Shape};
 ghost use Rattle.picky_der_de.specs.declared.alternatives.OneOf.TheVariants.{Other, This};
 ghost use Rattle.picky_der_de.specs.ChoiceFacts.{choice_facts};
+ghost use Rattle.picky_der_de.specs.Faithful.{choice_sameness, struct_sameness};
 ghost use Rattle.picky_der_de.specs.MembersFacts.{sequence_of, sequence_shape, struct_facts};
 ghost use Rattle.der_types.specs.Notation.{Notation};
 ghost use Rattle.der_types.specs.ExactChoices.{choice_values};
 ghost use Rattle.der_types.specs.ExactMembers.{struct_values};
+ghost use Rattle.der_types.specs.SampleTrees.{exact_example};
 
 use crate::{Attribute, GeneralName, GeneralNames};
 use der_types::{
@@ -19,7 +21,9 @@ use picky_asn1_der::OneOf::{Other, This};
 use picky_asn1_der::asn1::{
     Asn1SetOf, ByteBuf, ExplicitContextTag1, ImplicitContextTag0, ImplicitList0, Tag,
 };
-use picky_asn1_der::de::{Begins, deserialize_choice_as};
+use picky_asn1_der::de::{
+    Begins, Faithful, FaithfulAlternatives, FaithfulMembers, Inhabited, deserialize_choice_as,
+};
 use picky_asn1_der::misc::{ReadExt, WriteExt};
 use picky_asn1_der::ser::{Optional, OptionalRef};
 use picky_asn1_der::{
@@ -98,6 +102,16 @@ impl Exact for IetfAttrSyntax {
         (λ m. (record { policy_authority = m.0.0; values = m.1 }, refl {a = m})) };
 
     ghost exact = { Prim.assumption };
+}
+
+impl Faithful for IetfAttrSyntax {
+    ghost sameness = { struct_sameness ⟦<IetfAttrSyntaxParts as FaithfulMembers>⟧.sameness ⟦<Self as Struct>⟧.parts };
+
+    ghost respects = { Prim.assumption };
+}
+
+impl Inhabited for IetfAttrSyntax {
+    ghost example = { exact_example ⟦<Self as Exact>⟧.values ⟦<Self as Exact>⟧.exact refl };
 }
 
 /// RFC 5755 gives this type no name. `IetfAttrValue` of PKIXAttributeCertificate-2008, as a CHOICE.
@@ -187,6 +201,19 @@ impl Exact for IetfAttrValue {
     ghost exact = { Prim.assumption };
 }
 
+impl Faithful for IetfAttrValue {
+    ghost use Rattle.der_pkix.specs.declared.privileges.IetfAttrValue.TheVariants as variants;
+
+    ghost sameness = { choice_sameness ⟦<IetfAttrValueParts as FaithfulAlternatives>⟧.sameness ⟦<Self as Choice>⟧.parts ⟦<Self as PartialEq>⟧.eq
+        (elim [ variants.Octets _ ↦ elim [ variants.Octets _ ↦ λ h. h | _ ↦ λ h. h ] | _ ↦ elim [ variants.Octets _ ↦ λ h. h | _ ↦ λ h. h ] ]) };
+
+    ghost respects = { Prim.assumption };
+}
+
+impl Inhabited for IetfAttrValue {
+    ghost example = { exact_example ⟦<Self as Exact>⟧.values ⟦<Self as Exact>⟧.exact refl };
+}
+
 /// `SvceAuthInfo` of PKIXAttributeCertificate-2008, as a SEQUENCE.
 #[derive(Debug, Drop, PartialEq, Eq)]
 pub struct SvceAuthInfo {
@@ -261,6 +288,16 @@ impl Exact for SvceAuthInfo {
     ghost exact = { Prim.assumption };
 }
 
+impl Faithful for SvceAuthInfo {
+    ghost sameness = { struct_sameness ⟦<SvceAuthInfoParts as FaithfulMembers>⟧.sameness ⟦<Self as Struct>⟧.parts };
+
+    ghost respects = { Prim.assumption };
+}
+
+impl Inhabited for SvceAuthInfo {
+    ghost example = { exact_example ⟦<Self as Exact>⟧.values ⟦<Self as Exact>⟧.exact refl };
+}
+
 /// `RoleSyntax` of PKIXAttributeCertificate-2008, as a SEQUENCE.
 #[derive(Debug, Drop, PartialEq, Eq)]
 pub struct RoleSyntax {
@@ -332,6 +369,16 @@ impl Exact for RoleSyntax {
         (λ m. (record { role_authority = m.0.0; role_name = m.1 }, refl {a = m})) };
 
     ghost exact = { Prim.assumption };
+}
+
+impl Faithful for RoleSyntax {
+    ghost sameness = { struct_sameness ⟦<RoleSyntaxParts as FaithfulMembers>⟧.sameness ⟦<Self as Struct>⟧.parts };
+
+    ghost respects = { Prim.assumption };
+}
+
+impl Inhabited for RoleSyntax {
+    ghost example = { exact_example ⟦<Self as Exact>⟧.values ⟦<Self as Exact>⟧.exact refl };
 }
 
 /// `Clearance` of PKIXAttributeCertificate-2008, as a SEQUENCE.
@@ -420,6 +467,16 @@ impl Exact for Clearance {
     ghost exact = { Prim.assumption };
 }
 
+impl Faithful for Clearance {
+    ghost sameness = { struct_sameness ⟦<ClearanceParts as FaithfulMembers>⟧.sameness ⟦<Self as Struct>⟧.parts };
+
+    ghost respects = { Prim.assumption };
+}
+
+impl Inhabited for Clearance {
+    ghost example = { exact_example ⟦<Self as Exact>⟧.values ⟦<Self as Exact>⟧.exact refl };
+}
+
 /// `ClassList` of PKIXAttributeCertificate-2008: `BIT STRING { unmarked (0), unclassified (1),
 /// restricted (2), confidential (3), secret (4), topSecret (5) }`.
 pub type ClassList = NamedBits;
@@ -494,6 +551,16 @@ impl Exact for SecurityCategory {
     ghost exact = { Prim.assumption };
 }
 
+impl Faithful for SecurityCategory {
+    ghost sameness = { struct_sameness ⟦<SecurityCategoryParts as FaithfulMembers>⟧.sameness ⟦<Self as Struct>⟧.parts };
+
+    ghost respects = { Prim.assumption };
+}
+
+impl Inhabited for SecurityCategory {
+    ghost example = { exact_example ⟦<Self as Exact>⟧.values ⟦<Self as Exact>⟧.exact refl };
+}
+
 /// Attributes that are encrypted, as the content of an EnvelopedData. `ACClearAttrs` of
 /// PKIXAttributeCertificate-2008, as a SEQUENCE.
 #[derive(Debug, Drop, PartialEq, Eq)]
@@ -565,4 +632,14 @@ impl Exact for AcClearAttrs {
         (λ m. (record { ac_issuer = m.0; ac_serial = m.1; attrs = m.2 }, refl {a = m})) };
 
     ghost exact = { Prim.assumption };
+}
+
+impl Faithful for AcClearAttrs {
+    ghost sameness = { struct_sameness ⟦<AcClearAttrsParts as FaithfulMembers>⟧.sameness ⟦<Self as Struct>⟧.parts };
+
+    ghost respects = { Prim.assumption };
+}
+
+impl Inhabited for AcClearAttrs {
+    ghost example = { exact_example ⟦<Self as Exact>⟧.values ⟦<Self as Exact>⟧.exact refl };
 }

@@ -7,6 +7,7 @@ ghost use Rattle.picky_der_core.specs.Equality.{IsKept};
 ghost use Rattle.picky_der_core.specs.Shape.{Shape};
 ghost use Rattle.picky_der_de.specs.declared.alternatives.OneOf.TheVariants.{Other, This};
 ghost use Rattle.picky_der_de.specs.ChoiceFacts.{choice_facts};
+ghost use Rattle.picky_der_de.specs.Faithful.{choice_sameness, struct_sameness};
 ghost use Rattle.picky_der_de.specs.MembersFacts.{sequence_of, sequence_shape, struct_facts};
 ghost use Rattle.der_types.specs.ContentsFacts.{contents_facts, contents_of, contents_shape};
 ghost use Rattle.der_types.specs.Notation.{Notation};
@@ -14,7 +15,9 @@ ghost use Rattle.der_types.specs.ExactChoices.{choice_values};
 ghost use Rattle.der_types.specs.ExactContents.{own_contents};
 ghost use Rattle.der_types.specs.ExactEnumerated.{enumerated_values};
 ghost use Rattle.der_types.specs.ExactMembers.{struct_values};
-ghost use Rattle.der_pkix.specs.Enumerations.{crl_reason_number, is_crl_reason, same_crl_reason};
+ghost use Rattle.der_types.specs.Sameness.{content_sameness};
+ghost use Rattle.der_types.specs.SampleTrees.{exact_example};
+ghost use Rattle.der_pkix.specs.Enumerations.{crl_reason_number, crl_reason_respects, is_crl_reason, same_crl_reason};
 
 use crate::GeneralNames;
 use der_types::{
@@ -28,7 +31,9 @@ use picky_asn1_der::asn1::{
     ExplicitContextTag0, ImplicitContextTag1, ImplicitContextTag2, ImplicitContextTag3,
     ImplicitContextTag4, ImplicitContextTag5, ImplicitList0, ImplicitList1, ImplicitList2, Tag,
 };
-use picky_asn1_der::de::{Begins, deserialize_choice_as};
+use picky_asn1_der::de::{
+    Begins, Faithful, FaithfulAlternatives, FaithfulMembers, Inhabited, deserialize_choice_as,
+};
 use picky_asn1_der::misc::{ReadExt, WriteExt};
 use picky_asn1_der::ser::{Defaulted, DefaultedRef, False, Optional, OptionalRef};
 use picky_asn1_der::{
@@ -127,6 +132,17 @@ impl Exact for DistributionPoint {
     ghost exact = { Prim.assumption };
 }
 
+impl Faithful for DistributionPoint {
+    ghost sameness = { struct_sameness ⟦<DistributionPointParts as FaithfulMembers>⟧.sameness
+        ⟦<Self as Struct>⟧.parts };
+
+    ghost respects = { Prim.assumption };
+}
+
+impl Inhabited for DistributionPoint {
+    ghost example = { exact_example ⟦<Self as Exact>⟧.values ⟦<Self as Exact>⟧.exact refl };
+}
+
 /// `DistributionPointName` of PKIX1Implicit88, as a CHOICE.
 #[derive(Debug, Drop, PartialEq, Eq)]
 pub enum DistributionPointName {
@@ -212,6 +228,19 @@ impl Exact for DistributionPointName {
         ]) };
 
     ghost exact = { Prim.assumption };
+}
+
+impl Faithful for DistributionPointName {
+    ghost use Rattle.der_pkix.specs.declared.revocation.DistributionPointName.TheVariants as variants;
+
+    ghost sameness = { choice_sameness ⟦<DistributionPointNameParts as FaithfulAlternatives>⟧.sameness ⟦<Self as Choice>⟧.parts ⟦<Self as PartialEq>⟧.eq
+        (elim [ variants.FullName _ ↦ elim [ variants.FullName _ ↦ λ h. h | _ ↦ λ h. h ] | _ ↦ elim [ variants.FullName _ ↦ λ h. h | _ ↦ λ h. h ] ]) };
+
+    ghost respects = { Prim.assumption };
+}
+
+impl Inhabited for DistributionPointName {
+    ghost example = { exact_example ⟦<Self as Exact>⟧.values ⟦<Self as Exact>⟧.exact refl };
 }
 
 /// `ReasonFlags` of PKIX1Implicit88: `BIT STRING { unused (0), keyCompromise (1), cACompromise (2),
@@ -358,6 +387,17 @@ impl Exact for IssuingDistributionPoint {
         )) };
 
     ghost exact = { Prim.assumption };
+}
+
+impl Faithful for IssuingDistributionPoint {
+    ghost sameness = { struct_sameness ⟦<IssuingDistributionPointParts as FaithfulMembers>⟧.sameness
+        ⟦<Self as Struct>⟧.parts };
+
+    ghost respects = { Prim.assumption };
+}
+
+impl Inhabited for IssuingDistributionPoint {
+    ghost example = { exact_example ⟦<Self as Exact>⟧.values ⟦<Self as Exact>⟧.exact refl };
 }
 
 /// `CRLReason` of PKIX1Implicit88, as an ENUMERATED. Every other content is refused with
@@ -547,6 +587,16 @@ impl ExactContents for CrlReason {
     ghost own_contents = { own_contents 0x0A (λ it. crl_reason_number it ∷ []) (lit≤ tt) };
 
     ghost exact_contents = { Prim.assumption };
+}
+
+impl Faithful for CrlReason {
+    ghost sameness = { content_sameness 0x0A (λ it. crl_reason_number it ∷ []) ⟦<Self as PartialEq>⟧.eq crl_reason_respects };
+
+    ghost respects = { Prim.assumption };
+}
+
+impl Inhabited for CrlReason {
+    ghost example = { exact_example ⟦<Self as Exact>⟧.values ⟦<Self as Exact>⟧.exact refl };
 }
 
 /// `CertificateIssuer` of PKIX1Implicit88: `GeneralNames`.

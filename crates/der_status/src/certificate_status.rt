@@ -5,10 +5,12 @@ ghost use Rattle.std.specs.Prelude.{refl};
 ghost use Rattle.picky_der_core.specs.Shape.{Shape};
 ghost use Rattle.picky_der_de.specs.declared.alternatives.OneOf.TheVariants.{Other, This};
 ghost use Rattle.picky_der_de.specs.ChoiceFacts.{choice_facts};
+ghost use Rattle.picky_der_de.specs.Faithful.{choice_sameness, struct_sameness};
 ghost use Rattle.picky_der_de.specs.MembersFacts.{sequence_of, sequence_shape, struct_facts};
 ghost use Rattle.der_types.specs.Notation.{Notation};
 ghost use Rattle.der_types.specs.ExactChoices.{choice_values};
 ghost use Rattle.der_types.specs.ExactMembers.{struct_values};
+ghost use Rattle.der_types.specs.SampleTrees.{exact_example};
 
 use crate::{CertId, ResponseTime};
 use der_pkix::CrlReason;
@@ -21,7 +23,9 @@ use picky_asn1_der::asn1::{
     ExplicitContextTag0, ExplicitContextTag1, ImplicitContextTag0, ImplicitContextTag2,
     ImplicitList1, Tag,
 };
-use picky_asn1_der::de::{Begins, deserialize_choice_as};
+use picky_asn1_der::de::{
+    Begins, Faithful, FaithfulAlternatives, FaithfulMembers, Inhabited, deserialize_choice_as,
+};
 use picky_asn1_der::misc::{ReadExt, WriteExt};
 use picky_asn1_der::ser::{Optional, OptionalRef};
 use picky_asn1_der::{
@@ -145,6 +149,16 @@ impl Exact for SingleResponse {
     ghost exact = { Prim.assumption };
 }
 
+impl Faithful for SingleResponse {
+    ghost sameness = { struct_sameness ⟦<SingleResponseParts as FaithfulMembers>⟧.sameness ⟦<Self as Struct>⟧.parts };
+
+    ghost respects = { Prim.assumption };
+}
+
+impl Inhabited for SingleResponse {
+    ghost example = { exact_example ⟦<Self as Exact>⟧.values ⟦<Self as Exact>⟧.exact refl };
+}
+
 /// `CertStatus` of OCSP-2013-88, as a CHOICE.
 #[derive(Debug, Drop, PartialEq, Eq)]
 pub enum CertStatus {
@@ -235,6 +249,19 @@ impl Exact for CertStatus {
     ghost exact = { Prim.assumption };
 }
 
+impl Faithful for CertStatus {
+    ghost use Rattle.der_status.specs.declared.certificate_status.CertStatus.TheVariants as variants;
+
+    ghost sameness = { choice_sameness ⟦<CertStatusParts as FaithfulAlternatives>⟧.sameness ⟦<Self as Choice>⟧.parts ⟦<Self as PartialEq>⟧.eq
+        (elim [ variants.Good _ ↦ elim [ variants.Good _ ↦ λ h. h | _ ↦ λ h. h ] | _ ↦ elim [ variants.Good _ ↦ λ h. h | _ ↦ λ h. h ] ]) };
+
+    ghost respects = { Prim.assumption };
+}
+
+impl Inhabited for CertStatus {
+    ghost example = { exact_example ⟦<Self as Exact>⟧.values ⟦<Self as Exact>⟧.exact refl };
+}
+
 /// `RevokedInfo` of OCSP-2013-88, as a SEQUENCE.
 #[derive(Debug, Drop, PartialEq, Eq)]
 pub struct RevokedInfo {
@@ -307,6 +334,16 @@ impl Exact for RevokedInfo {
         (λ m. (record { revocation_time = m.0; revocation_reason = m.1.0 }, refl {a = m})) };
 
     ghost exact = { Prim.assumption };
+}
+
+impl Faithful for RevokedInfo {
+    ghost sameness = { struct_sameness ⟦<RevokedInfoParts as FaithfulMembers>⟧.sameness ⟦<Self as Struct>⟧.parts };
+
+    ghost respects = { Prim.assumption };
+}
+
+impl Inhabited for RevokedInfo {
+    ghost example = { exact_example ⟦<Self as Exact>⟧.values ⟦<Self as Exact>⟧.exact refl };
 }
 
 /// `UnknownInfo` of OCSP-2013-88: `NULL`.

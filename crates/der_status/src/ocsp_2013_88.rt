@@ -7,6 +7,7 @@ ghost use Rattle.picky_der_core.specs.Equality.{IsKept};
 ghost use Rattle.picky_der_core.specs.Shape.{Shape};
 ghost use Rattle.picky_der_de.specs.declared.alternatives.OneOf.TheVariants.{Other, This};
 ghost use Rattle.picky_der_de.specs.ChoiceFacts.{choice_facts};
+ghost use Rattle.picky_der_de.specs.Faithful.{choice_sameness, struct_sameness};
 ghost use Rattle.picky_der_de.specs.MembersFacts.{sequence_of, sequence_shape, struct_facts};
 ghost use Rattle.der_types.specs.ContentsFacts.{contents_facts, contents_of, contents_shape};
 ghost use Rattle.der_types.specs.Notation.{Notation};
@@ -14,7 +15,10 @@ ghost use Rattle.der_types.specs.ExactChoices.{choice_values};
 ghost use Rattle.der_types.specs.ExactContents.{own_contents};
 ghost use Rattle.der_types.specs.ExactEnumerated.{enumerated_values};
 ghost use Rattle.der_types.specs.ExactMembers.{struct_values};
-ghost use Rattle.der_status.specs.Enumerations.{is_ocsp_response_status, ocsp_response_status_number, same_ocsp_response_status};
+ghost use Rattle.der_types.specs.Sameness.{content_sameness};
+ghost use Rattle.der_types.specs.SampleTrees.{exact_example};
+ghost use Rattle.der_status.specs.Enumerations.{is_ocsp_response_status, ocsp_response_status_number, ocsp_response_status_respects};
+ghost use Rattle.der_status.specs.Enumerations.{same_ocsp_response_status};
 
 use crate::{SingleResponse, Version};
 use der_types::{
@@ -27,7 +31,9 @@ use picky_asn1_der::OneOf::{Other, This};
 use picky_asn1_der::asn1::{
     ByteBuf, ExplicitContextTag0, ExplicitContextTag1, ExplicitContextTag2, Tag,
 };
-use picky_asn1_der::de::{Begins, deserialize_choice_as};
+use picky_asn1_der::de::{
+    Begins, Faithful, FaithfulAlternatives, FaithfulMembers, Inhabited, deserialize_choice_as,
+};
 use picky_asn1_der::misc::{ReadExt, WriteExt};
 use picky_asn1_der::ser::{Optional, OptionalRef};
 use picky_asn1_der::{
@@ -112,6 +118,16 @@ impl Exact for OcspResponse {
         (λ m. (record { response_status = m.0; response_bytes = m.1.0 }, refl {a = m})) };
 
     ghost exact = { Prim.assumption };
+}
+
+impl Faithful for OcspResponse {
+    ghost sameness = { struct_sameness ⟦<OcspResponseParts as FaithfulMembers>⟧.sameness ⟦<Self as Struct>⟧.parts };
+
+    ghost respects = { Prim.assumption };
+}
+
+impl Inhabited for OcspResponse {
+    ghost example = { exact_example ⟦<Self as Exact>⟧.values ⟦<Self as Exact>⟧.exact refl };
 }
 
 /// `OCSPResponseStatus` of OCSP-2013-88, as an ENUMERATED. Every other content is refused with
@@ -271,6 +287,16 @@ impl ExactContents for OcspResponseStatus {
     ghost exact_contents = { Prim.assumption };
 }
 
+impl Faithful for OcspResponseStatus {
+    ghost sameness = { content_sameness 0x0A (λ it. ocsp_response_status_number it ∷ []) ⟦<Self as PartialEq>⟧.eq ocsp_response_status_respects };
+
+    ghost respects = { Prim.assumption };
+}
+
+impl Inhabited for OcspResponseStatus {
+    ghost example = { exact_example ⟦<Self as Exact>⟧.values ⟦<Self as Exact>⟧.exact refl };
+}
+
 /// Where the type is id-pkix-ocsp-basic, the response is the encoding of a BasicOCSPResponse.
 /// `ResponseBytes` of OCSP-2013-88, as a SEQUENCE.
 #[derive(Debug, Drop, PartialEq, Eq)]
@@ -339,6 +365,16 @@ impl Exact for ResponseBytes {
         (λ m. (record { response_type = m.0; response = m.1 }, refl {a = m})) };
 
     ghost exact = { Prim.assumption };
+}
+
+impl Faithful for ResponseBytes {
+    ghost sameness = { struct_sameness ⟦<ResponseBytesParts as FaithfulMembers>⟧.sameness ⟦<Self as Struct>⟧.parts };
+
+    ghost respects = { Prim.assumption };
+}
+
+impl Inhabited for ResponseBytes {
+    ghost example = { exact_example ⟦<Self as Exact>⟧.values ⟦<Self as Exact>⟧.exact refl };
 }
 
 /// The signature is over the encoding of `tbsResponseData`. `BasicOCSPResponse` of OCSP-2013-88, as
@@ -436,6 +472,17 @@ impl Exact for BasicOcspResponse {
         )) };
 
     ghost exact = { Prim.assumption };
+}
+
+impl Faithful for BasicOcspResponse {
+    ghost sameness = { struct_sameness ⟦<BasicOcspResponseParts as FaithfulMembers>⟧.sameness
+        ⟦<Self as Struct>⟧.parts };
+
+    ghost respects = { Prim.assumption };
+}
+
+impl Inhabited for BasicOcspResponse {
+    ghost example = { exact_example ⟦<Self as Exact>⟧.values ⟦<Self as Exact>⟧.exact refl };
 }
 
 /// `ResponseData` of OCSP-2013-88, as a SEQUENCE.
@@ -554,6 +601,16 @@ impl Exact for ResponseData {
     ghost exact = { Prim.assumption };
 }
 
+impl Faithful for ResponseData {
+    ghost sameness = { struct_sameness ⟦<ResponseDataParts as FaithfulMembers>⟧.sameness ⟦<Self as Struct>⟧.parts };
+
+    ghost respects = { Prim.assumption };
+}
+
+impl Inhabited for ResponseData {
+    ghost example = { exact_example ⟦<Self as Exact>⟧.values ⟦<Self as Exact>⟧.exact refl };
+}
+
 /// `ResponderID` of OCSP-2013-88, as a CHOICE.
 #[derive(Debug, Drop, PartialEq, Eq)]
 pub enum ResponderId {
@@ -633,6 +690,19 @@ impl Exact for ResponderId {
         ]) };
 
     ghost exact = { Prim.assumption };
+}
+
+impl Faithful for ResponderId {
+    ghost use Rattle.der_status.specs.declared.ocsp_2013_88.ResponderId.TheVariants as variants;
+
+    ghost sameness = { choice_sameness ⟦<ResponderIdParts as FaithfulAlternatives>⟧.sameness ⟦<Self as Choice>⟧.parts ⟦<Self as PartialEq>⟧.eq
+        (elim [ variants.ByName _ ↦ elim [ variants.ByName _ ↦ λ h. h | _ ↦ λ h. h ] | _ ↦ elim [ variants.ByName _ ↦ λ h. h | _ ↦ λ h. h ] ]) };
+
+    ghost respects = { Prim.assumption };
+}
+
+impl Inhabited for ResponderId {
+    ghost example = { exact_example ⟦<Self as Exact>⟧.values ⟦<Self as Exact>⟧.exact refl };
 }
 
 /// `KeyHash` of OCSP-2013-88: `OCTET STRING`.

@@ -2,9 +2,11 @@
 //!
 //! Types of OCSP-2013-88.
 ghost use Rattle.std.specs.Prelude.{refl};
+ghost use Rattle.picky_der_de.specs.Faithful.{struct_sameness};
 ghost use Rattle.picky_der_de.specs.MembersFacts.{sequence_of, sequence_shape, struct_facts};
 ghost use Rattle.der_types.specs.Notation.{Notation};
 ghost use Rattle.der_types.specs.ExactMembers.{struct_values};
+ghost use Rattle.der_types.specs.SampleTrees.{exact_example};
 
 use der_pkix::GeneralName;
 use der_types::{BitString, Exact, ExactMembers, Integer, Notated, NotatedMembers, OtherThan};
@@ -12,7 +14,7 @@ use der_x509::{AlgorithmIdentifier, Certificate, CertificateSerialNumber, Extens
 use picky_asn1_der::asn1::{
     ByteBuf, ExplicitContextTag0, ExplicitContextTag1, ExplicitContextTag2, Tag,
 };
-use picky_asn1_der::de::Begins;
+use picky_asn1_der::de::{Begins, Faithful, FaithfulMembers, Inhabited};
 use picky_asn1_der::misc::{ReadExt, WriteExt};
 use picky_asn1_der::ser::{Optional, OptionalRef};
 use picky_asn1_der::{
@@ -89,6 +91,16 @@ impl Exact for OcspRequest {
         (λ m. (record { tbs_request = m.0; optional_signature = m.1.0 }, refl {a = m})) };
 
     ghost exact = { Prim.assumption };
+}
+
+impl Faithful for OcspRequest {
+    ghost sameness = { struct_sameness ⟦<OcspRequestParts as FaithfulMembers>⟧.sameness ⟦<Self as Struct>⟧.parts };
+
+    ghost respects = { Prim.assumption };
+}
+
+impl Inhabited for OcspRequest {
+    ghost example = { exact_example ⟦<Self as Exact>⟧.values ⟦<Self as Exact>⟧.exact refl };
 }
 
 /// `TBSRequest` of OCSP-2013-88, as a SEQUENCE.
@@ -199,6 +211,16 @@ impl Exact for TbsRequest {
     ghost exact = { Prim.assumption };
 }
 
+impl Faithful for TbsRequest {
+    ghost sameness = { struct_sameness ⟦<TbsRequestParts as FaithfulMembers>⟧.sameness ⟦<Self as Struct>⟧.parts };
+
+    ghost respects = { Prim.assumption };
+}
+
+impl Inhabited for TbsRequest {
+    ghost example = { exact_example ⟦<Self as Exact>⟧.values ⟦<Self as Exact>⟧.exact refl };
+}
+
 /// `Signature` of OCSP-2013-88, as a SEQUENCE.
 #[derive(Debug, Drop, PartialEq, Eq)]
 pub struct Signature {
@@ -282,6 +304,16 @@ impl Exact for Signature {
     ghost exact = { Prim.assumption };
 }
 
+impl Faithful for Signature {
+    ghost sameness = { struct_sameness ⟦<SignatureParts as FaithfulMembers>⟧.sameness ⟦<Self as Struct>⟧.parts };
+
+    ghost respects = { Prim.assumption };
+}
+
+impl Inhabited for Signature {
+    ghost example = { exact_example ⟦<Self as Exact>⟧.values ⟦<Self as Exact>⟧.exact refl };
+}
+
 /// `Version` of OCSP-2013-88: `INTEGER { v1 (0) }`.
 pub type Version = Integer;
 
@@ -357,6 +389,16 @@ impl Exact for Request {
         (λ m. (record { req_cert = m.0; single_request_extensions = m.1.0 }, refl {a = m})) };
 
     ghost exact = { Prim.assumption };
+}
+
+impl Faithful for Request {
+    ghost sameness = { struct_sameness ⟦<RequestParts as FaithfulMembers>⟧.sameness ⟦<Self as Struct>⟧.parts };
+
+    ghost respects = { Prim.assumption };
+}
+
+impl Inhabited for Request {
+    ghost example = { exact_example ⟦<Self as Exact>⟧.values ⟦<Self as Exact>⟧.exact refl };
 }
 
 /// `CertID` of OCSP-2013-88, as a SEQUENCE.
@@ -453,4 +495,14 @@ impl Exact for CertId {
         )) };
 
     ghost exact = { Prim.assumption };
+}
+
+impl Faithful for CertId {
+    ghost sameness = { struct_sameness ⟦<CertIdParts as FaithfulMembers>⟧.sameness ⟦<Self as Struct>⟧.parts };
+
+    ghost respects = { Prim.assumption };
+}
+
+impl Inhabited for CertId {
+    ghost example = { exact_example ⟦<Self as Exact>⟧.values ⟦<Self as Exact>⟧.exact refl };
 }

@@ -2,9 +2,11 @@
 //!
 //! Types of PKIXTSP.
 ghost use Rattle.std.specs.Prelude.{refl};
+ghost use Rattle.picky_der_de.specs.Faithful.{struct_sameness};
 ghost use Rattle.picky_der_de.specs.MembersFacts.{sequence_of, sequence_shape, struct_facts};
 ghost use Rattle.der_types.specs.Notation.{Notation};
 ghost use Rattle.der_types.specs.ExactMembers.{struct_values};
+ghost use Rattle.der_types.specs.SampleTrees.{exact_example};
 
 use der_cms::ContentInfo;
 use der_pkix::GeneralName;
@@ -17,7 +19,7 @@ use picky_asn1_der::asn1::{
     ByteBuf, ExplicitContextTag0, ImplicitContextTag0, ImplicitContextTag1, ImplicitList0,
     ImplicitList1, Tag,
 };
-use picky_asn1_der::de::Begins;
+use picky_asn1_der::de::{Begins, Faithful, FaithfulMembers, Inhabited};
 use picky_asn1_der::misc::{ReadExt, WriteExt};
 use picky_asn1_der::ser::{Defaulted, DefaultedRef, False, Optional, OptionalRef};
 use picky_asn1_der::{
@@ -149,6 +151,16 @@ impl Exact for TimeStampReq {
     ghost exact = { Prim.assumption };
 }
 
+impl Faithful for TimeStampReq {
+    ghost sameness = { struct_sameness ⟦<TimeStampReqParts as FaithfulMembers>⟧.sameness ⟦<Self as Struct>⟧.parts };
+
+    ghost respects = { Prim.assumption };
+}
+
+impl Inhabited for TimeStampReq {
+    ghost example = { exact_example ⟦<Self as Exact>⟧.values ⟦<Self as Exact>⟧.exact refl };
+}
+
 /// The digest of the data that is time-stamped. `MessageImprint` of PKIXTSP, as a SEQUENCE.
 #[derive(Debug, Drop, PartialEq, Eq)]
 pub struct MessageImprint {
@@ -216,6 +228,16 @@ impl Exact for MessageImprint {
         (λ m. (record { hash_algorithm = m.0; hashed_message = m.1 }, refl {a = m})) };
 
     ghost exact = { Prim.assumption };
+}
+
+impl Faithful for MessageImprint {
+    ghost sameness = { struct_sameness ⟦<MessageImprintParts as FaithfulMembers>⟧.sameness ⟦<Self as Struct>⟧.parts };
+
+    ghost respects = { Prim.assumption };
+}
+
+impl Inhabited for MessageImprint {
+    ghost example = { exact_example ⟦<Self as Exact>⟧.values ⟦<Self as Exact>⟧.exact refl };
 }
 
 /// `TSAPolicyId` of PKIXTSP: `OBJECT IDENTIFIER`.
@@ -288,6 +310,16 @@ impl Exact for TimeStampResp {
         (λ m. (record { status = m.0; time_stamp_token = m.1.0 }, refl {a = m})) };
 
     ghost exact = { Prim.assumption };
+}
+
+impl Faithful for TimeStampResp {
+    ghost sameness = { struct_sameness ⟦<TimeStampRespParts as FaithfulMembers>⟧.sameness ⟦<Self as Struct>⟧.parts };
+
+    ghost respects = { Prim.assumption };
+}
+
+impl Inhabited for TimeStampResp {
+    ghost example = { exact_example ⟦<Self as Exact>⟧.values ⟦<Self as Exact>⟧.exact refl };
 }
 
 /// `PKIStatusInfo` of PKIXTSP, as a SEQUENCE.
@@ -371,6 +403,16 @@ impl Exact for PkiStatusInfo {
         (λ m. (record { status = m.0; status_string = m.1.0; fail_info = m.2.0 }, refl {a = m})) };
 
     ghost exact = { Prim.assumption };
+}
+
+impl Faithful for PkiStatusInfo {
+    ghost sameness = { struct_sameness ⟦<PkiStatusInfoParts as FaithfulMembers>⟧.sameness ⟦<Self as Struct>⟧.parts };
+
+    ghost respects = { Prim.assumption };
+}
+
+impl Inhabited for PkiStatusInfo {
+    ghost example = { exact_example ⟦<Self as Exact>⟧.values ⟦<Self as Exact>⟧.exact refl };
 }
 
 /// `PKIStatus` of PKIXTSP: `INTEGER { granted (0), grantedWithMods (1), rejection (2), waiting (3),
@@ -545,6 +587,16 @@ impl Exact for TstInfo {
     ghost exact = { Prim.assumption };
 }
 
+impl Faithful for TstInfo {
+    ghost sameness = { struct_sameness ⟦<TstInfoParts as FaithfulMembers>⟧.sameness ⟦<Self as Struct>⟧.parts };
+
+    ghost respects = { Prim.assumption };
+}
+
+impl Inhabited for TstInfo {
+    ghost example = { exact_example ⟦<Self as Exact>⟧.values ⟦<Self as Exact>⟧.exact refl };
+}
+
 /// `Accuracy` of PKIXTSP, as a SEQUENCE.
 #[derive(Debug, Drop, PartialEq, Eq)]
 pub struct Accuracy {
@@ -626,4 +678,14 @@ impl Exact for Accuracy {
         (λ m. (record { seconds = m.0.0; millis = m.1.0; micros = m.2.0 }, refl {a = m})) };
 
     ghost exact = { Prim.assumption };
+}
+
+impl Faithful for Accuracy {
+    ghost sameness = { struct_sameness ⟦<AccuracyParts as FaithfulMembers>⟧.sameness ⟦<Self as Struct>⟧.parts };
+
+    ghost respects = { Prim.assumption };
+}
+
+impl Inhabited for Accuracy {
+    ghost example = { exact_example ⟦<Self as Exact>⟧.values ⟦<Self as Exact>⟧.exact refl };
 }

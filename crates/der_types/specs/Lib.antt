@@ -40,6 +40,8 @@ pub mod ObjectIdentifierLaws
 pub mod PrimitiveForm
 pub mod RelativeOid
 pub mod RelativeOidLaws
+pub mod Sameness
+pub mod SampleTrees
 pub mod SubidentifierLaws
 pub mod Subidentifiers
 pub mod TagOrder
@@ -48,4 +50,5 @@ pub mod TimeChoice
 pub mod TimeChoiceLaws
 pub mod TimeContents
 pub mod TimeLaws
+pub mod TimeSameness
 pub mod TimeValues

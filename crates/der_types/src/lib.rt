@@ -20,6 +20,7 @@ mod exact_contents;
 mod exact_defaults;
 mod exact_members;
 mod exact_times;
+mod faithful;
 mod generalized_time;
 mod generated;
 mod implicit_primitive;

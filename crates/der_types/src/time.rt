@@ -6,16 +6,17 @@ ghost use Rattle.picky_der_de.specs.ChoiceFacts.{choice_facts};
 ghost use Rattle.der_types.specs.declared.time.Time.TheVariants.{Utc, Generalized};
 ghost use Rattle.der_types.specs.ExactChoices.{choice_values};
 ghost use Rattle.der_types.specs.Notation.{Notation};
+ghost use Rattle.der_types.specs.Sameness.{alternatives_sameness};
+ghost use Rattle.der_types.specs.SampleTrees.{exact_example};
 
-use crate::{
-    DateTime, Exact, ExactAlternatives, LaterTime, Notated, NotatedAlternatives, UtcTime,
-};
+use crate::{DateTime, Exact, ExactAlternatives, LaterTime, Notated, NotatedAlternatives, UtcTime};
 use picky_der_core::Result;
 use picky_der_core::asn1::Tag;
 use picky_der_core::misc::{ReadExt, WriteExt};
 use picky_der_de::OneOf::{Other, This};
 use picky_der_de::{
-    Alternatives, Begins, Choice, Deserialize, Deserializer, NoneOf, OneOf, deserialize_choice_as,
+    Alternatives, Begins, Choice, Deserialize, Deserializer, Faithful, FaithfulAlternatives,
+    Inhabited, NoneOf, OneOf, deserialize_choice_as,
 };
 use picky_der_ser::{Serialize, Serializer};
 
@@ -114,4 +115,16 @@ impl Exact for Time {
         (elim [ This time ↦ (Utc time, refl) | Other (This time) ↦ (Generalized time, refl) | Other (Other none) ↦ elim none [ ] ]) };
 
     ghost exact = { Prim.assumption };
+}
+
+impl Faithful for Time {
+    ghost sameness = { alternatives_sameness ⟦<Parts as FaithfulAlternatives>⟧.sameness ⟦<Parts as Alternatives>⟧.facts.eq
+        ⟦<Parts as Alternatives>⟧.chosen ⟦<Self as Choice>⟧.parts ⟦<Self as PartialEq>⟧.eq
+        (elim [ Utc _ ↦ elim [ Utc _ ↦ λ h. h | _ ↦ λ h. h ] | _ ↦ elim [ Utc _ ↦ λ h. h | _ ↦ λ h. h ] ]) };
+
+    ghost respects = { Prim.assumption };
+}
+
+impl Inhabited for Time {
+    ghost example = { exact_example ⟦<Self as Exact>⟧.values ⟦<Self as Exact>⟧.exact refl };
 }

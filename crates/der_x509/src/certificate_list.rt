@@ -2,14 +2,16 @@
 //!
 //! Types of PKIX1Explicit88.
 ghost use Rattle.std.specs.Prelude.{refl};
+ghost use Rattle.picky_der_de.specs.Faithful.{struct_sameness};
 ghost use Rattle.picky_der_de.specs.MembersFacts.{sequence_of, sequence_shape, struct_facts};
 ghost use Rattle.der_types.specs.Notation.{Notation};
 ghost use Rattle.der_types.specs.ExactMembers.{struct_values};
+ghost use Rattle.der_types.specs.SampleTrees.{exact_example};
 
 use crate::{AlgorithmIdentifier, CertificateSerialNumber, Extensions, Name, Time, Version};
 use der_types::{BitString, Exact, ExactMembers, Notated, NotatedMembers};
 use picky_asn1_der::asn1::{ExplicitContextTag0, Tag};
-use picky_asn1_der::de::Begins;
+use picky_asn1_der::de::{Begins, Faithful, FaithfulMembers, Inhabited};
 use picky_asn1_der::misc::{ReadExt, WriteExt};
 use picky_asn1_der::ser::{Optional, OptionalRef};
 use picky_asn1_der::{
@@ -94,6 +96,16 @@ impl Exact for CertificateList {
         (λ m. (record { tbs_cert_list = m.0; signature_algorithm = m.1; signature = m.2 }, refl {a = m})) };
 
     ghost exact = { Prim.assumption };
+}
+
+impl Faithful for CertificateList {
+    ghost sameness = { struct_sameness ⟦<CertificateListParts as FaithfulMembers>⟧.sameness ⟦<Self as Struct>⟧.parts };
+
+    ghost respects = { Prim.assumption };
+}
+
+impl Inhabited for CertificateList {
+    ghost example = { exact_example ⟦<Self as Exact>⟧.values ⟦<Self as Exact>⟧.exact refl };
 }
 
 /// The signed part of a list of revoked certificates (RFC 5280, 5.1.2). `TBSCertList` of
@@ -229,6 +241,16 @@ impl Exact for TbsCertList {
     ghost exact = { Prim.assumption };
 }
 
+impl Faithful for TbsCertList {
+    ghost sameness = { struct_sameness ⟦<TbsCertListParts as FaithfulMembers>⟧.sameness ⟦<Self as Struct>⟧.parts };
+
+    ghost respects = { Prim.assumption };
+}
+
+impl Inhabited for TbsCertList {
+    ghost example = { exact_example ⟦<Self as Exact>⟧.values ⟦<Self as Exact>⟧.exact refl };
+}
+
 /// A revoked certificate (RFC 5280, 5.1.2.6). The RFC gives this type no name. `RevokedCertificate`
 /// of PKIX1Explicit88, as a SEQUENCE.
 #[derive(Debug, Drop, PartialEq, Eq)]
@@ -306,4 +328,15 @@ impl Exact for RevokedCertificate {
         (λ m. (record { user_certificate = m.0; revocation_date = m.1; crl_entry_extensions = m.2.0 }, refl {a = m})) };
 
     ghost exact = { Prim.assumption };
+}
+
+impl Faithful for RevokedCertificate {
+    ghost sameness = { struct_sameness ⟦<RevokedCertificateParts as FaithfulMembers>⟧.sameness
+        ⟦<Self as Struct>⟧.parts };
+
+    ghost respects = { Prim.assumption };
+}
+
+impl Inhabited for RevokedCertificate {
+    ghost example = { exact_example ⟦<Self as Exact>⟧.values ⟦<Self as Exact>⟧.exact refl };
 }

@@ -2,13 +2,15 @@
 //!
 //! Types of PKIX1Explicit88.
 ghost use Rattle.std.specs.Prelude.{refl};
+ghost use Rattle.picky_der_de.specs.Faithful.{struct_sameness};
 ghost use Rattle.picky_der_de.specs.MembersFacts.{sequence_of, sequence_shape, struct_facts};
 ghost use Rattle.der_types.specs.Notation.{Notation};
 ghost use Rattle.der_types.specs.ExactMembers.{struct_values};
+ghost use Rattle.der_types.specs.SampleTrees.{exact_example};
 
 use der_types::{Exact, ExactMembers, Notated, NotatedMembers, ObjectIdentifier, WithSize};
 use picky_asn1_der::asn1::{ByteBuf, Tag};
-use picky_asn1_der::de::Begins;
+use picky_asn1_der::de::{Begins, Faithful, FaithfulMembers, Inhabited};
 use picky_asn1_der::misc::{ReadExt, WriteExt};
 use picky_asn1_der::ser::{Defaulted, DefaultedRef, False};
 use picky_asn1_der::{
@@ -98,4 +100,14 @@ impl Exact for Extension {
         (λ m. (record { extn_id = m.0; critical = m.1.value; extn_value = m.2 }, refl {a = m})) };
 
     ghost exact = { Prim.assumption };
+}
+
+impl Faithful for Extension {
+    ghost sameness = { struct_sameness ⟦<ExtensionParts as FaithfulMembers>⟧.sameness ⟦<Self as Struct>⟧.parts };
+
+    ghost respects = { Prim.assumption };
+}
+
+impl Inhabited for Extension {
+    ghost example = { exact_example ⟦<Self as Exact>⟧.values ⟦<Self as Exact>⟧.exact refl };
 }

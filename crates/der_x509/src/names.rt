@@ -5,10 +5,12 @@ ghost use Rattle.std.specs.Prelude.{refl};
 ghost use Rattle.picky_der_core.specs.Shape.{Shape};
 ghost use Rattle.picky_der_de.specs.declared.alternatives.OneOf.TheVariants.{Other, This};
 ghost use Rattle.picky_der_de.specs.ChoiceFacts.{choice_facts};
+ghost use Rattle.picky_der_de.specs.Faithful.{choice_sameness, struct_sameness};
 ghost use Rattle.picky_der_de.specs.MembersFacts.{sequence_of, sequence_shape, struct_facts};
 ghost use Rattle.der_types.specs.Notation.{Notation};
 ghost use Rattle.der_types.specs.ExactChoices.{choice_values};
 ghost use Rattle.der_types.specs.ExactMembers.{struct_values};
+ghost use Rattle.der_types.specs.SampleTrees.{exact_example};
 
 use der_types::{
     Exact, ExactAlternatives, ExactMembers, Notated, NotatedAlternatives, NotatedMembers,
@@ -16,7 +18,9 @@ use der_types::{
 };
 use picky_asn1_der::OneOf::This;
 use picky_asn1_der::asn1::{Asn1SetOf, Tag};
-use picky_asn1_der::de::{Begins, deserialize_choice_as};
+use picky_asn1_der::de::{
+    Begins, Faithful, FaithfulAlternatives, FaithfulMembers, Inhabited, deserialize_choice_as,
+};
 use picky_asn1_der::misc::{ReadExt, WriteExt};
 use picky_asn1_der::{
     Alternatives, Asn1RawDer, Choice, Deserialize, DeserializeMembers, Deserializer, List, NoneOf,
@@ -96,6 +100,19 @@ impl Exact for Name {
     ghost exact = { Prim.assumption };
 }
 
+impl Faithful for Name {
+    ghost use Rattle.der_x509.specs.declared.names.Name.TheVariants as variants;
+
+    ghost sameness = { choice_sameness ⟦<NameParts as FaithfulAlternatives>⟧.sameness ⟦<Self as Choice>⟧.parts ⟦<Self as PartialEq>⟧.eq
+        (elim [ variants.RdnSequence _ ↦ elim [ variants.RdnSequence _ ↦ λ h. h ] ]) };
+
+    ghost respects = { Prim.assumption };
+}
+
+impl Inhabited for Name {
+    ghost example = { exact_example ⟦<Self as Exact>⟧.values ⟦<Self as Exact>⟧.exact refl };
+}
+
 /// The steps of a name, from the root down. `RDNSequence` of PKIX1Explicit88: `SEQUENCE OF
 /// RelativeDistinguishedName`.
 pub type RdnSequence = Vec<RelativeDistinguishedName>;
@@ -170,6 +187,17 @@ impl Exact for AttributeTypeAndValue {
         (λ m. (record { type_ = m.0; value = m.1 }, refl {a = m})) };
 
     ghost exact = { Prim.assumption };
+}
+
+impl Faithful for AttributeTypeAndValue {
+    ghost sameness = { struct_sameness ⟦<AttributeTypeAndValueParts as FaithfulMembers>⟧.sameness
+        ⟦<Self as Struct>⟧.parts };
+
+    ghost respects = { Prim.assumption };
+}
+
+impl Inhabited for AttributeTypeAndValue {
+    ghost example = { exact_example ⟦<Self as Exact>⟧.values ⟦<Self as Exact>⟧.exact refl };
 }
 
 /// Which attribute it is. `AttributeType` of PKIX1Explicit88: `OBJECT IDENTIFIER`.

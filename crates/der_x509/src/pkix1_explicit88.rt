@@ -7,6 +7,7 @@ ghost use Rattle.picky_der_core.specs.Equality.{IsKept};
 ghost use Rattle.picky_der_core.specs.Shape.{Shape};
 ghost use Rattle.picky_der_de.specs.declared.alternatives.OneOf.TheVariants.{Other, This};
 ghost use Rattle.picky_der_de.specs.ChoiceFacts.{choice_facts};
+ghost use Rattle.picky_der_de.specs.Faithful.{choice_sameness, struct_sameness};
 ghost use Rattle.picky_der_de.specs.MembersFacts.{sequence_of, sequence_shape, struct_facts};
 ghost use Rattle.der_types.specs.ContentsFacts.{contents_facts, contents_of, contents_shape};
 ghost use Rattle.der_types.specs.Notation.{Notation};
@@ -15,7 +16,10 @@ ghost use Rattle.der_types.specs.ExactContents.{own_contents};
 ghost use Rattle.der_types.specs.ExactDefaults.{item_default};
 ghost use Rattle.der_types.specs.ExactEnumerated.{named_values};
 ghost use Rattle.der_types.specs.ExactMembers.{struct_values};
-ghost use Rattle.der_x509.specs.Enumerations.{is_default_version_v1, is_version, same_version, version_number, version_v1_by_tree};
+ghost use Rattle.der_types.specs.Sameness.{content_sameness, default_sameness};
+ghost use Rattle.der_types.specs.SampleTrees.{exact_example};
+ghost use Rattle.der_x509.specs.Enumerations.{is_default_version_v1, is_version, same_version, version_number, version_respects};
+ghost use Rattle.der_x509.specs.Enumerations.{version_v1_by_tree};
 
 use crate::{Extensions, Name};
 use der_types::{
@@ -27,7 +31,10 @@ use picky_asn1_der::OneOf::{Other, This};
 use picky_asn1_der::asn1::{
     ExplicitContextTag0, ExplicitContextTag3, ImplicitContextTag1, ImplicitContextTag2, Tag,
 };
-use picky_asn1_der::de::{Begins, deserialize_choice_as};
+use picky_asn1_der::de::{
+    Begins, Faithful, FaithfulAlternatives, FaithfulDefault, FaithfulMembers, Inhabited,
+    deserialize_choice_as,
+};
 use picky_asn1_der::misc::{ReadExt, WriteExt};
 use picky_asn1_der::ser::{DefaultOf, Defaulted, DefaultedRef, Optional, OptionalRef};
 use picky_asn1_der::{
@@ -111,6 +118,16 @@ impl Exact for Certificate {
         (λ m. (record { tbs_certificate = m.0; signature_algorithm = m.1; signature = m.2 }, refl {a = m})) };
 
     ghost exact = { Prim.assumption };
+}
+
+impl Faithful for Certificate {
+    ghost sameness = { struct_sameness ⟦<CertificateParts as FaithfulMembers>⟧.sameness ⟦<Self as Struct>⟧.parts };
+
+    ghost respects = { Prim.assumption };
+}
+
+impl Inhabited for Certificate {
+    ghost example = { exact_example ⟦<Self as Exact>⟧.values ⟦<Self as Exact>⟧.exact refl };
 }
 
 /// The signed part of a certificate (RFC 5280, 4.1.2). `TBSCertificate` of PKIX1Explicit88, as a
@@ -272,6 +289,16 @@ impl Exact for TbsCertificate {
         )) };
 
     ghost exact = { Prim.assumption };
+}
+
+impl Faithful for TbsCertificate {
+    ghost sameness = { struct_sameness ⟦<TbsCertificateParts as FaithfulMembers>⟧.sameness ⟦<Self as Struct>⟧.parts };
+
+    ghost respects = { Prim.assumption };
+}
+
+impl Inhabited for TbsCertificate {
+    ghost example = { exact_example ⟦<Self as Exact>⟧.values ⟦<Self as Exact>⟧.exact refl };
 }
 
 /// The version of a certificate (RFC 5280, 4.1.2.1). The RFC names these three and has no
@@ -449,6 +476,23 @@ impl ExactDefault<Version> for VersionV1 {
     ghost exact_default = { Prim.assumption };
 }
 
+impl Faithful for Version {
+    ghost sameness = { content_sameness 0x02 (λ it. version_number it ∷ []) ⟦<Self as PartialEq>⟧.eq version_respects };
+
+    ghost respects = { Prim.assumption };
+}
+
+impl FaithfulDefault<Version> for VersionV1 {
+    ghost sameness = { default_sameness ⟦<Version as PartialEq>⟧.eq ⟦<Version as Serialize>⟧.meaning ⟦<VersionV1 as DefaultOf<Version>>⟧.left_out
+        ⟦<VersionV1 as DefaultOf<Version>>⟧.by_tree ⟦<Version as Faithful>⟧.sameness };
+
+    ghost respects = { Prim.assumption };
+}
+
+impl Inhabited for Version {
+    ghost example = { exact_example ⟦<Self as Exact>⟧.values ⟦<Self as Exact>⟧.exact refl };
+}
+
 /// The serial number of a certificate (RFC 5280, 4.1.2.2). `CertificateSerialNumber` of
 /// PKIX1Explicit88: `INTEGER`.
 pub type CertificateSerialNumber = Integer;
@@ -521,6 +565,16 @@ impl Exact for Validity {
         (λ m. (record { not_before = m.0; not_after = m.1 }, refl {a = m})) };
 
     ghost exact = { Prim.assumption };
+}
+
+impl Faithful for Validity {
+    ghost sameness = { struct_sameness ⟦<ValidityParts as FaithfulMembers>⟧.sameness ⟦<Self as Struct>⟧.parts };
+
+    ghost respects = { Prim.assumption };
+}
+
+impl Inhabited for Validity {
+    ghost example = { exact_example ⟦<Self as Exact>⟧.values ⟦<Self as Exact>⟧.exact refl };
 }
 
 /// A time, without a fraction of a second (RFC 5280, 4.1.2.5). Any year is read in both forms,
@@ -602,6 +656,19 @@ impl Exact for Time {
     ghost exact = { Prim.assumption };
 }
 
+impl Faithful for Time {
+    ghost use Rattle.der_x509.specs.declared.pkix1_explicit88.Time.TheVariants as variants;
+
+    ghost sameness = { choice_sameness ⟦<TimeParts as FaithfulAlternatives>⟧.sameness ⟦<Self as Choice>⟧.parts ⟦<Self as PartialEq>⟧.eq
+        (elim [ variants.UtcTime _ ↦ elim [ variants.UtcTime _ ↦ λ h. h | _ ↦ λ h. h ] | _ ↦ elim [ variants.UtcTime _ ↦ λ h. h | _ ↦ λ h. h ] ]) };
+
+    ghost respects = { Prim.assumption };
+}
+
+impl Inhabited for Time {
+    ghost example = { exact_example ⟦<Self as Exact>⟧.values ⟦<Self as Exact>⟧.exact refl };
+}
+
 /// Distinguishes an issuer or a subject from others with the same name (RFC 5280, 4.1.2.8).
 /// `UniqueIdentifier` of PKIX1Explicit88: `BIT STRING`.
 pub type UniqueIdentifier = BitString;
@@ -676,6 +743,17 @@ impl Exact for SubjectPublicKeyInfo {
     ghost exact = { Prim.assumption };
 }
 
+impl Faithful for SubjectPublicKeyInfo {
+    ghost sameness = { struct_sameness ⟦<SubjectPublicKeyInfoParts as FaithfulMembers>⟧.sameness
+        ⟦<Self as Struct>⟧.parts };
+
+    ghost respects = { Prim.assumption };
+}
+
+impl Inhabited for SubjectPublicKeyInfo {
+    ghost example = { exact_example ⟦<Self as Exact>⟧.values ⟦<Self as Exact>⟧.exact refl };
+}
+
 /// An algorithm and its parameters (RFC 5280, 4.1.1.2). Absent parameters are different from NULL,
 /// which is an element like any other. `AlgorithmIdentifier` of PKIX1Explicit88, as a SEQUENCE.
 #[derive(Debug, Drop, PartialEq, Eq)]
@@ -744,4 +822,15 @@ impl Exact for AlgorithmIdentifier {
         (λ m. (record { algorithm = m.0; parameters = m.1.0 }, refl {a = m})) };
 
     ghost exact = { Prim.assumption };
+}
+
+impl Faithful for AlgorithmIdentifier {
+    ghost sameness = { struct_sameness ⟦<AlgorithmIdentifierParts as FaithfulMembers>⟧.sameness
+        ⟦<Self as Struct>⟧.parts };
+
+    ghost respects = { Prim.assumption };
+}
+
+impl Inhabited for AlgorithmIdentifier {
+    ghost example = { exact_example ⟦<Self as Exact>⟧.values ⟦<Self as Exact>⟧.exact refl };
 }

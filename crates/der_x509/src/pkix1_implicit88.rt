@@ -4,10 +4,12 @@
 ghost use Rattle.std.specs.Prelude.{refl};
 ghost use Rattle.picky_der_de.specs.Facts.{facts_as};
 ghost use Rattle.der_types.specs.Exact.{newtype_values};
+ghost use Rattle.der_types.specs.Sameness.{newtype_sameness};
+ghost use Rattle.der_types.specs.SampleTrees.{exact_example};
 
 use der_types::{Exact, NamedBits, Notated};
 use picky_asn1_der::asn1::Tag;
-use picky_asn1_der::de::Begins;
+use picky_asn1_der::de::{Begins, Faithful, Inhabited};
 use picky_asn1_der::misc::{ReadExt, WriteExt};
 use picky_asn1_der::{
     Deserialize, Deserializer, Result, Serialize, Serializer, Via, deserialize_as,
@@ -68,4 +70,15 @@ impl Exact for KeyUsage {
         (λ it. it.0) (λ x. (record { 0 = x }, refl)) };
 
     ghost exact = { Prim.assumption };
+}
+
+impl Faithful for KeyUsage {
+    ghost sameness = { newtype_sameness ⟦<NamedBits as Faithful>⟧.sameness ⟦<NamedBits as PartialEq>⟧.eq ⟦<NamedBits as Serialize>⟧.meaning
+        (λ it. it.0) };
+
+    ghost respects = { Prim.assumption };
+}
+
+impl Inhabited for KeyUsage {
+    ghost example = { exact_example ⟦<Self as Exact>⟧.values ⟦<Self as Exact>⟧.exact refl };
 }

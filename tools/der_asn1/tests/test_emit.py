@@ -245,7 +245,7 @@ class Imports(unittest.TestCase):
             [
                 "use der_types::{Exact, ExactMembers, Integer, Notated, NotatedMembers};",
                 "use picky_asn1_der::asn1::{ExplicitContextTag2, ExplicitContextTag10, Tag};",
-                "use picky_asn1_der::de::Begins;",
+                "use picky_asn1_der::de::{Begins, Faithful, FaithfulMembers, Inhabited};",
                 "use picky_asn1_der::misc::{ReadExt, WriteExt};",
                 "use picky_asn1_der::ser::{Optional, OptionalRef};",
             ],
@@ -255,11 +255,11 @@ class Imports(unittest.TestCase):
     def test_of_two_types(self):
         """A file imports what both use once, and what only one uses, and nothing of its own."""
         text = crate_of("A ::= SEQUENCE { a C } C ::= CHOICE { b NULL, c INTEGER }", "A").files()["src/types.rt"]
-        self.assertEqual(1, text.count("use picky_asn1_der::de::{Begins, deserialize_choice_as};\n"))
+        self.assertEqual(1, text.count("    Begins, Faithful, FaithfulAlternatives, FaithfulMembers, Inhabited, deserialize_choice_as,\n"))
         self.assertIn("use picky_asn1_der::OneOf::{Other, This};\n", text)
         self.assertNotIn("use crate", text)
         self.assertIn("ghost use Rattle.std.specs.Prelude.{refl};\n", text)
-        self.assertEqual(3, text.count("{\n    ghost use Rattle.der_examples.specs.declared.types.C.TheVariants as variants;\n"))
+        self.assertEqual(4, text.count("{\n    ghost use Rattle.der_examples.specs.declared.types.C.TheVariants as variants;\n"))
 
     def test_terms_that_are_many(self):
         lines = term_imports("Rattle.a", [f"name_of_a_term_{it}" for it in range(12)])

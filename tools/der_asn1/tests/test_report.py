@@ -60,8 +60,15 @@ class Reports(unittest.TestCase):
 
     def test_types_without_exact_are_named(self):
         found = report.without_exact(self.found)
-        self.assertEqual("4 of 6 (66.7 %) with `Exact`", found[0])
+        self.assertEqual("4 of 6 (66.7 %) with `Exact` and `Faithful`", found[0])
         self.assertEqual(["M.E has none: tags with a number above 30", "M.G has none: not read"], [it.strip() for it in found[1:]])
+
+    def test_types_without_a_readable_value_are_named(self):
+        problems = Problems()
+        body = "A ::= INTEGER (200..210)\nB ::= SEQUENCE { a INTEGER (300..400), b NULL }\nC ::= SEQUENCE { a A OPTIONAL }\nD ::= OCTET STRING (SIZE (3))"
+        found = report.without_inhabited(report.report_of(read_text(module_text(body), "m.asn1", problems), problems))
+        self.assertEqual("2 of 4 (50.0 %) with `Inhabited`", found[0])
+        self.assertEqual(["M.A has none: no readable value is found", "M.B has none: no readable value is found"], [it.strip() for it in found[1:]])
 
     def test_shares(self):
         self.assertEqual("1 of 4 (25.0 %)", report.share(1, 4))

@@ -2,8 +2,8 @@
 //!
 //! How `Noted` is written and read.
 ghost use Rattle.std.specs.Prelude.{refl};
-ghost use Rattle.picky_der_de.specs.MembersFacts.{sequence_of, sequence_shape, struct_facts};
 ghost use Rattle.picky_der_de.specs.Faithful.{struct_sameness};
+ghost use Rattle.picky_der_de.specs.MembersFacts.{sequence_of, sequence_shape, struct_facts};
 
 use super::Noted;
 use picky_asn1_der::asn1::{ExplicitContextTag0, Tag};

@@ -2,10 +2,10 @@
 //!
 //! How `RiverLevels` is written and read.
 ghost use Rattle.std.specs.Prelude.{refl};
+ghost use Rattle.picky_der_de.specs.Faithful.{struct_sameness};
 ghost use Rattle.picky_der_de.specs.MembersFacts.{sequence_of, sequence_shape, struct_facts};
 ghost use Rattle.der_types.specs.Notation.{Notation};
 ghost use Rattle.der_types.specs.ExactMembers.{struct_values};
-ghost use Rattle.picky_der_de.specs.Faithful.{struct_sameness};
 
 use super::RiverLevels;
 use der_types::{Exact, ExactMembers, Notated, NotatedMembers};

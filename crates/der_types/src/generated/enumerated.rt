@@ -3,6 +3,7 @@
 ghost use Rattle.std.proofs.Common.{lit≤};
 ghost use Rattle.std.specs.Prelude.{◌≡◌, true, false, refl, IfSome, IfNone, IfOk, IfErr};
 ghost use Rattle.std.specs.Cmp.Lexicographic.{bytes_decides};
+ghost use Rattle.picky_der_de.specs.Faithful.{same_list};
 ghost use Rattle.picky_der_de.specs.Facts.{bytes_facts};
 ghost use Rattle.picky_der_core.specs.Integer.{is_integer};
 ghost use Rattle.der_types.specs.ContentForms as form;
@@ -10,6 +11,8 @@ ghost use Rattle.der_types.specs.ContentTests.{ReadsContent, RefusesContent};
 ghost use Rattle.der_types.specs.Exact.{content_exact, plain_values};
 ghost use Rattle.der_types.specs.ExactContents.{own_contents};
 ghost use Rattle.der_types.specs.ContentsFacts.{contents_of, contents_shape};
+ghost use Rattle.der_types.specs.Sameness.{content_sameness};
+ghost use Rattle.der_types.specs.SampleTrees.{exact_example};
 ghost use Rattle.der_types.specs.MadeValues.{vec_of};
 
 use crate::{
@@ -18,7 +21,7 @@ use crate::{
 use picky_der_core::asn1::Tag;
 use picky_der_core::misc::{ReadExt, WriteExt};
 use picky_der_core::{Asn1DerError, Result};
-use picky_der_de::{Begins, Deserialize, Deserializer};
+use picky_der_de::{Begins, Deserialize, Deserializer, Faithful, Inhabited};
 use picky_der_ser::{Serialize, Serializer};
 
 impl Enumerated {
@@ -115,4 +118,14 @@ impl ExactContents for Enumerated {
     ghost own_contents = { own_contents 0x0A (λ it. it.0.content.items) (lit≤ tt) };
 
     ghost exact_contents = { Prim.assumption };
+}
+
+impl Faithful for Enumerated {
+    ghost sameness = { content_sameness 0x0A (λ it. it.0.content.items) ⟦<Self as PartialEq>⟧.eq (λ x y. same_list x.0.content.items y.0.content.items) };
+
+    ghost respects = { Prim.assumption };
+}
+
+impl Inhabited for Enumerated {
+    ghost example = { exact_example ⟦<Self as Exact>⟧.values ⟦<Self as Exact>⟧.exact refl };
 }

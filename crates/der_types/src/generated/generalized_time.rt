@@ -3,12 +3,15 @@
 ghost use Rattle.std.proofs.Common.{lit≤};
 ghost use Rattle.std.specs.Prelude.{◌≡◌, true, false, refl, IfSome, IfNone, IfOk, IfErr};
 ghost use Rattle.der_types.specs.GeneralizedTimeLaws.{same-equal};
+ghost use Rattle.der_types.specs.GeneralizedTimeLaws.{same_times};
 ghost use Rattle.der_types.specs.TimeContents.{is_generalized_time};
 ghost use Rattle.der_types.specs.ContentForms as form;
 ghost use Rattle.der_types.specs.ContentTests.{ReadsContent, RefusesContent};
 ghost use Rattle.der_types.specs.Exact.{content_exact, plain_values};
 ghost use Rattle.der_types.specs.ExactContents.{own_contents};
 ghost use Rattle.der_types.specs.ContentsFacts.{contents_of, contents_shape, contents_facts};
+ghost use Rattle.der_types.specs.Sameness.{content_sameness};
+ghost use Rattle.der_types.specs.SampleTrees.{exact_example};
 ghost use Rattle.der_types.specs.MadeValues.{vec_of};
 
 use crate::time_contents::is_generalized_time;
@@ -16,7 +19,7 @@ use crate::{Contents, Exact, ExactContents, GeneralizedTime, Notated, deserializ
 use picky_der_core::asn1::Tag;
 use picky_der_core::misc::{ReadExt, WriteExt};
 use picky_der_core::{Asn1DerError, Result};
-use picky_der_de::{Begins, Deserialize, Deserializer};
+use picky_der_de::{Begins, Deserialize, Deserializer, Faithful, Inhabited};
 use picky_der_ser::{Serialize, Serializer};
 
 impl GeneralizedTime {
@@ -115,4 +118,14 @@ impl ExactContents for GeneralizedTime {
     ghost own_contents = { own_contents 0x18 (λ it. it.content.items) (lit≤ tt) };
 
     ghost exact_contents = { Prim.assumption };
+}
+
+impl Faithful for GeneralizedTime {
+    ghost sameness = { content_sameness 0x18 (λ it. it.content.items) ⟦<Self as PartialEq>⟧.eq (λ x y. (same_times x y).0) };
+
+    ghost respects = { Prim.assumption };
+}
+
+impl Inhabited for GeneralizedTime {
+    ghost example = { exact_example ⟦<Self as Exact>⟧.values ⟦<Self as Exact>⟧.exact refl };
 }

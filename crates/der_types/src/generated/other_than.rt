@@ -8,12 +8,13 @@ ghost use Rattle.picky_der_de.specs.Facts.{part_facts};
 ghost use Rattle.der_types.specs.Constraints.{is_between, RefusesConstrained};
 ghost use Rattle.der_types.specs.ExactConstraints.{other_than_values};
 ghost use Rattle.der_types.specs.Notation.{Notation};
+ghost use Rattle.der_types.specs.Sameness.{newtype_sameness};
 
 use crate::{Constrained, Exact, ExactNumber, Notated, WholeNumber, deserialize_constrained_as};
 use picky_der_core::Result;
 use picky_der_core::asn1::Tag;
 use picky_der_core::misc::{ReadExt, WriteExt};
-use picky_der_de::{Begins, Deserialize, Deserializer};
+use picky_der_de::{Begins, Deserialize, Deserializer, Faithful};
 use picky_der_ser::{Serialize, Serializer};
 
 /// A number other than `N`. It is encoded as the number.
@@ -125,4 +126,10 @@ impl<T: ExactNumber, const N: u64> Exact for OtherThan<T, N> {
     ghost values = { other_than_values T.values T.notation T.meaning (λ it. it.value) N T.numbered T.number (λ it. it.allowed) (λ x e. (record { value = x; allowed = e }, refl)) };
 
     ghost exact = { Prim.assumption };
+}
+
+impl<T: Faithful + WholeNumber, const N: u64> Faithful for OtherThan<T, N> {
+    ghost sameness = { newtype_sameness T.sameness T.eq T.meaning (λ it. it.value) };
+
+    ghost respects = { Prim.assumption };
 }

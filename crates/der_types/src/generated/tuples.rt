@@ -71,7 +71,8 @@ impl<A: Exact, B: Exact, C: Exact, D: Exact, E: Exact> Exact for (A, B, C, D, E)
     ghost exact = { Prim.assumption };
 }
 
-impl<A: Notated, B: Notated, C: Notated, D: Notated, E: Notated, F: Notated> Notated for (A, B, C, D, E, F) {
+impl<A: Notated, B: Notated, C: Notated, D: Notated, E: Notated, F: Notated> Notated
+    for (A, B, C, D, E, F) {
     ghost notation = { Notation.sequence (Members.member (Member.required A.notation) (Members.member (Member.required B.notation) (Members.member (Member.required C.notation) (Members.member (Member.required D.notation) (Members.member (Member.required E.notation) (Members.member (Member.required F.notation) Members.end)))))) };
 
     ghost denoted = { ap (Shape.fields ListKind.sequence) (required_first A.denoted (required_first B.denoted (required_first C.denoted (required_first D.denoted (required_first E.denoted (required_first F.denoted (refl {a = Layout.empty}))))))) };
@@ -83,25 +84,37 @@ impl<A: Exact, B: Exact, C: Exact, D: Exact, E: Exact, F: Exact> Exact for (A, B
     ghost exact = { Prim.assumption };
 }
 
-impl<A: Notated, B: Notated, C: Notated, D: Notated, E: Notated, F: Notated, G: Notated> Notated for (A, B, C, D, E, F, G) {
+impl<A: Notated, B: Notated, C: Notated, D: Notated, E: Notated, F: Notated, G: Notated> Notated
+    for (A, B, C, D, E, F, G) {
     ghost notation = { Notation.sequence (Members.member (Member.required A.notation) (Members.member (Member.required B.notation) (Members.member (Member.required C.notation) (Members.member (Member.required D.notation) (Members.member (Member.required E.notation) (Members.member (Member.required F.notation) (Members.member (Member.required G.notation) Members.end))))))) };
 
     ghost denoted = { ap (Shape.fields ListKind.sequence) (required_first A.denoted (required_first B.denoted (required_first C.denoted (required_first D.denoted (required_first E.denoted (required_first F.denoted (required_first G.denoted (refl {a = Layout.empty})))))))) };
 }
 
-impl<A: Exact, B: Exact, C: Exact, D: Exact, E: Exact, F: Exact, G: Exact> Exact for (A, B, C, D, E, F, G) {
+impl<A: Exact, B: Exact, C: Exact, D: Exact, E: Exact, F: Exact, G: Exact> Exact
+    for (A, B, C, D, E, F, G) {
     ghost values = { struct_values ⟦<(A, B, C, D, E, F, G, ()) as ExactMembers>⟧.all_values ⟦<(A, B, C, D, E, F, G, ()) as NotatedMembers>⟧.members_notation ⟦<(A, B, C, D, E, F, G, ()) as SerializeMembers>⟧.members (λ t. (t.0, t.1, t.2, t.3, t.4, t.5, t.6, tt)) (λ m. ((m.0, m.1, m.2, m.3, m.4, m.5, m.6), refl {a = m})) };
 
     ghost exact = { Prim.assumption };
 }
 
-impl<A: Notated, B: Notated, C: Notated, D: Notated, E: Notated, F: Notated, G: Notated, H: Notated> Notated for (A, B, C, D, E, F, G, H) {
+impl<
+    A: Notated,
+    B: Notated,
+    C: Notated,
+    D: Notated,
+    E: Notated,
+    F: Notated,
+    G: Notated,
+    H: Notated,
+> Notated for (A, B, C, D, E, F, G, H) {
     ghost notation = { Notation.sequence (Members.member (Member.required A.notation) (Members.member (Member.required B.notation) (Members.member (Member.required C.notation) (Members.member (Member.required D.notation) (Members.member (Member.required E.notation) (Members.member (Member.required F.notation) (Members.member (Member.required G.notation) (Members.member (Member.required H.notation) Members.end)))))))) };
 
     ghost denoted = { ap (Shape.fields ListKind.sequence) (required_first A.denoted (required_first B.denoted (required_first C.denoted (required_first D.denoted (required_first E.denoted (required_first F.denoted (required_first G.denoted (required_first H.denoted (refl {a = Layout.empty}))))))))) };
 }
 
-impl<A: Exact, B: Exact, C: Exact, D: Exact, E: Exact, F: Exact, G: Exact, H: Exact> Exact for (A, B, C, D, E, F, G, H) {
+impl<A: Exact, B: Exact, C: Exact, D: Exact, E: Exact, F: Exact, G: Exact, H: Exact> Exact
+    for (A, B, C, D, E, F, G, H) {
     ghost values = { struct_values ⟦<(A, B, C, D, E, F, G, H, ()) as ExactMembers>⟧.all_values ⟦<(A, B, C, D, E, F, G, H, ()) as NotatedMembers>⟧.members_notation ⟦<(A, B, C, D, E, F, G, H, ()) as SerializeMembers>⟧.members (λ t. (t.0, t.1, t.2, t.3, t.4, t.5, t.6, t.7, tt)) (λ m. ((m.0, m.1, m.2, m.3, m.4, m.5, m.6, m.7), refl {a = m})) };
 
     ghost exact = { Prim.assumption };

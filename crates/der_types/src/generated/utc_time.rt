@@ -3,12 +3,15 @@
 ghost use Rattle.std.proofs.Common.{lit≤};
 ghost use Rattle.std.specs.Prelude.{◌≡◌, true, false, refl, IfSome, IfNone, IfOk, IfErr};
 ghost use Rattle.der_types.specs.TimeLaws.{utc-same};
+ghost use Rattle.der_types.specs.TimeSameness.{same_utc};
 ghost use Rattle.der_types.specs.TimeContents.{is_utc_time};
 ghost use Rattle.der_types.specs.ContentForms as form;
 ghost use Rattle.der_types.specs.ContentTests.{ReadsContent, RefusesContent};
 ghost use Rattle.der_types.specs.Exact.{content_exact, plain_values};
 ghost use Rattle.der_types.specs.ExactContents.{own_contents};
 ghost use Rattle.der_types.specs.ContentsFacts.{contents_of, contents_shape, contents_facts};
+ghost use Rattle.der_types.specs.Sameness.{content_sameness};
+ghost use Rattle.der_types.specs.SampleTrees.{exact_example};
 ghost use Rattle.der_types.specs.ExactTimes.{utc_made};
 ghost use Rattle.der_types.specs.TimeLaws.{utc-valid};
 ghost use Rattle.der_types.specs.TimeValues.{utc_content};
@@ -17,7 +20,7 @@ use crate::{Contents, Exact, ExactContents, Notated, UtcTime, deserialize_conten
 use picky_der_core::Result;
 use picky_der_core::asn1::Tag;
 use picky_der_core::misc::{ReadExt, WriteExt};
-use picky_der_de::{Begins, Deserialize, Deserializer};
+use picky_der_de::{Begins, Deserialize, Deserializer, Faithful, Inhabited};
 use picky_der_ser::{Serialize, Serializer};
 use std::alloc::Global;
 
@@ -106,4 +109,14 @@ impl ExactContents for UtcTime {
     ghost own_contents = { own_contents 0x17 (λ it. utc_content it.at) (lit≤ tt) };
 
     ghost exact_contents = { Prim.assumption };
+}
+
+impl Faithful for UtcTime {
+    ghost sameness = { content_sameness 0x17 (λ it. utc_content it.at) ⟦<Self as PartialEq>⟧.eq (λ x y. same_utc x.at y.at) };
+
+    ghost respects = { Prim.assumption };
+}
+
+impl Inhabited for UtcTime {
+    ghost example = { exact_example ⟦<Self as Exact>⟧.values ⟦<Self as Exact>⟧.exact refl };
 }

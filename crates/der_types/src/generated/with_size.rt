@@ -8,12 +8,13 @@ ghost use Rattle.picky_der_de.specs.Facts.{part_facts};
 ghost use Rattle.der_types.specs.Constraints.{is_size, RefusesConstrained};
 ghost use Rattle.der_types.specs.ExactConstraints.{sized_values};
 ghost use Rattle.der_types.specs.Notation.{Notation};
+ghost use Rattle.der_types.specs.Sameness.{newtype_sameness};
 
 use crate::{Constrained, Exact, ExactSize, Notated, Size, deserialize_constrained_as};
 use picky_der_core::Result;
 use picky_der_core::asn1::Tag;
 use picky_der_core::misc::{ReadExt, WriteExt};
-use picky_der_de::{Begins, Deserialize, Deserializer};
+use picky_der_de::{Begins, Deserialize, Deserializer, Faithful};
 use picky_der_ser::{List, Serialize, Serializer};
 
 /// A value whose size is from `MIN` to `MAX`, as in `SIZE (MIN..MAX)` (X.680, 51.5). It is encoded as the value.
@@ -129,4 +130,10 @@ impl<T: ExactSize, const MIN: usize, const MAX: usize> Exact for WithSize<T, MIN
     ghost values = { sized_values T.values T.notation T.meaning (λ it. it.value) MIN MAX T.sized T.size (λ it. it.allowed) (λ x e. (record { value = x; allowed = e }, refl)) };
 
     ghost exact = { Prim.assumption };
+}
+
+impl<T: Faithful + Size, const MIN: usize, const MAX: usize> Faithful for WithSize<T, MIN, MAX> {
+    ghost sameness = { newtype_sameness T.sameness T.eq T.meaning (λ it. it.value) };
+
+    ghost respects = { Prim.assumption };
 }
