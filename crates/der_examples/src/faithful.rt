@@ -26,7 +26,8 @@ impl Inhabited for Point {
 }
 
 impl Faithful for NumberOrFlag {
-    ghost sameness = { choice_sameness ⟦<OneOf<u8, OneOf<bool, NoneOf>> as FaithfulAlternatives>⟧.sameness ⟦<Self as Choice>⟧.parts ⟦<Self as PartialEq>⟧.eq
+    ghost sameness = { choice_sameness ⟦<OneOf<u8, OneOf<bool, NoneOf>> as FaithfulAlternatives>⟧.sameness
+        ⟦<Self as Choice>⟧.parts ⟦<Self as PartialEq>⟧.eq
         (elim [ Number _ ↦ elim [ Number _ ↦ λ h. h | _ ↦ λ h. h ] | _ ↦ elim [ Number _ ↦ λ h. h | _ ↦ λ h. h ] ]) };
 
     ghost respects = { Prim.assumption };
