@@ -87,6 +87,7 @@ def inhabited_impl(name: str) -> list[str]:
     """The implementation of `Inhabited` for a type with `Exact`: a tree of its notation is found when the program is checked."""
     return [
         f"impl Inhabited for {name} {{",
-        f"{STEP}ghost example = {{ exact_example ⟦<Self as Exact>⟧.values ⟦<Self as Exact>⟧.exact refl }};",
+        f"{STEP}ghost example = {{ exact_example ⟦<Self as Exact>⟧.values ⟦<Self as Notated>⟧.notation ⟦<Self as Serialize>⟧.meaning",
+        f"{_TWO}refl Prim.assumption }};",
         "}",
     ]

@@ -96,7 +96,8 @@ impl Faithful for GcmParameters {
 }
 
 impl Inhabited for GcmParameters {
-    ghost example = { exact_example ⟦<Self as Exact>⟧.values ⟦<Self as Exact>⟧.exact refl };
+    ghost example = { exact_example ⟦<Self as Exact>⟧.values ⟦<Self as Notated>⟧.notation ⟦<Self as Serialize>⟧.meaning
+        refl Prim.assumption };
 }
 
 /// `AES-GCM-ICVlen` of CMS-AES-CCM-and-AES-GCM: `INTEGER (12 | 13 | 14 | 15 | 16)`.
@@ -181,7 +182,8 @@ impl Faithful for CcmParameters {
 }
 
 impl Inhabited for CcmParameters {
-    ghost example = { exact_example ⟦<Self as Exact>⟧.values ⟦<Self as Exact>⟧.exact refl };
+    ghost example = { exact_example ⟦<Self as Exact>⟧.values ⟦<Self as Notated>⟧.notation ⟦<Self as Serialize>⟧.meaning
+        refl Prim.assumption };
 }
 
 /// `AES-CCM-ICVlen` of CMS-AES-CCM-and-AES-GCM: `INTEGER (4 | 6 | 8 | 10 | 12 | 14 | 16)`.

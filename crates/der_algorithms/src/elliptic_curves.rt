@@ -131,7 +131,8 @@ impl Faithful for EcpkParameters {
 }
 
 impl Inhabited for EcpkParameters {
-    ghost example = { exact_example ⟦<Self as Exact>⟧.values ⟦<Self as Exact>⟧.exact refl };
+    ghost example = { exact_example ⟦<Self as Exact>⟧.values ⟦<Self as Notated>⟧.notation ⟦<Self as Serialize>⟧.meaning
+        refl Prim.assumption };
 }
 
 /// `ECParameters` of PKIX1Algorithms88, as a SEQUENCE.
@@ -246,7 +247,8 @@ impl Faithful for EcParameters {
 }
 
 impl Inhabited for EcParameters {
-    ghost example = { exact_example ⟦<Self as Exact>⟧.values ⟦<Self as Exact>⟧.exact refl };
+    ghost example = { exact_example ⟦<Self as Exact>⟧.values ⟦<Self as Notated>⟧.notation ⟦<Self as Serialize>⟧.meaning
+        refl Prim.assumption };
 }
 
 /// `ECPVer` of PKIX1Algorithms88: `INTEGER { ecpVer1 (1) }`.
@@ -327,7 +329,8 @@ impl Faithful for Curve {
 }
 
 impl Inhabited for Curve {
-    ghost example = { exact_example ⟦<Self as Exact>⟧.values ⟦<Self as Exact>⟧.exact refl };
+    ghost example = { exact_example ⟦<Self as Exact>⟧.values ⟦<Self as Notated>⟧.notation ⟦<Self as Serialize>⟧.meaning
+        refl Prim.assumption };
 }
 
 /// `FieldElement` of PKIX1Algorithms88: `OCTET STRING`.

@@ -128,7 +128,8 @@ impl Faithful for Pbkdf2Params {
 }
 
 impl Inhabited for Pbkdf2Params {
-    ghost example = { exact_example ⟦<Self as Exact>⟧.values ⟦<Self as Exact>⟧.exact refl };
+    ghost example = { exact_example ⟦<Self as Exact>⟧.values ⟦<Self as Notated>⟧.notation ⟦<Self as Serialize>⟧.meaning
+        refl Prim.assumption };
 }
 
 /// RFC 8018 gives this type no name. The other source is the members of an AlgorithmIdentifier:
@@ -220,7 +221,8 @@ impl Faithful for Pbkdf2Salt {
 }
 
 impl Inhabited for Pbkdf2Salt {
-    ghost example = { exact_example ⟦<Self as Exact>⟧.values ⟦<Self as Exact>⟧.exact refl };
+    ghost example = { exact_example ⟦<Self as Exact>⟧.values ⟦<Self as Notated>⟧.notation ⟦<Self as Serialize>⟧.meaning
+        refl Prim.assumption };
 }
 
 /// The parameters of PBES1. `PBEParameter` of PKCS5v2-1, as a SEQUENCE.
@@ -299,7 +301,8 @@ impl Faithful for PbeParameter {
 }
 
 impl Inhabited for PbeParameter {
-    ghost example = { exact_example ⟦<Self as Exact>⟧.values ⟦<Self as Exact>⟧.exact refl };
+    ghost example = { exact_example ⟦<Self as Exact>⟧.values ⟦<Self as Notated>⟧.notation ⟦<Self as Serialize>⟧.meaning
+        refl Prim.assumption };
 }
 
 /// `PBES2-params` of PKCS5v2-1, as a SEQUENCE.
@@ -378,7 +381,8 @@ impl Faithful for Pbes2Params {
 }
 
 impl Inhabited for Pbes2Params {
-    ghost example = { exact_example ⟦<Self as Exact>⟧.values ⟦<Self as Exact>⟧.exact refl };
+    ghost example = { exact_example ⟦<Self as Exact>⟧.values ⟦<Self as Notated>⟧.notation ⟦<Self as Serialize>⟧.meaning
+        refl Prim.assumption };
 }
 
 /// `PBMAC1-params` of PKCS5v2-1, as a SEQUENCE.
@@ -457,7 +461,8 @@ impl Faithful for Pbmac1Params {
 }
 
 impl Inhabited for Pbmac1Params {
-    ghost example = { exact_example ⟦<Self as Exact>⟧.values ⟦<Self as Exact>⟧.exact refl };
+    ghost example = { exact_example ⟦<Self as Exact>⟧.values ⟦<Self as Notated>⟧.notation ⟦<Self as Serialize>⟧.meaning
+        refl Prim.assumption };
 }
 
 /// The parameters of AES, whose block is the initialization vector. RFC 8018 gives this type no
@@ -540,5 +545,6 @@ impl Faithful for Rc2CbcParameter {
 }
 
 impl Inhabited for Rc2CbcParameter {
-    ghost example = { exact_example ⟦<Self as Exact>⟧.values ⟦<Self as Exact>⟧.exact refl };
+    ghost example = { exact_example ⟦<Self as Exact>⟧.values ⟦<Self as Notated>⟧.notation ⟦<Self as Serialize>⟧.meaning
+        refl Prim.assumption };
 }

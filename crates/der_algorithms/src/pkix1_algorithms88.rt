@@ -98,7 +98,8 @@ impl Faithful for DssParms {
 }
 
 impl Inhabited for DssParms {
-    ghost example = { exact_example ⟦<Self as Exact>⟧.values ⟦<Self as Exact>⟧.exact refl };
+    ghost example = { exact_example ⟦<Self as Exact>⟧.values ⟦<Self as Notated>⟧.notation ⟦<Self as Serialize>⟧.meaning
+        refl Prim.assumption };
 }
 
 /// `Dss-Sig-Value` of PKIX1Algorithms88, as a SEQUENCE.
@@ -174,7 +175,8 @@ impl Faithful for DssSigValue {
 }
 
 impl Inhabited for DssSigValue {
-    ghost example = { exact_example ⟦<Self as Exact>⟧.values ⟦<Self as Exact>⟧.exact refl };
+    ghost example = { exact_example ⟦<Self as Exact>⟧.values ⟦<Self as Notated>⟧.notation ⟦<Self as Serialize>⟧.meaning
+        refl Prim.assumption };
 }
 
 /// `DHPublicKey` of PKIX1Algorithms88: `INTEGER`.
@@ -280,7 +282,8 @@ impl Faithful for DomainParameters {
 }
 
 impl Inhabited for DomainParameters {
-    ghost example = { exact_example ⟦<Self as Exact>⟧.values ⟦<Self as Exact>⟧.exact refl };
+    ghost example = { exact_example ⟦<Self as Exact>⟧.values ⟦<Self as Notated>⟧.notation ⟦<Self as Serialize>⟧.meaning
+        refl Prim.assumption };
 }
 
 /// `ValidationParms` of PKIX1Algorithms88, as a SEQUENCE.
@@ -356,7 +359,8 @@ impl Faithful for ValidationParms {
 }
 
 impl Inhabited for ValidationParms {
-    ghost example = { exact_example ⟦<Self as Exact>⟧.values ⟦<Self as Exact>⟧.exact refl };
+    ghost example = { exact_example ⟦<Self as Exact>⟧.values ⟦<Self as Notated>⟧.notation ⟦<Self as Serialize>⟧.meaning
+        refl Prim.assumption };
 }
 
 /// `ECDSA-Sig-Value` of PKIX1Algorithms88, as a SEQUENCE.
@@ -432,7 +436,8 @@ impl Faithful for EcdsaSigValue {
 }
 
 impl Inhabited for EcdsaSigValue {
-    ghost example = { exact_example ⟦<Self as Exact>⟧.values ⟦<Self as Exact>⟧.exact refl };
+    ghost example = { exact_example ⟦<Self as Exact>⟧.values ⟦<Self as Notated>⟧.notation ⟦<Self as Serialize>⟧.meaning
+        refl Prim.assumption };
 }
 
 /// `FieldID` of PKIX1Algorithms88, as a SEQUENCE.
@@ -511,7 +516,8 @@ impl Faithful for FieldId {
 }
 
 impl Inhabited for FieldId {
-    ghost example = { exact_example ⟦<Self as Exact>⟧.values ⟦<Self as Exact>⟧.exact refl };
+    ghost example = { exact_example ⟦<Self as Exact>⟧.values ⟦<Self as Notated>⟧.notation ⟦<Self as Serialize>⟧.meaning
+        refl Prim.assumption };
 }
 
 /// The parameters of prime-field. `Prime-p` of PKIX1Algorithms88: `INTEGER`.
@@ -598,7 +604,8 @@ impl Faithful for CharacteristicTwo {
 }
 
 impl Inhabited for CharacteristicTwo {
-    ghost example = { exact_example ⟦<Self as Exact>⟧.values ⟦<Self as Exact>⟧.exact refl };
+    ghost example = { exact_example ⟦<Self as Exact>⟧.values ⟦<Self as Notated>⟧.notation ⟦<Self as Serialize>⟧.meaning
+        refl Prim.assumption };
 }
 
 /// The parameters of tpBasis: k, where the polynomial is x^m + x^k + 1. `Trinomial` of
@@ -681,5 +688,6 @@ impl Faithful for Pentanomial {
 }
 
 impl Inhabited for Pentanomial {
-    ghost example = { exact_example ⟦<Self as Exact>⟧.values ⟦<Self as Exact>⟧.exact refl };
+    ghost example = { exact_example ⟦<Self as Exact>⟧.values ⟦<Self as Notated>⟧.notation ⟦<Self as Serialize>⟧.meaning
+        refl Prim.assumption };
 }

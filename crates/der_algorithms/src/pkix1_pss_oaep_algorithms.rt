@@ -138,7 +138,8 @@ impl Faithful for RsassaPssParams {
 }
 
 impl Inhabited for RsassaPssParams {
-    ghost example = { exact_example ⟦<Self as Exact>⟧.values ⟦<Self as Exact>⟧.exact refl };
+    ghost example = { exact_example ⟦<Self as Exact>⟧.values ⟦<Self as Notated>⟧.notation ⟦<Self as Serialize>⟧.meaning
+        refl Prim.assumption };
 }
 
 /// `RSAES-OAEP-params` of PKIX1-PSS-OAEP-Algorithms, as a SEQUENCE.
@@ -242,5 +243,6 @@ impl Faithful for RsaesOaepParams {
 }
 
 impl Inhabited for RsaesOaepParams {
-    ghost example = { exact_example ⟦<Self as Exact>⟧.values ⟦<Self as Exact>⟧.exact refl };
+    ghost example = { exact_example ⟦<Self as Exact>⟧.values ⟦<Self as Notated>⟧.notation ⟦<Self as Serialize>⟧.meaning
+        refl Prim.assumption };
 }

@@ -126,7 +126,8 @@ impl Faithful for RevocationInfoChoice {
 }
 
 impl Inhabited for RevocationInfoChoice {
-    ghost example = { exact_example ⟦<Self as Exact>⟧.values ⟦<Self as Exact>⟧.exact refl };
+    ghost example = { exact_example ⟦<Self as Exact>⟧.values ⟦<Self as Notated>⟧.notation ⟦<Self as Serialize>⟧.meaning
+        refl Prim.assumption };
 }
 
 /// `OtherRevocationInfoFormat` of CryptographicMessageSyntax2004, as a SEQUENCE.
@@ -208,7 +209,8 @@ impl Faithful for OtherRevocationInfoFormat {
 }
 
 impl Inhabited for OtherRevocationInfoFormat {
-    ghost example = { exact_example ⟦<Self as Exact>⟧.values ⟦<Self as Exact>⟧.exact refl };
+    ghost example = { exact_example ⟦<Self as Exact>⟧.values ⟦<Self as Notated>⟧.notation ⟦<Self as Serialize>⟧.meaning
+        refl Prim.assumption };
 }
 
 /// `CertificateChoices` of CryptographicMessageSyntax2004, as a CHOICE.
@@ -336,7 +338,8 @@ impl Faithful for CertificateChoices {
 }
 
 impl Inhabited for CertificateChoices {
-    ghost example = { exact_example ⟦<Self as Exact>⟧.values ⟦<Self as Exact>⟧.exact refl };
+    ghost example = { exact_example ⟦<Self as Exact>⟧.values ⟦<Self as Notated>⟧.notation ⟦<Self as Serialize>⟧.meaning
+        refl Prim.assumption };
 }
 
 /// Certificates of PKCS #6 and attribute certificates (RFC 5755), by their members. This module
@@ -429,7 +432,8 @@ impl Faithful for OtherCertificateFormat {
 }
 
 impl Inhabited for OtherCertificateFormat {
-    ghost example = { exact_example ⟦<Self as Exact>⟧.values ⟦<Self as Exact>⟧.exact refl };
+    ghost example = { exact_example ⟦<Self as Exact>⟧.values ⟦<Self as Notated>⟧.notation ⟦<Self as Serialize>⟧.meaning
+        refl Prim.assumption };
 }
 
 /// `CertificateSet` of CryptographicMessageSyntax2004: `SET OF CertificateChoices`.
@@ -514,5 +518,6 @@ impl Faithful for IssuerAndSerialNumber {
 }
 
 impl Inhabited for IssuerAndSerialNumber {
-    ghost example = { exact_example ⟦<Self as Exact>⟧.values ⟦<Self as Exact>⟧.exact refl };
+    ghost example = { exact_example ⟦<Self as Exact>⟧.values ⟦<Self as Notated>⟧.notation ⟦<Self as Serialize>⟧.meaning
+        refl Prim.assumption };
 }

@@ -113,7 +113,8 @@ impl Faithful for ContentInfo {
 }
 
 impl Inhabited for ContentInfo {
-    ghost example = { exact_example ⟦<Self as Exact>⟧.values ⟦<Self as Exact>⟧.exact refl };
+    ghost example = { exact_example ⟦<Self as Exact>⟧.values ⟦<Self as Notated>⟧.notation ⟦<Self as Serialize>⟧.meaning
+        refl Prim.assumption };
 }
 
 /// `ContentType` of CryptographicMessageSyntax2004: `OBJECT IDENTIFIER`.
@@ -199,7 +200,8 @@ impl Faithful for Attribute {
 }
 
 impl Inhabited for Attribute {
-    ghost example = { exact_example ⟦<Self as Exact>⟧.values ⟦<Self as Exact>⟧.exact refl };
+    ghost example = { exact_example ⟦<Self as Exact>⟧.values ⟦<Self as Notated>⟧.notation ⟦<Self as Serialize>⟧.meaning
+        refl Prim.assumption };
 }
 
 /// `AttributeValue` of CryptographicMessageSyntax2004: `ANY`.
@@ -305,7 +307,8 @@ impl Faithful for DigestedData {
 }
 
 impl Inhabited for DigestedData {
-    ghost example = { exact_example ⟦<Self as Exact>⟧.values ⟦<Self as Exact>⟧.exact refl };
+    ghost example = { exact_example ⟦<Self as Exact>⟧.values ⟦<Self as Notated>⟧.notation ⟦<Self as Serialize>⟧.meaning
+        refl Prim.assumption };
 }
 
 /// `Digest` of CryptographicMessageSyntax2004: `OCTET STRING`.
@@ -401,7 +404,8 @@ impl Faithful for EncryptedData {
 }
 
 impl Inhabited for EncryptedData {
-    ghost example = { exact_example ⟦<Self as Exact>⟧.values ⟦<Self as Exact>⟧.exact refl };
+    ghost example = { exact_example ⟦<Self as Exact>⟧.values ⟦<Self as Notated>⟧.notation ⟦<Self as Serialize>⟧.meaning
+        refl Prim.assumption };
 }
 
 /// `AuthenticatedData` of CryptographicMessageSyntax2004, as a SEQUENCE.
@@ -557,7 +561,8 @@ impl Faithful for AuthenticatedData {
 }
 
 impl Inhabited for AuthenticatedData {
-    ghost example = { exact_example ⟦<Self as Exact>⟧.values ⟦<Self as Exact>⟧.exact refl };
+    ghost example = { exact_example ⟦<Self as Exact>⟧.values ⟦<Self as Notated>⟧.notation ⟦<Self as Serialize>⟧.meaning
+        refl Prim.assumption };
 }
 
 /// `AuthAttributes` of CryptographicMessageSyntax2004: `SET SIZE (1..MAX) OF Attribute`.
@@ -683,7 +688,8 @@ impl Faithful for Time {
 }
 
 impl Inhabited for Time {
-    ghost example = { exact_example ⟦<Self as Exact>⟧.values ⟦<Self as Exact>⟧.exact refl };
+    ghost example = { exact_example ⟦<Self as Exact>⟧.values ⟦<Self as Notated>⟧.notation ⟦<Self as Serialize>⟧.meaning
+        refl Prim.assumption };
 }
 
 /// `Countersignature` of CryptographicMessageSyntax2004: `SignerInfo`.

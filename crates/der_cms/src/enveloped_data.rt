@@ -144,7 +144,8 @@ impl Faithful for EnvelopedData {
 }
 
 impl Inhabited for EnvelopedData {
-    ghost example = { exact_example ⟦<Self as Exact>⟧.values ⟦<Self as Exact>⟧.exact refl };
+    ghost example = { exact_example ⟦<Self as Exact>⟧.values ⟦<Self as Notated>⟧.notation ⟦<Self as Serialize>⟧.meaning
+        refl Prim.assumption };
 }
 
 /// `OriginatorInfo` of CryptographicMessageSyntax2004, as a SEQUENCE.
@@ -224,7 +225,8 @@ impl Faithful for OriginatorInfo {
 }
 
 impl Inhabited for OriginatorInfo {
-    ghost example = { exact_example ⟦<Self as Exact>⟧.values ⟦<Self as Exact>⟧.exact refl };
+    ghost example = { exact_example ⟦<Self as Exact>⟧.values ⟦<Self as Notated>⟧.notation ⟦<Self as Serialize>⟧.meaning
+        refl Prim.assumption };
 }
 
 /// `EncryptedContentInfo` of CryptographicMessageSyntax2004, as a SEQUENCE.
@@ -322,7 +324,8 @@ impl Faithful for EncryptedContentInfo {
 }
 
 impl Inhabited for EncryptedContentInfo {
-    ghost example = { exact_example ⟦<Self as Exact>⟧.values ⟦<Self as Exact>⟧.exact refl };
+    ghost example = { exact_example ⟦<Self as Exact>⟧.values ⟦<Self as Notated>⟧.notation ⟦<Self as Serialize>⟧.meaning
+        refl Prim.assumption };
 }
 
 /// `EncryptedContent` of CryptographicMessageSyntax2004: `OCTET STRING`.

@@ -159,7 +159,8 @@ impl Faithful for KeyAgreeRecipientInfo {
 }
 
 impl Inhabited for KeyAgreeRecipientInfo {
-    ghost example = { exact_example ⟦<Self as Exact>⟧.values ⟦<Self as Exact>⟧.exact refl };
+    ghost example = { exact_example ⟦<Self as Exact>⟧.values ⟦<Self as Notated>⟧.notation ⟦<Self as Serialize>⟧.meaning
+        refl Prim.assumption };
 }
 
 /// `OriginatorIdentifierOrKey` of CryptographicMessageSyntax2004, as a CHOICE.
@@ -279,7 +280,8 @@ impl Faithful for OriginatorIdentifierOrKey {
 }
 
 impl Inhabited for OriginatorIdentifierOrKey {
-    ghost example = { exact_example ⟦<Self as Exact>⟧.values ⟦<Self as Exact>⟧.exact refl };
+    ghost example = { exact_example ⟦<Self as Exact>⟧.values ⟦<Self as Notated>⟧.notation ⟦<Self as Serialize>⟧.meaning
+        refl Prim.assumption };
 }
 
 /// `OriginatorPublicKey` of CryptographicMessageSyntax2004, as a SEQUENCE.
@@ -359,7 +361,8 @@ impl Faithful for OriginatorPublicKey {
 }
 
 impl Inhabited for OriginatorPublicKey {
-    ghost example = { exact_example ⟦<Self as Exact>⟧.values ⟦<Self as Exact>⟧.exact refl };
+    ghost example = { exact_example ⟦<Self as Exact>⟧.values ⟦<Self as Notated>⟧.notation ⟦<Self as Serialize>⟧.meaning
+        refl Prim.assumption };
 }
 
 /// `RecipientEncryptedKeys` of CryptographicMessageSyntax2004: `SEQUENCE OF RecipientEncryptedKey`.
@@ -441,7 +444,8 @@ impl Faithful for RecipientEncryptedKey {
 }
 
 impl Inhabited for RecipientEncryptedKey {
-    ghost example = { exact_example ⟦<Self as Exact>⟧.values ⟦<Self as Exact>⟧.exact refl };
+    ghost example = { exact_example ⟦<Self as Exact>⟧.values ⟦<Self as Notated>⟧.notation ⟦<Self as Serialize>⟧.meaning
+        refl Prim.assumption };
 }
 
 /// `KeyAgreeRecipientIdentifier` of CryptographicMessageSyntax2004, as a CHOICE.
@@ -541,7 +545,8 @@ impl Faithful for KeyAgreeRecipientIdentifier {
 }
 
 impl Inhabited for KeyAgreeRecipientIdentifier {
-    ghost example = { exact_example ⟦<Self as Exact>⟧.values ⟦<Self as Exact>⟧.exact refl };
+    ghost example = { exact_example ⟦<Self as Exact>⟧.values ⟦<Self as Notated>⟧.notation ⟦<Self as Serialize>⟧.meaning
+        refl Prim.assumption };
 }
 
 /// `RecipientKeyIdentifier` of CryptographicMessageSyntax2004, as a SEQUENCE.
@@ -637,7 +642,8 @@ impl Faithful for RecipientKeyIdentifier {
 }
 
 impl Inhabited for RecipientKeyIdentifier {
-    ghost example = { exact_example ⟦<Self as Exact>⟧.values ⟦<Self as Exact>⟧.exact refl };
+    ghost example = { exact_example ⟦<Self as Exact>⟧.values ⟦<Self as Notated>⟧.notation ⟦<Self as Serialize>⟧.meaning
+        refl Prim.assumption };
 }
 
 /// `UserKeyingMaterial` of CryptographicMessageSyntax2004: `OCTET STRING`.

@@ -155,7 +155,8 @@ impl Faithful for RecipientInfo {
 }
 
 impl Inhabited for RecipientInfo {
-    ghost example = { exact_example ⟦<Self as Exact>⟧.values ⟦<Self as Exact>⟧.exact refl };
+    ghost example = { exact_example ⟦<Self as Exact>⟧.values ⟦<Self as Notated>⟧.notation ⟦<Self as Serialize>⟧.meaning
+        refl Prim.assumption };
 }
 
 /// `EncryptedKey` of CryptographicMessageSyntax2004: `OCTET STRING`.
@@ -264,7 +265,8 @@ impl Faithful for KeyTransRecipientInfo {
 }
 
 impl Inhabited for KeyTransRecipientInfo {
-    ghost example = { exact_example ⟦<Self as Exact>⟧.values ⟦<Self as Exact>⟧.exact refl };
+    ghost example = { exact_example ⟦<Self as Exact>⟧.values ⟦<Self as Notated>⟧.notation ⟦<Self as Serialize>⟧.meaning
+        refl Prim.assumption };
 }
 
 /// `RecipientIdentifier` of CryptographicMessageSyntax2004, as a CHOICE.
@@ -369,7 +371,8 @@ impl Faithful for RecipientIdentifier {
 }
 
 impl Inhabited for RecipientIdentifier {
-    ghost example = { exact_example ⟦<Self as Exact>⟧.values ⟦<Self as Exact>⟧.exact refl };
+    ghost example = { exact_example ⟦<Self as Exact>⟧.values ⟦<Self as Notated>⟧.notation ⟦<Self as Serialize>⟧.meaning
+        refl Prim.assumption };
 }
 
 /// `SubjectKeyIdentifier` of CryptographicMessageSyntax2004: `OCTET STRING`.
@@ -475,7 +478,8 @@ impl Faithful for KekRecipientInfo {
 }
 
 impl Inhabited for KekRecipientInfo {
-    ghost example = { exact_example ⟦<Self as Exact>⟧.values ⟦<Self as Exact>⟧.exact refl };
+    ghost example = { exact_example ⟦<Self as Exact>⟧.values ⟦<Self as Notated>⟧.notation ⟦<Self as Serialize>⟧.meaning
+        refl Prim.assumption };
 }
 
 /// `KEKIdentifier` of CryptographicMessageSyntax2004, as a SEQUENCE.
@@ -568,7 +572,8 @@ impl Faithful for KekIdentifier {
 }
 
 impl Inhabited for KekIdentifier {
-    ghost example = { exact_example ⟦<Self as Exact>⟧.values ⟦<Self as Exact>⟧.exact refl };
+    ghost example = { exact_example ⟦<Self as Exact>⟧.values ⟦<Self as Notated>⟧.notation ⟦<Self as Serialize>⟧.meaning
+        refl Prim.assumption };
 }
 
 /// `PasswordRecipientInfo` of CryptographicMessageSyntax2004, as a SEQUENCE.
@@ -686,7 +691,8 @@ impl Faithful for PasswordRecipientInfo {
 }
 
 impl Inhabited for PasswordRecipientInfo {
-    ghost example = { exact_example ⟦<Self as Exact>⟧.values ⟦<Self as Exact>⟧.exact refl };
+    ghost example = { exact_example ⟦<Self as Exact>⟧.values ⟦<Self as Notated>⟧.notation ⟦<Self as Serialize>⟧.meaning
+        refl Prim.assumption };
 }
 
 /// `OtherRecipientInfo` of CryptographicMessageSyntax2004, as a SEQUENCE.
@@ -766,7 +772,8 @@ impl Faithful for OtherRecipientInfo {
 }
 
 impl Inhabited for OtherRecipientInfo {
-    ghost example = { exact_example ⟦<Self as Exact>⟧.values ⟦<Self as Exact>⟧.exact refl };
+    ghost example = { exact_example ⟦<Self as Exact>⟧.values ⟦<Self as Notated>⟧.notation ⟦<Self as Serialize>⟧.meaning
+        refl Prim.assumption };
 }
 
 /// `OtherKeyAttribute` of CryptographicMessageSyntax2004, as a SEQUENCE.
@@ -846,5 +853,6 @@ impl Faithful for OtherKeyAttribute {
 }
 
 impl Inhabited for OtherKeyAttribute {
-    ghost example = { exact_example ⟦<Self as Exact>⟧.values ⟦<Self as Exact>⟧.exact refl };
+    ghost example = { exact_example ⟦<Self as Exact>⟧.values ⟦<Self as Notated>⟧.notation ⟦<Self as Serialize>⟧.meaning
+        refl Prim.assumption };
 }

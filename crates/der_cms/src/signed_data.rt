@@ -162,7 +162,8 @@ impl Faithful for SignedData {
 }
 
 impl Inhabited for SignedData {
-    ghost example = { exact_example ⟦<Self as Exact>⟧.values ⟦<Self as Exact>⟧.exact refl };
+    ghost example = { exact_example ⟦<Self as Exact>⟧.values ⟦<Self as Notated>⟧.notation ⟦<Self as Serialize>⟧.meaning
+        refl Prim.assumption };
 }
 
 /// `DigestAlgorithmIdentifiers` of CryptographicMessageSyntax2004: `SET OF
@@ -252,7 +253,8 @@ impl Faithful for EncapsulatedContentInfo {
 }
 
 impl Inhabited for EncapsulatedContentInfo {
-    ghost example = { exact_example ⟦<Self as Exact>⟧.values ⟦<Self as Exact>⟧.exact refl };
+    ghost example = { exact_example ⟦<Self as Exact>⟧.values ⟦<Self as Notated>⟧.notation ⟦<Self as Serialize>⟧.meaning
+        refl Prim.assumption };
 }
 
 /// A signature. Where there are signed attributes, it is over their encoding as a SET OF, with the
@@ -392,7 +394,8 @@ impl Faithful for SignerInfo {
 }
 
 impl Inhabited for SignerInfo {
-    ghost example = { exact_example ⟦<Self as Exact>⟧.values ⟦<Self as Exact>⟧.exact refl };
+    ghost example = { exact_example ⟦<Self as Exact>⟧.values ⟦<Self as Notated>⟧.notation ⟦<Self as Serialize>⟧.meaning
+        refl Prim.assumption };
 }
 
 /// `SignerIdentifier` of CryptographicMessageSyntax2004, as a CHOICE.
@@ -497,7 +500,8 @@ impl Faithful for SignerIdentifier {
 }
 
 impl Inhabited for SignerIdentifier {
-    ghost example = { exact_example ⟦<Self as Exact>⟧.values ⟦<Self as Exact>⟧.exact refl };
+    ghost example = { exact_example ⟦<Self as Exact>⟧.values ⟦<Self as Notated>⟧.notation ⟦<Self as Serialize>⟧.meaning
+        refl Prim.assumption };
 }
 
 /// `SignedAttributes` of CryptographicMessageSyntax2004: `SET SIZE (1..MAX) OF Attribute`.

@@ -141,7 +141,8 @@ impl Faithful for ApReqMembers {
 }
 
 impl Inhabited for ApReqMembers {
-    ghost example = { exact_example ⟦<Self as Exact>⟧.values ⟦<Self as Exact>⟧.exact refl };
+    ghost example = { exact_example ⟦<Self as Exact>⟧.values ⟦<Self as Notated>⟧.notation ⟦<Self as Serialize>⟧.meaning
+        refl Prim.assumption };
 }
 
 /// Bits from 0: reserved, use-session-key, mutual-required. `APOptions` of KerberosV5Spec2:
@@ -311,7 +312,8 @@ impl Faithful for AuthenticatorMembers {
 }
 
 impl Inhabited for AuthenticatorMembers {
-    ghost example = { exact_example ⟦<Self as Exact>⟧.values ⟦<Self as Exact>⟧.exact refl };
+    ghost example = { exact_example ⟦<Self as Exact>⟧.values ⟦<Self as Notated>⟧.notation ⟦<Self as Serialize>⟧.meaning
+        refl Prim.assumption };
 }
 
 /// `AP-REP` of KerberosV5Spec2: `[APPLICATION 15] SEQUENCE { pvno [0] INTEGER (5), msg-type [1]
@@ -402,7 +404,8 @@ impl Faithful for ApRepMembers {
 }
 
 impl Inhabited for ApRepMembers {
-    ghost example = { exact_example ⟦<Self as Exact>⟧.values ⟦<Self as Exact>⟧.exact refl };
+    ghost example = { exact_example ⟦<Self as Exact>⟧.values ⟦<Self as Notated>⟧.notation ⟦<Self as Serialize>⟧.meaning
+        refl Prim.assumption };
 }
 
 /// `EncAPRepPart` of KerberosV5Spec2: `[APPLICATION 27] SEQUENCE { ctime [0] KerberosTime, cusec
@@ -505,5 +508,6 @@ impl Faithful for EncApRepPartMembers {
 }
 
 impl Inhabited for EncApRepPartMembers {
-    ghost example = { exact_example ⟦<Self as Exact>⟧.values ⟦<Self as Exact>⟧.exact refl };
+    ghost example = { exact_example ⟦<Self as Exact>⟧.values ⟦<Self as Notated>⟧.notation ⟦<Self as Serialize>⟧.meaning
+        refl Prim.assumption };
 }

@@ -130,7 +130,8 @@ impl Faithful for KrbCredMembers {
 }
 
 impl Inhabited for KrbCredMembers {
-    ghost example = { exact_example ⟦<Self as Exact>⟧.values ⟦<Self as Exact>⟧.exact refl };
+    ghost example = { exact_example ⟦<Self as Exact>⟧.values ⟦<Self as Notated>⟧.notation ⟦<Self as Serialize>⟧.meaning
+        refl Prim.assumption };
 }
 
 /// `EncKrbCredPart` of KerberosV5Spec2: `[APPLICATION 29] SEQUENCE { ticket-info [0] SEQUENCE OF
@@ -274,7 +275,8 @@ impl Faithful for EncKrbCredPartMembers {
 }
 
 impl Inhabited for EncKrbCredPartMembers {
-    ghost example = { exact_example ⟦<Self as Exact>⟧.values ⟦<Self as Exact>⟧.exact refl };
+    ghost example = { exact_example ⟦<Self as Exact>⟧.values ⟦<Self as Notated>⟧.notation ⟦<Self as Serialize>⟧.meaning
+        refl Prim.assumption };
 }
 
 /// `KrbCredInfo` of KerberosV5Spec2, as a SEQUENCE.
@@ -446,5 +448,6 @@ impl Faithful for KrbCredInfo {
 }
 
 impl Inhabited for KrbCredInfo {
-    ghost example = { exact_example ⟦<Self as Exact>⟧.values ⟦<Self as Exact>⟧.exact refl };
+    ghost example = { exact_example ⟦<Self as Exact>⟧.values ⟦<Self as Notated>⟧.notation ⟦<Self as Serialize>⟧.meaning
+        refl Prim.assumption };
 }

@@ -215,7 +215,8 @@ impl Faithful for KrbErrorMembers {
 }
 
 impl Inhabited for KrbErrorMembers {
-    ghost example = { exact_example ⟦<Self as Exact>⟧.values ⟦<Self as Exact>⟧.exact refl };
+    ghost example = { exact_example ⟦<Self as Exact>⟧.values ⟦<Self as Notated>⟧.notation ⟦<Self as Serialize>⟧.meaning
+        refl Prim.assumption };
 }
 
 /// `METHOD-DATA` of KerberosV5Spec2: `SEQUENCE OF PA-DATA`.
@@ -305,5 +306,6 @@ impl Faithful for TypedDataItem {
 }
 
 impl Inhabited for TypedDataItem {
-    ghost example = { exact_example ⟦<Self as Exact>⟧.values ⟦<Self as Exact>⟧.exact refl };
+    ghost example = { exact_example ⟦<Self as Exact>⟧.values ⟦<Self as Notated>⟧.notation ⟦<Self as Serialize>⟧.meaning
+        refl Prim.assumption };
 }

@@ -104,7 +104,8 @@ impl Faithful for PaEncTsEnc {
 }
 
 impl Inhabited for PaEncTsEnc {
-    ghost example = { exact_example ⟦<Self as Exact>⟧.values ⟦<Self as Exact>⟧.exact refl };
+    ghost example = { exact_example ⟦<Self as Exact>⟧.values ⟦<Self as Notated>⟧.notation ⟦<Self as Serialize>⟧.meaning
+        refl Prim.assumption };
 }
 
 /// `ETYPE-INFO-ENTRY` of KerberosV5Spec2, as a SEQUENCE.
@@ -184,7 +185,8 @@ impl Faithful for EtypeInfoEntry {
 }
 
 impl Inhabited for EtypeInfoEntry {
-    ghost example = { exact_example ⟦<Self as Exact>⟧.values ⟦<Self as Exact>⟧.exact refl };
+    ghost example = { exact_example ⟦<Self as Exact>⟧.values ⟦<Self as Notated>⟧.notation ⟦<Self as Serialize>⟧.meaning
+        refl Prim.assumption };
 }
 
 /// `ETYPE-INFO` of KerberosV5Spec2: `SEQUENCE OF ETYPE-INFO-ENTRY`.
@@ -282,7 +284,8 @@ impl Faithful for EtypeInfo2Entry {
 }
 
 impl Inhabited for EtypeInfo2Entry {
-    ghost example = { exact_example ⟦<Self as Exact>⟧.values ⟦<Self as Exact>⟧.exact refl };
+    ghost example = { exact_example ⟦<Self as Exact>⟧.values ⟦<Self as Notated>⟧.notation ⟦<Self as Serialize>⟧.meaning
+        refl Prim.assumption };
 }
 
 /// `ETYPE-INFO2` of KerberosV5Spec2: `SEQUENCE SIZE (1..MAX) OF ETYPE-INFO2-ENTRY`.

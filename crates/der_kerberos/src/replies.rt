@@ -164,7 +164,8 @@ impl Faithful for AsRepMembers {
 }
 
 impl Inhabited for AsRepMembers {
-    ghost example = { exact_example ⟦<Self as Exact>⟧.values ⟦<Self as Exact>⟧.exact refl };
+    ghost example = { exact_example ⟦<Self as Exact>⟧.values ⟦<Self as Notated>⟧.notation ⟦<Self as Serialize>⟧.meaning
+        refl Prim.assumption };
 }
 
 /// `TGS-REP` of KerberosV5Spec2: `[APPLICATION 13] SEQUENCE { pvno [0] INTEGER (5), msg-type [1]
@@ -303,7 +304,8 @@ impl Faithful for TgsRepMembers {
 }
 
 impl Inhabited for TgsRepMembers {
-    ghost example = { exact_example ⟦<Self as Exact>⟧.values ⟦<Self as Exact>⟧.exact refl };
+    ghost example = { exact_example ⟦<Self as Exact>⟧.values ⟦<Self as Notated>⟧.notation ⟦<Self as Serialize>⟧.meaning
+        refl Prim.assumption };
 }
 
 /// `EncASRepPart` of KerberosV5Spec2: `[APPLICATION 25] EncKDCRepPart`.
@@ -511,7 +513,8 @@ impl Faithful for EncKdcRepPart {
 }
 
 impl Inhabited for EncKdcRepPart {
-    ghost example = { exact_example ⟦<Self as Exact>⟧.values ⟦<Self as Exact>⟧.exact refl };
+    ghost example = { exact_example ⟦<Self as Exact>⟧.values ⟦<Self as Notated>⟧.notation ⟦<Self as Serialize>⟧.meaning
+        refl Prim.assumption };
 }
 
 /// `LastReq` of KerberosV5Spec2: `SEQUENCE OF SEQUENCE { lr-type [0] Int32, lr-value [1]
@@ -595,5 +598,6 @@ impl Faithful for LastReqItem {
 }
 
 impl Inhabited for LastReqItem {
-    ghost example = { exact_example ⟦<Self as Exact>⟧.values ⟦<Self as Exact>⟧.exact refl };
+    ghost example = { exact_example ⟦<Self as Exact>⟧.values ⟦<Self as Notated>⟧.notation ⟦<Self as Serialize>⟧.meaning
+        refl Prim.assumption };
 }

@@ -134,7 +134,8 @@ impl Faithful for AsReqMembers {
 }
 
 impl Inhabited for AsReqMembers {
-    ghost example = { exact_example ⟦<Self as Exact>⟧.values ⟦<Self as Exact>⟧.exact refl };
+    ghost example = { exact_example ⟦<Self as Exact>⟧.values ⟦<Self as Notated>⟧.notation ⟦<Self as Serialize>⟧.meaning
+        refl Prim.assumption };
 }
 
 /// `TGS-REQ` of KerberosV5Spec2: `[APPLICATION 12] SEQUENCE { pvno [1] INTEGER (5), msg-type [2]
@@ -240,7 +241,8 @@ impl Faithful for TgsReqMembers {
 }
 
 impl Inhabited for TgsReqMembers {
-    ghost example = { exact_example ⟦<Self as Exact>⟧.values ⟦<Self as Exact>⟧.exact refl };
+    ghost example = { exact_example ⟦<Self as Exact>⟧.values ⟦<Self as Notated>⟧.notation ⟦<Self as Serialize>⟧.meaning
+        refl Prim.assumption };
 }
 
 /// `KDC-REQ-BODY` of KerberosV5Spec2, as a SEQUENCE.
@@ -430,7 +432,8 @@ impl Faithful for KdcReqBody {
 }
 
 impl Inhabited for KdcReqBody {
-    ghost example = { exact_example ⟦<Self as Exact>⟧.values ⟦<Self as Exact>⟧.exact refl };
+    ghost example = { exact_example ⟦<Self as Exact>⟧.values ⟦<Self as Notated>⟧.notation ⟦<Self as Serialize>⟧.meaning
+        refl Prim.assumption };
 }
 
 /// Bits from 0: reserved, forwardable, forwarded, proxiable, proxy, allow-postdate, postdated,

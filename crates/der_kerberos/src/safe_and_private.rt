@@ -117,7 +117,8 @@ impl Faithful for KrbSafeMembers {
 }
 
 impl Inhabited for KrbSafeMembers {
-    ghost example = { exact_example ⟦<Self as Exact>⟧.values ⟦<Self as Exact>⟧.exact refl };
+    ghost example = { exact_example ⟦<Self as Exact>⟧.values ⟦<Self as Notated>⟧.notation ⟦<Self as Serialize>⟧.meaning
+        refl Prim.assumption };
 }
 
 /// `KRB-SAFE-BODY` of KerberosV5Spec2, as a SEQUENCE.
@@ -248,7 +249,8 @@ impl Faithful for KrbSafeBody {
 }
 
 impl Inhabited for KrbSafeBody {
-    ghost example = { exact_example ⟦<Self as Exact>⟧.values ⟦<Self as Exact>⟧.exact refl };
+    ghost example = { exact_example ⟦<Self as Exact>⟧.values ⟦<Self as Notated>⟧.notation ⟦<Self as Serialize>⟧.meaning
+        refl Prim.assumption };
 }
 
 /// `KRB-PRIV` of KerberosV5Spec2: `[APPLICATION 21] SEQUENCE { pvno [0] INTEGER (5), msg-type [1]
@@ -339,7 +341,8 @@ impl Faithful for KrbPrivMembers {
 }
 
 impl Inhabited for KrbPrivMembers {
-    ghost example = { exact_example ⟦<Self as Exact>⟧.values ⟦<Self as Exact>⟧.exact refl };
+    ghost example = { exact_example ⟦<Self as Exact>⟧.values ⟦<Self as Notated>⟧.notation ⟦<Self as Serialize>⟧.meaning
+        refl Prim.assumption };
 }
 
 /// `EncKrbPrivPart` of KerberosV5Spec2: `[APPLICATION 28] SEQUENCE { user-data [0] OCTET STRING,
@@ -478,5 +481,6 @@ impl Faithful for EncKrbPrivPartMembers {
 }
 
 impl Inhabited for EncKrbPrivPartMembers {
-    ghost example = { exact_example ⟦<Self as Exact>⟧.values ⟦<Self as Exact>⟧.exact refl };
+    ghost example = { exact_example ⟦<Self as Exact>⟧.values ⟦<Self as Notated>⟧.notation ⟦<Self as Serialize>⟧.meaning
+        refl Prim.assumption };
 }

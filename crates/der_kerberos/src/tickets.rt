@@ -123,7 +123,8 @@ impl Faithful for TicketMembers {
 }
 
 impl Inhabited for TicketMembers {
-    ghost example = { exact_example ⟦<Self as Exact>⟧.values ⟦<Self as Exact>⟧.exact refl };
+    ghost example = { exact_example ⟦<Self as Exact>⟧.values ⟦<Self as Notated>⟧.notation ⟦<Self as Serialize>⟧.meaning
+        refl Prim.assumption };
 }
 
 /// `EncTicketPart` of KerberosV5Spec2: `[APPLICATION 3] SEQUENCE { flags [0] TicketFlags, key [1]
@@ -296,7 +297,8 @@ impl Faithful for EncTicketPartMembers {
 }
 
 impl Inhabited for EncTicketPartMembers {
-    ghost example = { exact_example ⟦<Self as Exact>⟧.values ⟦<Self as Exact>⟧.exact refl };
+    ghost example = { exact_example ⟦<Self as Exact>⟧.values ⟦<Self as Notated>⟧.notation ⟦<Self as Serialize>⟧.meaning
+        refl Prim.assumption };
 }
 
 /// `TransitedEncoding` of KerberosV5Spec2, as a SEQUENCE.
@@ -373,7 +375,8 @@ impl Faithful for TransitedEncoding {
 }
 
 impl Inhabited for TransitedEncoding {
-    ghost example = { exact_example ⟦<Self as Exact>⟧.values ⟦<Self as Exact>⟧.exact refl };
+    ghost example = { exact_example ⟦<Self as Exact>⟧.values ⟦<Self as Notated>⟧.notation ⟦<Self as Serialize>⟧.meaning
+        refl Prim.assumption };
 }
 
 /// Bits from 0: reserved, forwardable, forwarded, proxiable, proxy, may-postdate, postdated,

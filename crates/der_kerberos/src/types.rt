@@ -125,7 +125,8 @@ impl Faithful for PrincipalName {
 }
 
 impl Inhabited for PrincipalName {
-    ghost example = { exact_example ⟦<Self as Exact>⟧.values ⟦<Self as Exact>⟧.exact refl };
+    ghost example = { exact_example ⟦<Self as Exact>⟧.values ⟦<Self as Notated>⟧.notation ⟦<Self as Serialize>⟧.meaning
+        refl Prim.assumption };
 }
 
 /// `YYYYMMDDHHMMSSZ`, without a fraction of a second. `KerberosTime` of KerberosV5Spec2:
@@ -205,7 +206,8 @@ impl Faithful for HostAddress {
 }
 
 impl Inhabited for HostAddress {
-    ghost example = { exact_example ⟦<Self as Exact>⟧.values ⟦<Self as Exact>⟧.exact refl };
+    ghost example = { exact_example ⟦<Self as Exact>⟧.values ⟦<Self as Notated>⟧.notation ⟦<Self as Serialize>⟧.meaning
+        refl Prim.assumption };
 }
 
 /// `HostAddresses` of KerberosV5Spec2: `SEQUENCE OF HostAddress`.
@@ -291,7 +293,8 @@ impl Faithful for AuthorizationDataItem {
 }
 
 impl Inhabited for AuthorizationDataItem {
-    ghost example = { exact_example ⟦<Self as Exact>⟧.values ⟦<Self as Exact>⟧.exact refl };
+    ghost example = { exact_example ⟦<Self as Exact>⟧.values ⟦<Self as Notated>⟧.notation ⟦<Self as Serialize>⟧.meaning
+        refl Prim.assumption };
 }
 
 /// `PA-DATA` of KerberosV5Spec2, as a SEQUENCE.
@@ -370,7 +373,8 @@ impl Faithful for PaData {
 }
 
 impl Inhabited for PaData {
-    ghost example = { exact_example ⟦<Self as Exact>⟧.values ⟦<Self as Exact>⟧.exact refl };
+    ghost example = { exact_example ⟦<Self as Exact>⟧.values ⟦<Self as Notated>⟧.notation ⟦<Self as Serialize>⟧.meaning
+        refl Prim.assumption };
 }
 
 /// `KerberosFlags` of KerberosV5Spec2: `BIT STRING (SIZE (32..MAX))`.
@@ -460,7 +464,8 @@ impl Faithful for EncryptedData {
 }
 
 impl Inhabited for EncryptedData {
-    ghost example = { exact_example ⟦<Self as Exact>⟧.values ⟦<Self as Exact>⟧.exact refl };
+    ghost example = { exact_example ⟦<Self as Exact>⟧.values ⟦<Self as Notated>⟧.notation ⟦<Self as Serialize>⟧.meaning
+        refl Prim.assumption };
 }
 
 /// `EncryptionKey` of KerberosV5Spec2, as a SEQUENCE.
@@ -536,7 +541,8 @@ impl Faithful for EncryptionKey {
 }
 
 impl Inhabited for EncryptionKey {
-    ghost example = { exact_example ⟦<Self as Exact>⟧.values ⟦<Self as Exact>⟧.exact refl };
+    ghost example = { exact_example ⟦<Self as Exact>⟧.values ⟦<Self as Notated>⟧.notation ⟦<Self as Serialize>⟧.meaning
+        refl Prim.assumption };
 }
 
 /// `Checksum` of KerberosV5Spec2, as a SEQUENCE.
@@ -615,7 +621,8 @@ impl Faithful for Checksum {
 }
 
 impl Inhabited for Checksum {
-    ghost example = { exact_example ⟦<Self as Exact>⟧.values ⟦<Self as Exact>⟧.exact refl };
+    ghost example = { exact_example ⟦<Self as Exact>⟧.values ⟦<Self as Notated>⟧.notation ⟦<Self as Serialize>⟧.meaning
+        refl Prim.assumption };
 }
 
 /// `AD-IF-RELEVANT` of KerberosV5Spec2: `AuthorizationData`.
@@ -718,7 +725,8 @@ impl Faithful for AdKdcIssued {
 }
 
 impl Inhabited for AdKdcIssued {
-    ghost example = { exact_example ⟦<Self as Exact>⟧.values ⟦<Self as Exact>⟧.exact refl };
+    ghost example = { exact_example ⟦<Self as Exact>⟧.values ⟦<Self as Notated>⟧.notation ⟦<Self as Serialize>⟧.meaning
+        refl Prim.assumption };
 }
 
 /// `AD-AND-OR` of KerberosV5Spec2, as a SEQUENCE.
@@ -801,7 +809,8 @@ impl Faithful for AdAndOr {
 }
 
 impl Inhabited for AdAndOr {
-    ghost example = { exact_example ⟦<Self as Exact>⟧.values ⟦<Self as Exact>⟧.exact refl };
+    ghost example = { exact_example ⟦<Self as Exact>⟧.values ⟦<Self as Notated>⟧.notation ⟦<Self as Serialize>⟧.meaning
+        refl Prim.assumption };
 }
 
 /// `AD-MANDATORY-FOR-KDC` of KerberosV5Spec2: `AuthorizationData`.

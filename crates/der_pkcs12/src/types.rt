@@ -109,7 +109,8 @@ impl Faithful for Pfx {
 }
 
 impl Inhabited for Pfx {
-    ghost example = { exact_example ⟦<Self as Exact>⟧.values ⟦<Self as Exact>⟧.exact refl };
+    ghost example = { exact_example ⟦<Self as Exact>⟧.values ⟦<Self as Notated>⟧.notation ⟦<Self as Serialize>⟧.meaning
+        refl Prim.assumption };
 }
 
 /// What authenticates the content by a password. `MacData` of PKCS-12, as a SEQUENCE.
@@ -193,7 +194,8 @@ impl Faithful for MacData {
 }
 
 impl Inhabited for MacData {
-    ghost example = { exact_example ⟦<Self as Exact>⟧.values ⟦<Self as Exact>⟧.exact refl };
+    ghost example = { exact_example ⟦<Self as Exact>⟧.values ⟦<Self as Notated>⟧.notation ⟦<Self as Serialize>⟧.meaning
+        refl Prim.assumption };
 }
 
 /// Defined in RFC 2315, 9.4. `DigestInfo` of PKCS-12, as a SEQUENCE.
@@ -272,7 +274,8 @@ impl Faithful for DigestInfo {
 }
 
 impl Inhabited for DigestInfo {
-    ghost example = { exact_example ⟦<Self as Exact>⟧.values ⟦<Self as Exact>⟧.exact refl };
+    ghost example = { exact_example ⟦<Self as Exact>⟧.values ⟦<Self as Notated>⟧.notation ⟦<Self as Serialize>⟧.meaning
+        refl Prim.assumption };
 }
 
 /// Messages of the kinds id-data, id-encryptedData and id-envelopedData, whose contents are
@@ -372,7 +375,8 @@ impl Faithful for SafeBag {
 }
 
 impl Inhabited for SafeBag {
-    ghost example = { exact_example ⟦<Self as Exact>⟧.values ⟦<Self as Exact>⟧.exact refl };
+    ghost example = { exact_example ⟦<Self as Exact>⟧.values ⟦<Self as Notated>⟧.notation ⟦<Self as Serialize>⟧.meaning
+        refl Prim.assumption };
 }
 
 /// `PKCS12Attribute` of PKCS-12, as a SEQUENCE.
@@ -451,7 +455,8 @@ impl Faithful for Pkcs12Attribute {
 }
 
 impl Inhabited for Pkcs12Attribute {
-    ghost example = { exact_example ⟦<Self as Exact>⟧.values ⟦<Self as Exact>⟧.exact refl };
+    ghost example = { exact_example ⟦<Self as Exact>⟧.values ⟦<Self as Notated>⟧.notation ⟦<Self as Serialize>⟧.meaning
+        refl Prim.assumption };
 }
 
 /// `KeyBag` of PKCS-12: `PrivateKeyInfo`.
@@ -536,7 +541,8 @@ impl Faithful for CertBag {
 }
 
 impl Inhabited for CertBag {
-    ghost example = { exact_example ⟦<Self as Exact>⟧.values ⟦<Self as Exact>⟧.exact refl };
+    ghost example = { exact_example ⟦<Self as Exact>⟧.values ⟦<Self as Notated>⟧.notation ⟦<Self as Serialize>⟧.meaning
+        refl Prim.assumption };
 }
 
 /// `CRLBag` of PKCS-12, as a SEQUENCE.
@@ -612,7 +618,8 @@ impl Faithful for CrlBag {
 }
 
 impl Inhabited for CrlBag {
-    ghost example = { exact_example ⟦<Self as Exact>⟧.values ⟦<Self as Exact>⟧.exact refl };
+    ghost example = { exact_example ⟦<Self as Exact>⟧.values ⟦<Self as Notated>⟧.notation ⟦<Self as Serialize>⟧.meaning
+        refl Prim.assumption };
 }
 
 /// `SecretBag` of PKCS-12, as a SEQUENCE.
@@ -691,7 +698,8 @@ impl Faithful for SecretBag {
 }
 
 impl Inhabited for SecretBag {
-    ghost example = { exact_example ⟦<Self as Exact>⟧.values ⟦<Self as Exact>⟧.exact refl };
+    ghost example = { exact_example ⟦<Self as Exact>⟧.values ⟦<Self as Notated>⟧.notation ⟦<Self as Serialize>⟧.meaning
+        refl Prim.assumption };
 }
 
 /// RFC 7292 writes this name with a small letter. `PKCS-12PbeParams` of PKCS-12, as a SEQUENCE.
@@ -767,5 +775,6 @@ impl Faithful for Pkcs12PbeParams {
 }
 
 impl Inhabited for Pkcs12PbeParams {
-    ghost example = { exact_example ⟦<Self as Exact>⟧.values ⟦<Self as Exact>⟧.exact refl };
+    ghost example = { exact_example ⟦<Self as Exact>⟧.values ⟦<Self as Notated>⟧.notation ⟦<Self as Serialize>⟧.meaning
+        refl Prim.assumption };
 }

@@ -155,7 +155,8 @@ impl Faithful for OneAsymmetricKey {
 }
 
 impl Inhabited for OneAsymmetricKey {
-    ghost example = { exact_example ⟦<Self as Exact>⟧.values ⟦<Self as Exact>⟧.exact refl };
+    ghost example = { exact_example ⟦<Self as Exact>⟧.values ⟦<Self as Notated>⟧.notation ⟦<Self as Serialize>⟧.meaning
+        refl Prim.assumption };
 }
 
 /// The name of RFC 5208, whose type had no public key. `PrivateKeyInfo` of
@@ -291,7 +292,8 @@ impl Faithful for KeyVersion {
 }
 
 impl Inhabited for KeyVersion {
-    ghost example = { exact_example ⟦<Self as Exact>⟧.values ⟦<Self as Exact>⟧.exact refl };
+    ghost example = { exact_example ⟦<Self as Exact>⟧.values ⟦<Self as Notated>⟧.notation ⟦<Self as Serialize>⟧.meaning
+        refl Prim.assumption };
 }
 
 /// `PrivateKeyAlgorithmIdentifier` of AsymmetricKeyPackageModuleV1: `AlgorithmIdentifier`.
@@ -386,5 +388,6 @@ impl Faithful for EncryptedPrivateKeyInfo {
 }
 
 impl Inhabited for EncryptedPrivateKeyInfo {
-    ghost example = { exact_example ⟦<Self as Exact>⟧.values ⟦<Self as Exact>⟧.exact refl };
+    ghost example = { exact_example ⟦<Self as Exact>⟧.values ⟦<Self as Notated>⟧.notation ⟦<Self as Serialize>⟧.meaning
+        refl Prim.assumption };
 }

@@ -121,7 +121,8 @@ impl Faithful for EcPrivateKey {
 }
 
 impl Inhabited for EcPrivateKey {
-    ghost example = { exact_example ⟦<Self as Exact>⟧.values ⟦<Self as Exact>⟧.exact refl };
+    ghost example = { exact_example ⟦<Self as Exact>⟧.values ⟦<Self as Notated>⟧.notation ⟦<Self as Serialize>⟧.meaning
+        refl Prim.assumption };
 }
 
 /// The name of the curve. RFC 5480 has a CHOICE with this alternative alone, whose encoding is the

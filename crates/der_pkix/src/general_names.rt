@@ -193,7 +193,8 @@ impl Faithful for GeneralName {
 }
 
 impl Inhabited for GeneralName {
-    ghost example = { exact_example ⟦<Self as Exact>⟧.values ⟦<Self as Exact>⟧.exact refl };
+    ghost example = { exact_example ⟦<Self as Exact>⟧.values ⟦<Self as Notated>⟧.notation ⟦<Self as Serialize>⟧.meaning
+        refl Prim.assumption };
 }
 
 /// `AnotherName` of PKIX1Implicit88, as a SEQUENCE.
@@ -269,7 +270,8 @@ impl Faithful for AnotherName {
 }
 
 impl Inhabited for AnotherName {
-    ghost example = { exact_example ⟦<Self as Exact>⟧.values ⟦<Self as Exact>⟧.exact refl };
+    ghost example = { exact_example ⟦<Self as Exact>⟧.values ⟦<Self as Notated>⟧.notation ⟦<Self as Serialize>⟧.meaning
+        refl Prim.assumption };
 }
 
 /// An X.400 address and an EDI name, by their members. The module that defines these isn't here.

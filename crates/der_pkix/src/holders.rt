@@ -143,7 +143,8 @@ impl Faithful for Holder {
 }
 
 impl Inhabited for Holder {
-    ghost example = { exact_example ⟦<Self as Exact>⟧.values ⟦<Self as Exact>⟧.exact refl };
+    ghost example = { exact_example ⟦<Self as Exact>⟧.values ⟦<Self as Notated>⟧.notation ⟦<Self as Serialize>⟧.meaning
+        refl Prim.assumption };
 }
 
 /// `ObjectDigestInfo` of PKIXAttributeCertificate-2008, as a SEQUENCE.
@@ -258,7 +259,8 @@ impl Faithful for ObjectDigestInfo {
 }
 
 impl Inhabited for ObjectDigestInfo {
-    ghost example = { exact_example ⟦<Self as Exact>⟧.values ⟦<Self as Exact>⟧.exact refl };
+    ghost example = { exact_example ⟦<Self as Exact>⟧.values ⟦<Self as Notated>⟧.notation ⟦<Self as Serialize>⟧.meaning
+        refl Prim.assumption };
 }
 
 /// RFC 5755 gives this type no name. `DigestedObjectType` of PKIXAttributeCertificate-2008, as an
@@ -401,7 +403,8 @@ impl Faithful for DigestedObjectType {
 }
 
 impl Inhabited for DigestedObjectType {
-    ghost example = { exact_example ⟦<Self as Exact>⟧.values ⟦<Self as Exact>⟧.exact refl };
+    ghost example = { exact_example ⟦<Self as Exact>⟧.values ⟦<Self as Notated>⟧.notation ⟦<Self as Serialize>⟧.meaning
+        refl Prim.assumption };
 }
 
 /// `AttCertIssuer` of PKIXAttributeCertificate-2008, as a CHOICE.
@@ -492,7 +495,8 @@ impl Faithful for AttCertIssuer {
 }
 
 impl Inhabited for AttCertIssuer {
-    ghost example = { exact_example ⟦<Self as Exact>⟧.values ⟦<Self as Exact>⟧.exact refl };
+    ghost example = { exact_example ⟦<Self as Exact>⟧.values ⟦<Self as Notated>⟧.notation ⟦<Self as Serialize>⟧.meaning
+        refl Prim.assumption };
 }
 
 /// `V2Form` of PKIXAttributeCertificate-2008, as a SEQUENCE.
@@ -599,7 +603,8 @@ impl Faithful for V2Form {
 }
 
 impl Inhabited for V2Form {
-    ghost example = { exact_example ⟦<Self as Exact>⟧.values ⟦<Self as Exact>⟧.exact refl };
+    ghost example = { exact_example ⟦<Self as Exact>⟧.values ⟦<Self as Notated>⟧.notation ⟦<Self as Serialize>⟧.meaning
+        refl Prim.assumption };
 }
 
 /// `IssuerSerial` of PKIXAttributeCertificate-2008, as a SEQUENCE.
@@ -692,5 +697,6 @@ impl Faithful for IssuerSerial {
 }
 
 impl Inhabited for IssuerSerial {
-    ghost example = { exact_example ⟦<Self as Exact>⟧.values ⟦<Self as Exact>⟧.exact refl };
+    ghost example = { exact_example ⟦<Self as Exact>⟧.values ⟦<Self as Notated>⟧.notation ⟦<Self as Serialize>⟧.meaning
+        refl Prim.assumption };
 }

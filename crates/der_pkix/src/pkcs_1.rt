@@ -94,7 +94,8 @@ impl Faithful for RsaPublicKey {
 }
 
 impl Inhabited for RsaPublicKey {
-    ghost example = { exact_example ⟦<Self as Exact>⟧.values ⟦<Self as Exact>⟧.exact refl };
+    ghost example = { exact_example ⟦<Self as Exact>⟧.values ⟦<Self as Notated>⟧.notation ⟦<Self as Serialize>⟧.meaning
+        refl Prim.assumption };
 }
 
 /// `RSAPrivateKey` of PKCS-1, as a SEQUENCE.
@@ -254,7 +255,8 @@ impl Faithful for RsaPrivateKey {
 }
 
 impl Inhabited for RsaPrivateKey {
-    ghost example = { exact_example ⟦<Self as Exact>⟧.values ⟦<Self as Exact>⟧.exact refl };
+    ghost example = { exact_example ⟦<Self as Exact>⟧.values ⟦<Self as Notated>⟧.notation ⟦<Self as Serialize>⟧.meaning
+        refl Prim.assumption };
 }
 
 /// `multi` exactly where there are other primes. RFC 8017 calls it Version. `RSAVersion` of PKCS-1:
@@ -343,5 +345,6 @@ impl Faithful for OtherPrimeInfo {
 }
 
 impl Inhabited for OtherPrimeInfo {
-    ghost example = { exact_example ⟦<Self as Exact>⟧.values ⟦<Self as Exact>⟧.exact refl };
+    ghost example = { exact_example ⟦<Self as Exact>⟧.values ⟦<Self as Notated>⟧.notation ⟦<Self as Serialize>⟧.meaning
+        refl Prim.assumption };
 }

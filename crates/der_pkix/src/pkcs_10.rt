@@ -110,7 +110,8 @@ impl Faithful for CertificationRequest {
 }
 
 impl Inhabited for CertificationRequest {
-    ghost example = { exact_example ⟦<Self as Exact>⟧.values ⟦<Self as Exact>⟧.exact refl };
+    ghost example = { exact_example ⟦<Self as Exact>⟧.values ⟦<Self as Notated>⟧.notation ⟦<Self as Serialize>⟧.meaning
+        refl Prim.assumption };
 }
 
 /// `CertificationRequestInfo` of PKCS-10, as a SEQUENCE.
@@ -211,7 +212,8 @@ impl Faithful for CertificationRequestInfo {
 }
 
 impl Inhabited for CertificationRequestInfo {
-    ghost example = { exact_example ⟦<Self as Exact>⟧.values ⟦<Self as Exact>⟧.exact refl };
+    ghost example = { exact_example ⟦<Self as Exact>⟧.values ⟦<Self as Notated>⟧.notation ⟦<Self as Serialize>⟧.meaning
+        refl Prim.assumption };
 }
 
 /// RFC 2986 calls it Attributes. `CRIAttributes` of PKCS-10: `SET OF Attribute`.

@@ -96,5 +96,6 @@ impl Faithful for Attribute {
 }
 
 impl Inhabited for Attribute {
-    ghost example = { exact_example ⟦<Self as Exact>⟧.values ⟦<Self as Exact>⟧.exact refl };
+    ghost example = { exact_example ⟦<Self as Exact>⟧.values ⟦<Self as Notated>⟧.notation ⟦<Self as Serialize>⟧.meaning
+        refl Prim.assumption };
 }

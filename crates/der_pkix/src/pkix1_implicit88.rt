@@ -132,7 +132,8 @@ impl Faithful for AuthorityKeyIdentifier {
 }
 
 impl Inhabited for AuthorityKeyIdentifier {
-    ghost example = { exact_example ⟦<Self as Exact>⟧.values ⟦<Self as Exact>⟧.exact refl };
+    ghost example = { exact_example ⟦<Self as Exact>⟧.values ⟦<Self as Notated>⟧.notation ⟦<Self as Serialize>⟧.meaning
+        refl Prim.assumption };
 }
 
 /// `KeyIdentifier` of PKIX1Implicit88: `OCTET STRING`.
@@ -224,7 +225,8 @@ impl Faithful for BasicConstraints {
 }
 
 impl Inhabited for BasicConstraints {
-    ghost example = { exact_example ⟦<Self as Exact>⟧.values ⟦<Self as Exact>⟧.exact refl };
+    ghost example = { exact_example ⟦<Self as Exact>⟧.values ⟦<Self as Notated>⟧.notation ⟦<Self as Serialize>⟧.meaning
+        refl Prim.assumption };
 }
 
 /// `NameConstraints` of PKIX1Implicit88, as a SEQUENCE.
@@ -315,7 +317,8 @@ impl Faithful for NameConstraints {
 }
 
 impl Inhabited for NameConstraints {
-    ghost example = { exact_example ⟦<Self as Exact>⟧.values ⟦<Self as Exact>⟧.exact refl };
+    ghost example = { exact_example ⟦<Self as Exact>⟧.values ⟦<Self as Notated>⟧.notation ⟦<Self as Serialize>⟧.meaning
+        refl Prim.assumption };
 }
 
 /// `GeneralSubtrees` of PKIX1Implicit88: `SEQUENCE SIZE (1..MAX) OF GeneralSubtree`.
@@ -417,7 +420,8 @@ impl Faithful for GeneralSubtree {
 }
 
 impl Inhabited for GeneralSubtree {
-    ghost example = { exact_example ⟦<Self as Exact>⟧.values ⟦<Self as Exact>⟧.exact refl };
+    ghost example = { exact_example ⟦<Self as Exact>⟧.values ⟦<Self as Notated>⟧.notation ⟦<Self as Serialize>⟧.meaning
+        refl Prim.assumption };
 }
 
 /// `BaseDistance` of PKIX1Implicit88: `INTEGER (0..MAX)`.
@@ -514,5 +518,6 @@ impl Faithful for AccessDescription {
 }
 
 impl Inhabited for AccessDescription {
-    ghost example = { exact_example ⟦<Self as Exact>⟧.values ⟦<Self as Exact>⟧.exact refl };
+    ghost example = { exact_example ⟦<Self as Exact>⟧.values ⟦<Self as Notated>⟧.notation ⟦<Self as Serialize>⟧.meaning
+        refl Prim.assumption };
 }

@@ -119,7 +119,8 @@ impl Faithful for AttributeCertificate {
 }
 
 impl Inhabited for AttributeCertificate {
-    ghost example = { exact_example ⟦<Self as Exact>⟧.values ⟦<Self as Exact>⟧.exact refl };
+    ghost example = { exact_example ⟦<Self as Exact>⟧.values ⟦<Self as Notated>⟧.notation ⟦<Self as Serialize>⟧.meaning
+        refl Prim.assumption };
 }
 
 /// `AttributeCertificateInfo` of PKIXAttributeCertificate-2008, as a SEQUENCE.
@@ -277,7 +278,8 @@ impl Faithful for AttributeCertificateInfo {
 }
 
 impl Inhabited for AttributeCertificateInfo {
-    ghost example = { exact_example ⟦<Self as Exact>⟧.values ⟦<Self as Exact>⟧.exact refl };
+    ghost example = { exact_example ⟦<Self as Exact>⟧.values ⟦<Self as Notated>⟧.notation ⟦<Self as Serialize>⟧.meaning
+        refl Prim.assumption };
 }
 
 /// `AttCertVersion` of PKIXAttributeCertificate-2008: `INTEGER { v2 (1) } (v2)`.
@@ -367,7 +369,8 @@ impl Faithful for AttCertValidityPeriod {
 }
 
 impl Inhabited for AttCertValidityPeriod {
-    ghost example = { exact_example ⟦<Self as Exact>⟧.values ⟦<Self as Exact>⟧.exact refl };
+    ghost example = { exact_example ⟦<Self as Exact>⟧.values ⟦<Self as Notated>⟧.notation ⟦<Self as Serialize>⟧.meaning
+        refl Prim.assumption };
 }
 
 /// The value of the extension id-ce-targetInformation. RFC 5755 gives this type no name.
@@ -477,7 +480,8 @@ impl Faithful for Target {
 }
 
 impl Inhabited for Target {
-    ghost example = { exact_example ⟦<Self as Exact>⟧.values ⟦<Self as Exact>⟧.exact refl };
+    ghost example = { exact_example ⟦<Self as Exact>⟧.values ⟦<Self as Notated>⟧.notation ⟦<Self as Serialize>⟧.meaning
+        refl Prim.assumption };
 }
 
 /// `TargetCert` of PKIXAttributeCertificate-2008, as a SEQUENCE.
@@ -575,7 +579,8 @@ impl Faithful for TargetCert {
 }
 
 impl Inhabited for TargetCert {
-    ghost example = { exact_example ⟦<Self as Exact>⟧.values ⟦<Self as Exact>⟧.exact refl };
+    ghost example = { exact_example ⟦<Self as Exact>⟧.values ⟦<Self as Notated>⟧.notation ⟦<Self as Serialize>⟧.meaning
+        refl Prim.assumption };
 }
 
 /// `ProxyInfo` of PKIXAttributeCertificate-2008: `SEQUENCE OF Targets`.
@@ -695,7 +700,8 @@ impl Faithful for AaControls {
 }
 
 impl Inhabited for AaControls {
-    ghost example = { exact_example ⟦<Self as Exact>⟧.values ⟦<Self as Exact>⟧.exact refl };
+    ghost example = { exact_example ⟦<Self as Exact>⟧.values ⟦<Self as Notated>⟧.notation ⟦<Self as Serialize>⟧.meaning
+        refl Prim.assumption };
 }
 
 /// `AttrSpec` of PKIXAttributeCertificate-2008: `SEQUENCE OF OBJECT IDENTIFIER`.

@@ -117,7 +117,8 @@ impl Faithful for PolicyInformation {
 }
 
 impl Inhabited for PolicyInformation {
-    ghost example = { exact_example ⟦<Self as Exact>⟧.values ⟦<Self as Exact>⟧.exact refl };
+    ghost example = { exact_example ⟦<Self as Exact>⟧.values ⟦<Self as Notated>⟧.notation ⟦<Self as Serialize>⟧.meaning
+        refl Prim.assumption };
 }
 
 /// `CertPolicyId` of PKIX1Implicit88: `OBJECT IDENTIFIER`.
@@ -200,7 +201,8 @@ impl Faithful for PolicyQualifierInfo {
 }
 
 impl Inhabited for PolicyQualifierInfo {
-    ghost example = { exact_example ⟦<Self as Exact>⟧.values ⟦<Self as Exact>⟧.exact refl };
+    ghost example = { exact_example ⟦<Self as Exact>⟧.values ⟦<Self as Notated>⟧.notation ⟦<Self as Serialize>⟧.meaning
+        refl Prim.assumption };
 }
 
 /// `PolicyQualifierId` of PKIX1Implicit88: `OBJECT IDENTIFIER`.
@@ -290,7 +292,8 @@ impl Faithful for UserNotice {
 }
 
 impl Inhabited for UserNotice {
-    ghost example = { exact_example ⟦<Self as Exact>⟧.values ⟦<Self as Exact>⟧.exact refl };
+    ghost example = { exact_example ⟦<Self as Exact>⟧.values ⟦<Self as Notated>⟧.notation ⟦<Self as Serialize>⟧.meaning
+        refl Prim.assumption };
 }
 
 /// `NoticeReference` of PKIX1Implicit88, as a SEQUENCE.
@@ -369,7 +372,8 @@ impl Faithful for NoticeReference {
 }
 
 impl Inhabited for NoticeReference {
-    ghost example = { exact_example ⟦<Self as Exact>⟧.values ⟦<Self as Exact>⟧.exact refl };
+    ghost example = { exact_example ⟦<Self as Exact>⟧.values ⟦<Self as Notated>⟧.notation ⟦<Self as Serialize>⟧.meaning
+        refl Prim.assumption };
 }
 
 /// `DisplayText` of PKIX1Implicit88, as a CHOICE.
@@ -483,7 +487,8 @@ impl Faithful for DisplayText {
 }
 
 impl Inhabited for DisplayText {
-    ghost example = { exact_example ⟦<Self as Exact>⟧.values ⟦<Self as Exact>⟧.exact refl };
+    ghost example = { exact_example ⟦<Self as Exact>⟧.values ⟦<Self as Notated>⟧.notation ⟦<Self as Serialize>⟧.meaning
+        refl Prim.assumption };
 }
 
 /// `PolicyMappings` of PKIX1Implicit88: `SEQUENCE SIZE (1..MAX) OF SEQUENCE { issuerDomainPolicy
@@ -567,7 +572,8 @@ impl Faithful for PolicyMappingsItem {
 }
 
 impl Inhabited for PolicyMappingsItem {
-    ghost example = { exact_example ⟦<Self as Exact>⟧.values ⟦<Self as Exact>⟧.exact refl };
+    ghost example = { exact_example ⟦<Self as Exact>⟧.values ⟦<Self as Notated>⟧.notation ⟦<Self as Serialize>⟧.meaning
+        refl Prim.assumption };
 }
 
 /// `PolicyConstraints` of PKIX1Implicit88, as a SEQUENCE.
@@ -658,7 +664,8 @@ impl Faithful for PolicyConstraints {
 }
 
 impl Inhabited for PolicyConstraints {
-    ghost example = { exact_example ⟦<Self as Exact>⟧.values ⟦<Self as Exact>⟧.exact refl };
+    ghost example = { exact_example ⟦<Self as Exact>⟧.values ⟦<Self as Notated>⟧.notation ⟦<Self as Serialize>⟧.meaning
+        refl Prim.assumption };
 }
 
 /// `SkipCerts` of PKIX1Implicit88: `INTEGER (0..MAX)`.

@@ -111,7 +111,8 @@ impl Faithful for IetfAttrSyntax {
 }
 
 impl Inhabited for IetfAttrSyntax {
-    ghost example = { exact_example ⟦<Self as Exact>⟧.values ⟦<Self as Exact>⟧.exact refl };
+    ghost example = { exact_example ⟦<Self as Exact>⟧.values ⟦<Self as Notated>⟧.notation ⟦<Self as Serialize>⟧.meaning
+        refl Prim.assumption };
 }
 
 /// RFC 5755 gives this type no name. `IetfAttrValue` of PKIXAttributeCertificate-2008, as a CHOICE.
@@ -211,7 +212,8 @@ impl Faithful for IetfAttrValue {
 }
 
 impl Inhabited for IetfAttrValue {
-    ghost example = { exact_example ⟦<Self as Exact>⟧.values ⟦<Self as Exact>⟧.exact refl };
+    ghost example = { exact_example ⟦<Self as Exact>⟧.values ⟦<Self as Notated>⟧.notation ⟦<Self as Serialize>⟧.meaning
+        refl Prim.assumption };
 }
 
 /// `SvceAuthInfo` of PKIXAttributeCertificate-2008, as a SEQUENCE.
@@ -295,7 +297,8 @@ impl Faithful for SvceAuthInfo {
 }
 
 impl Inhabited for SvceAuthInfo {
-    ghost example = { exact_example ⟦<Self as Exact>⟧.values ⟦<Self as Exact>⟧.exact refl };
+    ghost example = { exact_example ⟦<Self as Exact>⟧.values ⟦<Self as Notated>⟧.notation ⟦<Self as Serialize>⟧.meaning
+        refl Prim.assumption };
 }
 
 /// `RoleSyntax` of PKIXAttributeCertificate-2008, as a SEQUENCE.
@@ -378,7 +381,8 @@ impl Faithful for RoleSyntax {
 }
 
 impl Inhabited for RoleSyntax {
-    ghost example = { exact_example ⟦<Self as Exact>⟧.values ⟦<Self as Exact>⟧.exact refl };
+    ghost example = { exact_example ⟦<Self as Exact>⟧.values ⟦<Self as Notated>⟧.notation ⟦<Self as Serialize>⟧.meaning
+        refl Prim.assumption };
 }
 
 /// `Clearance` of PKIXAttributeCertificate-2008, as a SEQUENCE.
@@ -474,7 +478,8 @@ impl Faithful for Clearance {
 }
 
 impl Inhabited for Clearance {
-    ghost example = { exact_example ⟦<Self as Exact>⟧.values ⟦<Self as Exact>⟧.exact refl };
+    ghost example = { exact_example ⟦<Self as Exact>⟧.values ⟦<Self as Notated>⟧.notation ⟦<Self as Serialize>⟧.meaning
+        refl Prim.assumption };
 }
 
 /// `ClassList` of PKIXAttributeCertificate-2008: `BIT STRING { unmarked (0), unclassified (1),
@@ -558,7 +563,8 @@ impl Faithful for SecurityCategory {
 }
 
 impl Inhabited for SecurityCategory {
-    ghost example = { exact_example ⟦<Self as Exact>⟧.values ⟦<Self as Exact>⟧.exact refl };
+    ghost example = { exact_example ⟦<Self as Exact>⟧.values ⟦<Self as Notated>⟧.notation ⟦<Self as Serialize>⟧.meaning
+        refl Prim.assumption };
 }
 
 /// Attributes that are encrypted, as the content of an EnvelopedData. `ACClearAttrs` of
@@ -641,5 +647,6 @@ impl Faithful for AcClearAttrs {
 }
 
 impl Inhabited for AcClearAttrs {
-    ghost example = { exact_example ⟦<Self as Exact>⟧.values ⟦<Self as Exact>⟧.exact refl };
+    ghost example = { exact_example ⟦<Self as Exact>⟧.values ⟦<Self as Notated>⟧.notation ⟦<Self as Serialize>⟧.meaning
+        refl Prim.assumption };
 }

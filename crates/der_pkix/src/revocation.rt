@@ -140,7 +140,8 @@ impl Faithful for DistributionPoint {
 }
 
 impl Inhabited for DistributionPoint {
-    ghost example = { exact_example ⟦<Self as Exact>⟧.values ⟦<Self as Exact>⟧.exact refl };
+    ghost example = { exact_example ⟦<Self as Exact>⟧.values ⟦<Self as Notated>⟧.notation ⟦<Self as Serialize>⟧.meaning
+        refl Prim.assumption };
 }
 
 /// `DistributionPointName` of PKIX1Implicit88, as a CHOICE.
@@ -240,7 +241,8 @@ impl Faithful for DistributionPointName {
 }
 
 impl Inhabited for DistributionPointName {
-    ghost example = { exact_example ⟦<Self as Exact>⟧.values ⟦<Self as Exact>⟧.exact refl };
+    ghost example = { exact_example ⟦<Self as Exact>⟧.values ⟦<Self as Notated>⟧.notation ⟦<Self as Serialize>⟧.meaning
+        refl Prim.assumption };
 }
 
 /// `ReasonFlags` of PKIX1Implicit88: `BIT STRING { unused (0), keyCompromise (1), cACompromise (2),
@@ -394,7 +396,8 @@ impl Faithful for IssuingDistributionPoint {
 }
 
 impl Inhabited for IssuingDistributionPoint {
-    ghost example = { exact_example ⟦<Self as Exact>⟧.values ⟦<Self as Exact>⟧.exact refl };
+    ghost example = { exact_example ⟦<Self as Exact>⟧.values ⟦<Self as Notated>⟧.notation ⟦<Self as Serialize>⟧.meaning
+        refl Prim.assumption };
 }
 
 /// `CRLReason` of PKIX1Implicit88, as an ENUMERATED. Every other content is refused with
@@ -593,7 +596,8 @@ impl Faithful for CrlReason {
 }
 
 impl Inhabited for CrlReason {
-    ghost example = { exact_example ⟦<Self as Exact>⟧.values ⟦<Self as Exact>⟧.exact refl };
+    ghost example = { exact_example ⟦<Self as Exact>⟧.values ⟦<Self as Notated>⟧.notation ⟦<Self as Serialize>⟧.meaning
+        refl Prim.assumption };
 }
 
 /// `CertificateIssuer` of PKIX1Implicit88: `GeneralNames`.

@@ -153,7 +153,8 @@ impl Faithful for SingleResponse {
 }
 
 impl Inhabited for SingleResponse {
-    ghost example = { exact_example ⟦<Self as Exact>⟧.values ⟦<Self as Exact>⟧.exact refl };
+    ghost example = { exact_example ⟦<Self as Exact>⟧.values ⟦<Self as Notated>⟧.notation ⟦<Self as Serialize>⟧.meaning
+        refl Prim.assumption };
 }
 
 /// `CertStatus` of OCSP-2013-88, as a CHOICE.
@@ -256,7 +257,8 @@ impl Faithful for CertStatus {
 }
 
 impl Inhabited for CertStatus {
-    ghost example = { exact_example ⟦<Self as Exact>⟧.values ⟦<Self as Exact>⟧.exact refl };
+    ghost example = { exact_example ⟦<Self as Exact>⟧.values ⟦<Self as Notated>⟧.notation ⟦<Self as Serialize>⟧.meaning
+        refl Prim.assumption };
 }
 
 /// `RevokedInfo` of OCSP-2013-88, as a SEQUENCE.
@@ -340,7 +342,8 @@ impl Faithful for RevokedInfo {
 }
 
 impl Inhabited for RevokedInfo {
-    ghost example = { exact_example ⟦<Self as Exact>⟧.values ⟦<Self as Exact>⟧.exact refl };
+    ghost example = { exact_example ⟦<Self as Exact>⟧.values ⟦<Self as Notated>⟧.notation ⟦<Self as Serialize>⟧.meaning
+        refl Prim.assumption };
 }
 
 /// `UnknownInfo` of OCSP-2013-88: `NULL`.

@@ -127,7 +127,8 @@ impl Faithful for OcspResponse {
 }
 
 impl Inhabited for OcspResponse {
-    ghost example = { exact_example ⟦<Self as Exact>⟧.values ⟦<Self as Exact>⟧.exact refl };
+    ghost example = { exact_example ⟦<Self as Exact>⟧.values ⟦<Self as Notated>⟧.notation ⟦<Self as Serialize>⟧.meaning
+        refl Prim.assumption };
 }
 
 /// `OCSPResponseStatus` of OCSP-2013-88, as an ENUMERATED. Every other content is refused with
@@ -294,7 +295,8 @@ impl Faithful for OcspResponseStatus {
 }
 
 impl Inhabited for OcspResponseStatus {
-    ghost example = { exact_example ⟦<Self as Exact>⟧.values ⟦<Self as Exact>⟧.exact refl };
+    ghost example = { exact_example ⟦<Self as Exact>⟧.values ⟦<Self as Notated>⟧.notation ⟦<Self as Serialize>⟧.meaning
+        refl Prim.assumption };
 }
 
 /// Where the type is id-pkix-ocsp-basic, the response is the encoding of a BasicOCSPResponse.
@@ -374,7 +376,8 @@ impl Faithful for ResponseBytes {
 }
 
 impl Inhabited for ResponseBytes {
-    ghost example = { exact_example ⟦<Self as Exact>⟧.values ⟦<Self as Exact>⟧.exact refl };
+    ghost example = { exact_example ⟦<Self as Exact>⟧.values ⟦<Self as Notated>⟧.notation ⟦<Self as Serialize>⟧.meaning
+        refl Prim.assumption };
 }
 
 /// The signature is over the encoding of `tbsResponseData`. `BasicOCSPResponse` of OCSP-2013-88, as
@@ -479,7 +482,8 @@ impl Faithful for BasicOcspResponse {
 }
 
 impl Inhabited for BasicOcspResponse {
-    ghost example = { exact_example ⟦<Self as Exact>⟧.values ⟦<Self as Exact>⟧.exact refl };
+    ghost example = { exact_example ⟦<Self as Exact>⟧.values ⟦<Self as Notated>⟧.notation ⟦<Self as Serialize>⟧.meaning
+        refl Prim.assumption };
 }
 
 /// `ResponseData` of OCSP-2013-88, as a SEQUENCE.
@@ -602,7 +606,8 @@ impl Faithful for ResponseData {
 }
 
 impl Inhabited for ResponseData {
-    ghost example = { exact_example ⟦<Self as Exact>⟧.values ⟦<Self as Exact>⟧.exact refl };
+    ghost example = { exact_example ⟦<Self as Exact>⟧.values ⟦<Self as Notated>⟧.notation ⟦<Self as Serialize>⟧.meaning
+        refl Prim.assumption };
 }
 
 /// `ResponderID` of OCSP-2013-88, as a CHOICE.
@@ -696,7 +701,8 @@ impl Faithful for ResponderId {
 }
 
 impl Inhabited for ResponderId {
-    ghost example = { exact_example ⟦<Self as Exact>⟧.values ⟦<Self as Exact>⟧.exact refl };
+    ghost example = { exact_example ⟦<Self as Exact>⟧.values ⟦<Self as Notated>⟧.notation ⟦<Self as Serialize>⟧.meaning
+        refl Prim.assumption };
 }
 
 /// `KeyHash` of OCSP-2013-88: `OCTET STRING`.

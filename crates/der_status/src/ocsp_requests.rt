@@ -100,7 +100,8 @@ impl Faithful for OcspRequest {
 }
 
 impl Inhabited for OcspRequest {
-    ghost example = { exact_example ⟦<Self as Exact>⟧.values ⟦<Self as Exact>⟧.exact refl };
+    ghost example = { exact_example ⟦<Self as Exact>⟧.values ⟦<Self as Notated>⟧.notation ⟦<Self as Serialize>⟧.meaning
+        refl Prim.assumption };
 }
 
 /// `TBSRequest` of OCSP-2013-88, as a SEQUENCE.
@@ -215,7 +216,8 @@ impl Faithful for TbsRequest {
 }
 
 impl Inhabited for TbsRequest {
-    ghost example = { exact_example ⟦<Self as Exact>⟧.values ⟦<Self as Exact>⟧.exact refl };
+    ghost example = { exact_example ⟦<Self as Exact>⟧.values ⟦<Self as Notated>⟧.notation ⟦<Self as Serialize>⟧.meaning
+        refl Prim.assumption };
 }
 
 /// `Signature` of OCSP-2013-88, as a SEQUENCE.
@@ -308,7 +310,8 @@ impl Faithful for Signature {
 }
 
 impl Inhabited for Signature {
-    ghost example = { exact_example ⟦<Self as Exact>⟧.values ⟦<Self as Exact>⟧.exact refl };
+    ghost example = { exact_example ⟦<Self as Exact>⟧.values ⟦<Self as Notated>⟧.notation ⟦<Self as Serialize>⟧.meaning
+        refl Prim.assumption };
 }
 
 /// `Version` of OCSP-2013-88: `INTEGER { v1 (0) }`.
@@ -395,7 +398,8 @@ impl Faithful for Request {
 }
 
 impl Inhabited for Request {
-    ghost example = { exact_example ⟦<Self as Exact>⟧.values ⟦<Self as Exact>⟧.exact refl };
+    ghost example = { exact_example ⟦<Self as Exact>⟧.values ⟦<Self as Notated>⟧.notation ⟦<Self as Serialize>⟧.meaning
+        refl Prim.assumption };
 }
 
 /// `CertID` of OCSP-2013-88, as a SEQUENCE.
@@ -498,5 +502,6 @@ impl Faithful for CertId {
 }
 
 impl Inhabited for CertId {
-    ghost example = { exact_example ⟦<Self as Exact>⟧.values ⟦<Self as Exact>⟧.exact refl };
+    ghost example = { exact_example ⟦<Self as Exact>⟧.values ⟦<Self as Notated>⟧.notation ⟦<Self as Serialize>⟧.meaning
+        refl Prim.assumption };
 }

@@ -155,7 +155,8 @@ impl Faithful for TimeStampReq {
 }
 
 impl Inhabited for TimeStampReq {
-    ghost example = { exact_example ⟦<Self as Exact>⟧.values ⟦<Self as Exact>⟧.exact refl };
+    ghost example = { exact_example ⟦<Self as Exact>⟧.values ⟦<Self as Notated>⟧.notation ⟦<Self as Serialize>⟧.meaning
+        refl Prim.assumption };
 }
 
 /// The digest of the data that is time-stamped. `MessageImprint` of PKIXTSP, as a SEQUENCE.
@@ -234,7 +235,8 @@ impl Faithful for MessageImprint {
 }
 
 impl Inhabited for MessageImprint {
-    ghost example = { exact_example ⟦<Self as Exact>⟧.values ⟦<Self as Exact>⟧.exact refl };
+    ghost example = { exact_example ⟦<Self as Exact>⟧.values ⟦<Self as Notated>⟧.notation ⟦<Self as Serialize>⟧.meaning
+        refl Prim.assumption };
 }
 
 /// `TSAPolicyId` of PKIXTSP: `OBJECT IDENTIFIER`.
@@ -316,7 +318,8 @@ impl Faithful for TimeStampResp {
 }
 
 impl Inhabited for TimeStampResp {
-    ghost example = { exact_example ⟦<Self as Exact>⟧.values ⟦<Self as Exact>⟧.exact refl };
+    ghost example = { exact_example ⟦<Self as Exact>⟧.values ⟦<Self as Notated>⟧.notation ⟦<Self as Serialize>⟧.meaning
+        refl Prim.assumption };
 }
 
 /// `PKIStatusInfo` of PKIXTSP, as a SEQUENCE.
@@ -409,7 +412,8 @@ impl Faithful for PkiStatusInfo {
 }
 
 impl Inhabited for PkiStatusInfo {
-    ghost example = { exact_example ⟦<Self as Exact>⟧.values ⟦<Self as Exact>⟧.exact refl };
+    ghost example = { exact_example ⟦<Self as Exact>⟧.values ⟦<Self as Notated>⟧.notation ⟦<Self as Serialize>⟧.meaning
+        refl Prim.assumption };
 }
 
 /// `PKIStatus` of PKIXTSP: `INTEGER { granted (0), grantedWithMods (1), rejection (2), waiting (3),
@@ -588,7 +592,8 @@ impl Faithful for TstInfo {
 }
 
 impl Inhabited for TstInfo {
-    ghost example = { exact_example ⟦<Self as Exact>⟧.values ⟦<Self as Exact>⟧.exact refl };
+    ghost example = { exact_example ⟦<Self as Exact>⟧.values ⟦<Self as Notated>⟧.notation ⟦<Self as Serialize>⟧.meaning
+        refl Prim.assumption };
 }
 
 /// `Accuracy` of PKIXTSP, as a SEQUENCE.
@@ -681,5 +686,6 @@ impl Faithful for Accuracy {
 }
 
 impl Inhabited for Accuracy {
-    ghost example = { exact_example ⟦<Self as Exact>⟧.values ⟦<Self as Exact>⟧.exact refl };
+    ghost example = { exact_example ⟦<Self as Exact>⟧.values ⟦<Self as Notated>⟧.notation ⟦<Self as Serialize>⟧.meaning
+        refl Prim.assumption };
 }

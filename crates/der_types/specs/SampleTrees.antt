@@ -363,5 +363,5 @@ value_of : {V : Type 0} (n : Notation) {meaning : V → Tree} → IsExact (Denot
 value_of n is None h = cc
 value_of n is (Some x) h = let v = is.complete x.tree x.denoted x.readable x.short in (v.0, subst IsReadable (sym v.1) x.readable)
 
-pub exact_example : {V : Type 0} (values : Values V) {notation : Notation} {meaning : V → Tree} → ProvedValues values notation meaning → has_sample notation ≡ true → HasReadable meaning
-exact_example values {notation} t h = value_of notation (is_exact values t) (sample_of 0 notation) h
+pub exact_example : {V : Type 0} (values : Values V) (notation : Notation) (meaning : V → Tree) → has_sample notation ≡ true → ProvedValues values notation meaning → HasReadable meaning
+exact_example values notation meaning h t = value_of notation (is_exact values t) (sample_of 0 notation) h

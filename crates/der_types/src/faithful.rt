@@ -13,9 +13,10 @@ ghost use Rattle.der_types.specs.TimeValues.{generalized_content};
 
 use crate::{
     CharacterSet, Encoded, Exact, ExactContents, ImplicitPrimitive, ImplicitSet, LaterTime,
-    RestrictedString, TagOrdered,
+    Notated, RestrictedString, TagOrdered,
 };
 use picky_der_de::{Deserialize, Faithful, Inhabited};
+use picky_der_ser::Serialize;
 
 impl<S: CharacterSet> Faithful for RestrictedString<S> {
     ghost sameness = { content_sameness S.TAG (λ it. it.content.items) ⟦<Self as PartialEq>⟧.eq (λ x y. same_list x.content.items y.content.items) };
@@ -48,5 +49,6 @@ impl Faithful for LaterTime {
 }
 
 impl Inhabited for LaterTime {
-    ghost example = { exact_example ⟦<Self as Exact>⟧.values ⟦<Self as Exact>⟧.exact refl };
+    ghost example = { exact_example ⟦<Self as Exact>⟧.values ⟦<Self as Notated>⟧.notation ⟦<Self as Serialize>⟧.meaning
+        refl Prim.assumption };
 }

@@ -105,7 +105,8 @@ impl Faithful for CertificateList {
 }
 
 impl Inhabited for CertificateList {
-    ghost example = { exact_example ⟦<Self as Exact>⟧.values ⟦<Self as Exact>⟧.exact refl };
+    ghost example = { exact_example ⟦<Self as Exact>⟧.values ⟦<Self as Notated>⟧.notation ⟦<Self as Serialize>⟧.meaning
+        refl Prim.assumption };
 }
 
 /// The signed part of a list of revoked certificates (RFC 5280, 5.1.2). `TBSCertList` of
@@ -245,7 +246,8 @@ impl Faithful for TbsCertList {
 }
 
 impl Inhabited for TbsCertList {
-    ghost example = { exact_example ⟦<Self as Exact>⟧.values ⟦<Self as Exact>⟧.exact refl };
+    ghost example = { exact_example ⟦<Self as Exact>⟧.values ⟦<Self as Notated>⟧.notation ⟦<Self as Serialize>⟧.meaning
+        refl Prim.assumption };
 }
 
 /// A revoked certificate (RFC 5280, 5.1.2.6). The RFC gives this type no name. `RevokedCertificate`
@@ -335,5 +337,6 @@ impl Faithful for RevokedCertificate {
 }
 
 impl Inhabited for RevokedCertificate {
-    ghost example = { exact_example ⟦<Self as Exact>⟧.values ⟦<Self as Exact>⟧.exact refl };
+    ghost example = { exact_example ⟦<Self as Exact>⟧.values ⟦<Self as Notated>⟧.notation ⟦<Self as Serialize>⟧.meaning
+        refl Prim.assumption };
 }

@@ -110,7 +110,8 @@ impl Faithful for Name {
 }
 
 impl Inhabited for Name {
-    ghost example = { exact_example ⟦<Self as Exact>⟧.values ⟦<Self as Exact>⟧.exact refl };
+    ghost example = { exact_example ⟦<Self as Exact>⟧.values ⟦<Self as Notated>⟧.notation ⟦<Self as Serialize>⟧.meaning
+        refl Prim.assumption };
 }
 
 /// The steps of a name, from the root down. `RDNSequence` of PKIX1Explicit88: `SEQUENCE OF
@@ -197,7 +198,8 @@ impl Faithful for AttributeTypeAndValue {
 }
 
 impl Inhabited for AttributeTypeAndValue {
-    ghost example = { exact_example ⟦<Self as Exact>⟧.values ⟦<Self as Exact>⟧.exact refl };
+    ghost example = { exact_example ⟦<Self as Exact>⟧.values ⟦<Self as Notated>⟧.notation ⟦<Self as Serialize>⟧.meaning
+        refl Prim.assumption };
 }
 
 /// Which attribute it is. `AttributeType` of PKIX1Explicit88: `OBJECT IDENTIFIER`.

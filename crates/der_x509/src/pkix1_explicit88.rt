@@ -127,7 +127,8 @@ impl Faithful for Certificate {
 }
 
 impl Inhabited for Certificate {
-    ghost example = { exact_example ⟦<Self as Exact>⟧.values ⟦<Self as Exact>⟧.exact refl };
+    ghost example = { exact_example ⟦<Self as Exact>⟧.values ⟦<Self as Notated>⟧.notation ⟦<Self as Serialize>⟧.meaning
+        refl Prim.assumption };
 }
 
 /// The signed part of a certificate (RFC 5280, 4.1.2). `TBSCertificate` of PKIX1Explicit88, as a
@@ -295,7 +296,8 @@ impl Faithful for TbsCertificate {
 }
 
 impl Inhabited for TbsCertificate {
-    ghost example = { exact_example ⟦<Self as Exact>⟧.values ⟦<Self as Exact>⟧.exact refl };
+    ghost example = { exact_example ⟦<Self as Exact>⟧.values ⟦<Self as Notated>⟧.notation ⟦<Self as Serialize>⟧.meaning
+        refl Prim.assumption };
 }
 
 /// The version of a certificate (RFC 5280, 4.1.2.1). The RFC names these three and has no
@@ -487,7 +489,8 @@ impl FaithfulDefault<Version> for VersionV1 {
 }
 
 impl Inhabited for Version {
-    ghost example = { exact_example ⟦<Self as Exact>⟧.values ⟦<Self as Exact>⟧.exact refl };
+    ghost example = { exact_example ⟦<Self as Exact>⟧.values ⟦<Self as Notated>⟧.notation ⟦<Self as Serialize>⟧.meaning
+        refl Prim.assumption };
 }
 
 /// The serial number of a certificate (RFC 5280, 4.1.2.2). `CertificateSerialNumber` of
@@ -571,7 +574,8 @@ impl Faithful for Validity {
 }
 
 impl Inhabited for Validity {
-    ghost example = { exact_example ⟦<Self as Exact>⟧.values ⟦<Self as Exact>⟧.exact refl };
+    ghost example = { exact_example ⟦<Self as Exact>⟧.values ⟦<Self as Notated>⟧.notation ⟦<Self as Serialize>⟧.meaning
+        refl Prim.assumption };
 }
 
 /// A time, without a fraction of a second (RFC 5280, 4.1.2.5). Any year is read in both forms,
@@ -663,7 +667,8 @@ impl Faithful for Time {
 }
 
 impl Inhabited for Time {
-    ghost example = { exact_example ⟦<Self as Exact>⟧.values ⟦<Self as Exact>⟧.exact refl };
+    ghost example = { exact_example ⟦<Self as Exact>⟧.values ⟦<Self as Notated>⟧.notation ⟦<Self as Serialize>⟧.meaning
+        refl Prim.assumption };
 }
 
 /// Distinguishes an issuer or a subject from others with the same name (RFC 5280, 4.1.2.8).
@@ -748,7 +753,8 @@ impl Faithful for SubjectPublicKeyInfo {
 }
 
 impl Inhabited for SubjectPublicKeyInfo {
-    ghost example = { exact_example ⟦<Self as Exact>⟧.values ⟦<Self as Exact>⟧.exact refl };
+    ghost example = { exact_example ⟦<Self as Exact>⟧.values ⟦<Self as Notated>⟧.notation ⟦<Self as Serialize>⟧.meaning
+        refl Prim.assumption };
 }
 
 /// An algorithm and its parameters (RFC 5280, 4.1.1.2). Absent parameters are different from NULL,
@@ -829,5 +835,6 @@ impl Faithful for AlgorithmIdentifier {
 }
 
 impl Inhabited for AlgorithmIdentifier {
-    ghost example = { exact_example ⟦<Self as Exact>⟧.values ⟦<Self as Exact>⟧.exact refl };
+    ghost example = { exact_example ⟦<Self as Exact>⟧.values ⟦<Self as Notated>⟧.notation ⟦<Self as Serialize>⟧.meaning
+        refl Prim.assumption };
 }

@@ -128,5 +128,6 @@ impl Faithful for RelativeOid {
 }
 
 impl Inhabited for RelativeOid {
-    ghost example = { exact_example ⟦<Self as Exact>⟧.values ⟦<Self as Exact>⟧.exact refl };
+    ghost example = { exact_example ⟦<Self as Exact>⟧.values ⟦<Self as Notated>⟧.notation ⟦<Self as Serialize>⟧.meaning
+        refl Prim.assumption };
 }

@@ -3,4 +3,4 @@ use Rattle.der_types.specs.SampleTrees.{exact_example}
 use Rattle.der_types.proofs.laws.inhabited.Goals as goal
 
 pub returns : goal.returns
-returns g c = exact_example g.T.Exact.values g.met.T.Exact.exact
+returns g c h = exact_example g.T.Exact.values g.T.Notated.notation g.T.Serialize.meaning h g.met.T.Exact.exact
