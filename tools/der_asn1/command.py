@@ -1,15 +1,22 @@
 """The command line.
 
     der_asn1 --report [--types] [OPTION ..] MODULE.asn1 ..
+    der_asn1 --print crates/NAME/specs/Notation.antt ..
     der_asn1 --out crates/NAME [--type TYPE,..] [--group FILE=TYPE,..] [--crate MODULE=CRATE ..] [--distinct TYPE,..] [--own MODULE=NAME,..]
-        [--own-terms NAME,..] [--check] [--allow-raw] [--allow-wider] [OPTION ..] MODULE.asn1 ..
+        [--own-terms NAME,..] [--check] [--allow-raw [TYPE,..]] [--allow-wider [TYPE,..]] [OPTION ..] MODULE.asn1 ..
+    der_asn1 derive [--check] FILE.rt ..
 
-`--report` prints for each module how many of its types are expressed exactly, and which features of the library are missing for the
-others. `--types` adds a line for each type.
+`derive` is in derive.py, and writes what the structs and enums of a file of Rust need.
+
+`--report` prints how much is written without a flag, for each module how many of its types are expressed exactly, and which features of the
+library are missing for the others. `--types` adds a line for each type.
+
+`--print` prints the terms of a crate as ASN.1 again.
 
 `--out` writes a crate of all types of the modules, or of the types after `--type` and what they need, and prints its line of `crates.txt`.
-`--check` writes nothing, and fails if a file isn't what would be written. A type that would be kept as bytes, or in part, is an error
-without `--allow-raw`. A type that would have more values than the notation is an error without `--allow-wider`. An open type is any element.
+`--check` writes nothing, and fails if a file isn't what would be written. What would be kept as bytes is an error without `--allow-raw`, and
+what would have other values than the notation is one without `--allow-wider`: one error for each cause, at the member that lacks something.
+Both may be for some types alone, those that the errors name. An open type is any element.
 
 The types of a module are in one file, which has the module's name, or is `types.rt` if the crate is of one module alone.
 `--group FILE=TYPE,..` puts types with their parts into another file.
@@ -25,24 +32,30 @@ accepted. The status is 1 if there is an error.
 """
 import argparse
 import os
+import re
 import sys
 from typing import Iterable, Optional
 
-from . import tree
+from . import derive, tree
+from .causes import Allowed, refuse
 from .declarations import Declarations, NewtypeDeclaration
-from .emit_crate import NEEDS, RESERVED, Crate, reached, reached_elsewhere, refusals
+from .emit_crate import NEEDS, RESERVED, Crate, reached, reached_elsewhere
 from .emit_values import values_of
 from .folder import difference, own_paths, write
 from .meaning import lacks
 from .meaning_types import ASSOCIATED, Meanings
+from .module_checks import ModuleChecks, identified
 from .other_crates import OtherCrates, other_crates
 from .parse_modules import read_file
+from .printed import printed, read_terms
 from .report import report_of, types_table, whole
 from .scopes import Program
 from .source import NotationError, Problems, Severity
 
 # types inside of each other, each of which takes some calls
 _DEPTH = 10000
+# the options that may be for some types alone, and the names of types
+_OF_TYPES, _TYPES = ("--allow-raw", "--allow-wider"), re.compile(r"[A-Z][A-Za-z0-9-]*(,[A-Z][A-Za-z0-9-]*)*")
 
 
 def arguments(words: Optional[list[str]]) -> argparse.Namespace:
@@ -51,6 +64,7 @@ def arguments(words: Optional[list[str]]) -> argparse.Namespace:
     parser.add_argument("files", nargs="+", metavar="MODULE.asn1", help="a file with one or more modules; imports are found among all files")
     what = parser.add_mutually_exclusive_group(required=True)
     what.add_argument("--report", action="store_true", help="print how well each module is expressed")
+    what.add_argument("--print", action="store_true", help="print files of terms, specs/Notation.antt of crates, as ASN.1")
     what.add_argument("--out", metavar="FOLDER", help="write a crate, whose name is that of the folder")
     parser.add_argument("--types", action="store_true", help="print a line for each type in the report, too")
     parser.add_argument("--type", action="append", default=[], metavar="TYPE,..", help="write these types and what they need")
@@ -60,11 +74,24 @@ def arguments(words: Optional[list[str]]) -> argparse.Namespace:
     parser.add_argument("--own", action="append", default=[], metavar="MODULE=NAME,..", help="a module of one's own in src, with its public names")
     parser.add_argument("--own-terms", action="append", default=[], metavar="NAME,..", help="modules of one's own in specs")
     parser.add_argument("--check", action="store_true", help="write nothing, and fail where a file is another one")
-    parser.add_argument("--allow-raw", action="store_true", help="keep as bytes what the library has no type for")
-    parser.add_argument("--allow-wider", action="store_true", help="use a type that has more values, where it should be one of its own")
+    parser.add_argument("--allow-raw", action="append", default=[], metavar="[TYPE,..]", help="keep as bytes what the library has no type for")
+    parser.add_argument("--allow-wider", action="append", default=[], metavar="[TYPE,..]", help="use a type that has other values than the notation")
     parser.add_argument("--import", action="append", default=[], dest="imported", metavar="OTHER.asn1", help="a file for what the modules import")
     parser.add_argument("--strict", action="store_true", help="refuse what the standard doesn't allow, where it is accepted else")
-    return parser.parse_args(words)
+    return parser.parse_args(with_types(sys.argv[1:] if words is None else words))
+
+
+def with_types(words: list[str]) -> list[str]:
+    """The same words, with the names of types joined to the option before them that may have some, and none where no name follows."""
+    found: list[str] = []
+    for it in words:
+        if found and found[-1] in _OF_TYPES:
+            found[-1] += "="
+            if _TYPES.fullmatch(it):
+                found[-1] += it
+                continue
+        found.append(it)
+    return [f"{it}=" if it in _OF_TYPES else it for it in found]
 
 
 def read(files: list[str], problems: Problems) -> list[tree.Module]:
@@ -91,7 +118,12 @@ def said(problems: Problems) -> bool:
 def main(words: Optional[list[str]] = None) -> int:
     """Runs the command. Returns 1 if there is an error, else 0."""
     sys.setrecursionlimit(_DEPTH)
-    options = arguments(words)
+    given = sys.argv[1:] if words is None else words
+    if given[:1] == ["derive"]:
+        return derive.main(given[1:])
+    options = arguments(given)
+    if options.print:
+        return shown_terms(options.files)
     problems = Problems(options.strict)
     modules, imported = read(options.files, problems), read(options.imported, problems)
     if options.out:
@@ -104,6 +136,19 @@ def main(words: Optional[list[str]] = None) -> int:
     return 1 if failed else 0
 
 
+def shown_terms(paths: list[str]) -> int:
+    """Prints files of terms as modules of the notation."""
+    for path in paths:
+        try:
+            with open(path, encoding="utf-8") as it:
+                print(printed(read_terms(it.read())), end="")
+        except OSError as error:
+            sys.exit(f"{path}: {error.strerror}")
+        except ValueError as error:
+            sys.exit(f"{path}: {error}")
+    return 0
+
+
 def written(options: argparse.Namespace, modules: list[tree.Module], imported: list[tree.Module], problems: Problems) -> int:
     """Writes the crate, or compares it with what is there."""
     folder, name = os.path.split(os.path.abspath(options.out))
@@ -114,8 +159,7 @@ def written(options: argparse.Namespace, modules: list[tree.Module], imported: l
     crate = crate_of(name, modules, imported, listed(options.type), problems, others, listed(options.distinct))
     crate.own, crate.own_terms, crate.groups = named_lists(options.own), listed(options.own_terms), named_lists(options.group)
     check_groups(crate, problems)
-    for place, text in refusals(crate.types, options.allow_raw, options.allow_wider):
-        problems.error(place, text, "docs/ASN1.md")
+    refuse(problems, crate.causes, Allowed(options.allow_raw), Allowed(options.allow_wider))
     if said(problems):
         return 1
     files, own = crate.files(), own_paths(list(crate.own), crate.own_terms)
@@ -168,10 +212,11 @@ def crate_of(
     Types of `others` are named and not declared. Which of these are used is found at first, so that their names are free else.
     """
     if others.crates:
-        declarations, found = declared(Program(modules, Problems(problems.strict), imported), names, distinct, others)
-        others = others.using(reached_elsewhere(declarations, found).values())
+        meanings, found = declared(Program(modules, Problems(problems.strict), imported), names, distinct, others)
+        others = others.using(reached_elsewhere(meanings.declarations, found).values())
     program = Program(modules, problems, imported)
-    declarations, found = declared(program, names, distinct, others)
+    meanings, found = declared(program, names, distinct, others)
+    declarations = meanings.declarations
     types, elsewhere = reached(declarations, found), reached_elsewhere(declarations, found)
     for it in types.values():
         wanted = declarations.renamed.get(it.name)
@@ -179,13 +224,15 @@ def crate_of(
             problems.warn(it.place, f"`{it.source}` is called `{it.name}`, since another type is called `{wanted}`", "docs/ASN1.md")
     values = [] if names else values_of(program, modules)
     homes = {name: path.split("::")[0] for name, path in elsewhere.items()}
-    return Crate(name, types, values, [*modules, *imported, *ASSOCIATED.modules], homes)
+    return Crate(name, types, values, [*modules, *imported, *ASSOCIATED.modules], homes, causes=meanings.causes(types.values()))
 
 
-def declared(program: Program, names: list[str], distinct: Iterable[str], others: OtherCrates) -> tuple[Declarations, list[str]]:
-    """All declarations, and the types of Rust of these names, or of all types of the program's own modules."""
+def declared(program: Program, names: list[str], distinct: Iterable[str], others: OtherCrates) -> tuple[Meanings, list[str]]:
+    """All meanings with their declarations, and the types of Rust of these names, or of all types of the program's own modules."""
     modules, problems = program.modules, program.problems
-    meanings = Meanings(program, Declarations(others), distinct)
+    meanings, checks = Meanings(identified(program), Declarations(others), distinct), ModuleChecks(program)
+    for module in [] if names else modules:
+        checks.module(module)
     found, missing = [], set(names)
     for module in modules:
         for it in module.assignments:
@@ -202,4 +249,4 @@ def declared(program: Program, names: list[str], distinct: Iterable[str], others
     made = {it.source for it in meanings.declarations.by_name.values() if isinstance(it, NewtypeDeclaration)}
     for it in sorted({*distinct} - made):
         problems.error(first, f"`{it}` isn't the name of another type", "docs/ASN1.md")
-    return meanings.declarations, found
+    return meanings, found

@@ -1,7 +1,8 @@
 """The types of Rust that a crate declares: structs, choices and names of other types."""
-from dataclasses import dataclass, field
+from dataclasses import dataclass, field, replace
 from typing import Optional
 
+from .causes import Where
 from .features import Level
 from .other_crates import OtherCrates
 from .rust_types import UNIT, RustType
@@ -14,24 +15,72 @@ from .wording import camel
 class Hint:
     """What a type is called after. A type that is all of an assignment has the key of that, and the comment above it.
 
-    `root` is the name of the assignment that it is all or a part of.
+    `root` is the name of the assignment that it is all or a part of, and `where` the member that it is the type of.
     """
 
     text: str
     key: tuple = ()
     comment: str = ""
     root: str = ""
+    where: Optional[Where] = None
 
-    def part(self, name: str) -> "Hint":
-        """What a part of the type is called after."""
-        return Hint(f"{self.text}-{name}", root=self.root)
+    def part(self, name: str, place: Optional[Place] = None) -> "Hint":
+        """What a part of the type is called after, which is a member if it has a place."""
+        where = replace(self.where, place=place, member=name) if place and self.where else self.where
+        return Hint(f"{self.text}-{name}", root=self.root, where=where)
+
+
+@dataclass(frozen=True)
+class Parameter:
+    """A parameter of a type: `T` with its bounds, or `const N` with its type after the colon."""
+
+    name: str
+    after: str = ""
+
+    def with_bound(self, bound: str = "") -> str:
+        """The parameter as it is declared, with one more bound if it is a type."""
+        bounds = self.after if self.name.startswith("const ") else " + ".join(it for it in (self.after, bound) if it)
+        return f"{self.name}: {bounds}" if bounds else self.name
+
+    @property
+    def argument(self) -> str:
+        """The parameter as an argument."""
+        return self.name.replace("const ", "")
+
+
+@dataclass(frozen=True)
+class Generics:
+    """The parameters of a type. What is written for a module of ASN.1 has none."""
+
+    parameters: tuple[Parameter, ...] = ()
+
+    def used_in(self, names: set[str]) -> "Generics":
+        """The parameters with these names."""
+        return Generics(tuple(it for it in self.parameters if it.argument in names))
+
+    def declared(self, bound: str = "", first: tuple[str, ...] = ()) -> str:
+        """The parameters where a type or an `impl` declares them, each type with this bound, after `first`."""
+        return listed([*first, *(it.with_bound(bound) for it in self.parameters)])
+
+    def without_bounds(self) -> str:
+        """The parameters where the name of another type declares them."""
+        return listed([it.with_bound() if it.name.startswith("const ") else it.name for it in self.parameters])
+
+    def arguments(self, first: tuple[str, ...] = ()) -> str:
+        """The parameters as arguments, after `first`."""
+        return listed([*first, *(it.argument for it in self.parameters)])
+
+
+def listed(words: list[str]) -> str:
+    """These words in angle brackets, or nothing."""
+    return f"<{', '.join(words)}>" if words else ""
 
 
 @dataclass
 class Field:
     """A member of a struct, or an alternative of a choice. `default` is the type of the library that says its default.
 
-    `is_other` says that its values are those that aren't the default.
+    `is_other` says that its values are those that aren't the default, and `is_element` that its type alone doesn't say whether it is there.
     """
 
     name: str
@@ -41,6 +90,7 @@ class Field:
     notation: str = ""
     comment: str = ""
     is_other: bool = False
+    is_element: bool = False
 
 
 @dataclass
@@ -81,10 +131,16 @@ class StructDeclaration(Declaration):
     fields: list = field(default_factory=list)
     is_set: bool = False
     later: Field = None
+    generics: Generics = Generics()
 
     def parts(self) -> list[Field]:
         """Its members."""
         return [*self.fields, self.later] if self.later else self.fields
+
+    @property
+    def shown(self) -> str:
+        """The type with its parameters."""
+        return f"{self.name}{self.generics.arguments()}"
 
 
 @dataclass
@@ -138,7 +194,22 @@ class AliasDeclaration(Declaration):
 
 @dataclass
 class NewtypeDeclaration(AliasDeclaration):
-    """A struct of its own round another type, in place of a name of it."""
+    """A struct of its own round another type, in place of a name of it. `part` is the name of its field."""
+
+    part: str = "0"
+
+
+@dataclass
+class TestedDeclaration(NewtypeDeclaration):
+    """A struct round those values of another type that pass a test: `function` tests a value, or a reference if `by_reference`.
+
+    `test` is the term of the test of the field with its name, and `ghost` the name of the ghost field by which the value passes it.
+    """
+
+    function: str = ""
+    by_reference: bool = False
+    test: str = ""
+    ghost: str = ""
 
 
 class Declarations:

@@ -52,8 +52,8 @@ def pattern(constructors: list[str], value: str) -> str:
     return value
 
 
-def choice_uses(declared: ChoiceDeclaration) -> Uses:
-    """What the items of a choice name."""
+def choice_uses(declared: ChoiceDeclaration, is_exact: bool = True) -> Uses:
+    """What the items of a choice name, with or without those of `Exact`."""
     count = len(declared.variants)
     constructors = {name for index in range(count) for name in place(index, count)}
     used = by_type(constructors)
@@ -63,7 +63,7 @@ def choice_uses(declared: ChoiceDeclaration) -> Uses:
         "Rattle.picky_der_de.specs.ChoiceFacts": {"choice_facts"},
         "Rattle.der_types.specs.Notation": {"Notation"},
         "Rattle.der_types.specs.ExactChoices": {"choice_values"},
-        **{_CONSTRUCTOR_HOMES[it]: found for it, found in by_type(constructors.union(outside(count))).items()},
+        **{_CONSTRUCTOR_HOMES[it]: found for it, found in by_type(constructors.union(outside(count) if is_exact else [])).items()},
     }
     rust = {*_NAMES, *parts_type([it.type for it in declared.variants]).names()}
     return Uses(rust, used, terms)
@@ -77,9 +77,14 @@ def by_type(constructors: set[str]) -> dict[str, set[str]]:
 def choice_lines(declared: ChoiceDeclaration, names: PrivateNames, home: str) -> list[str]:
     """The items of a choice. `home` is the module of terms of the types of its file."""
     parts, variants = names.of(declared, "Parts"), variants_import(declared, home)
+    impls = [*choice_impls(declared, names, home), "", *notated_impl(declared, parts), "", *exact_impl(declared, parts, variants)]
+    return [*definition(declared), "", *impls]
+
+
+def choice_impls(declared: ChoiceDeclaration, names: PrivateNames, home: str) -> list[str]:
+    """What each choice has, but for its definition."""
+    parts, variants = names.of(declared, "Parts"), variants_import(declared, home)
     return [
-        *definition(declared),
-        "",
         *type_lines("", f"type {parts} = ", str(parts_type([it.type for it in declared.variants])), ";"),
         "",
         *choice_impl(declared, parts, variants),
@@ -89,10 +94,6 @@ def choice_lines(declared: ChoiceDeclaration, names: PrivateNames, home: str) ->
         *deserialize_impl(declared, parts, variants),
         "",
         *begins_impl(declared, parts),
-        "",
-        *notated_impl(declared, parts),
-        "",
-        *exact_impl(declared, parts, variants),
     ]
 
 

@@ -4,22 +4,19 @@ from pathlib import Path
 from typing import Iterable
 
 from . import tree
-from .declarations import AliasDeclaration, ChoiceDeclaration, Declaration, Declarations, EnumDeclaration, StructDeclaration
+from .causes import Cause
+from .declarations import AliasDeclaration, ChoiceDeclaration, Declaration, Declarations, EnumDeclaration
 from .emit_choice import answers_path, serialize_answers
 from .emit_enum import TERMS_FILE, terms_file
 from .emit_notation import defined, notation_file, notation_terms
-from .emit_struct import REFERENCES
 from .emit_types import ONLY, Context, stems_of, types_file
 from .emit_values import Value, value_file
-from .features import Level
 from .folder import NOTE
 from .layout import comment, filled, natural
 from .library_table import LIBRARY_NAMES
 from .private_names import PrivateNames
-from .source import Place
 from .terms import names_of
 
-MOST_MEMBERS = 2 * REFERENCES
 # with more names than these `rt fmt` has each import on a line of its own
 MOST_GROUPED = 100
 # the crates that each crate uses
@@ -35,7 +32,7 @@ class Crate:
 
     `elsewhere` has the other crate of each type that it names and doesn't declare. `groups` has the names of the types of each file that
     isn't the one of a module. `own` are the modules of `src` that are written by hand, by their names: the public names of each that the
-    root exports. `own_terms` are those of `specs`.
+    root exports. `own_terms` are those of `specs`. `causes` are why types aren't those of the notation, each with how many contain it.
     """
 
     name: str
@@ -46,6 +43,7 @@ class Crate:
     groups: dict[str, list[str]] = field(default_factory=dict)
     own: dict[str, list[str]] = field(default_factory=dict)
     own_terms: list[str] = field(default_factory=list)
+    causes: dict[Cause, int] = field(default_factory=dict)
 
     def files(self) -> dict[str, str]:
         """The text of each file, by its path in the crate."""
@@ -180,17 +178,3 @@ def named_in_types(declared: Declaration) -> set[str]:
 def named_in_term(declared: Declaration) -> set[str]:
     """The names in the term of a declaration. A tag may be around what a name stands for, so that the type hasn't the name."""
     return names_of([declared.term.inline()]) if declared.term else set()
-
-
-def refusals(types: dict[str, Declaration], allow_raw: bool, allow_wider: bool) -> list[tuple[Place, str]]:
-    """What keeps a crate from being written: types that are bytes, need one of their own, or have too many members."""
-    found = []
-    for it in types.values():
-        missing = "; ".join(it.lacks)
-        if it.level >= Level.PARTLY_RAW and not allow_raw:
-            found.append((it.place, f"`{it.source}` would be kept as bytes, or a part of it: {missing}. `--allow-raw` allows it"))
-        elif it.level < Level.PARTLY_RAW and it.differences() and not allow_wider:
-            found.append((it.place, f"`{it.source}` would have more values than the notation: {missing}. `--allow-wider` allows it"))
-        if isinstance(it, StructDeclaration) and len(it.fields) > MOST_MEMBERS:
-            found.append((it.place, f"`{it.source}` has more than {MOST_MEMBERS} members"))
-    return found

@@ -91,9 +91,9 @@ def default_proof(name: str) -> str:
     return f"{snake(name)}_by_tree"
 
 
-def enum_uses(declared: EnumDeclaration, crate: str) -> Uses:
-    """What the items of an enumeration name."""
-    uses = Uses({*_NAMES}, terms={f"Rattle.{crate}.specs.{TERMS_FILE}": own_terms(declared) - {respects_proof(declared)}})
+def enum_uses(declared: EnumDeclaration, crate: str, file: str = TERMS_FILE) -> Uses:
+    """What the items of an enumeration name. `file` is the file of its terms."""
+    uses = Uses({*_NAMES}, terms={f"Rattle.{crate}.specs.{file}": own_terms(declared) - {respects_proof(declared)}})
     uses.add(Uses(terms=_TERMS))
     uses.add(Uses(terms={_ENUMERATED: {_VALUES[declared.tag]}, _OWN_CONTENTS: {"own_contents"}}))
     if declared.defaults:
@@ -108,20 +108,27 @@ def enum_lines(declared: EnumDeclaration, home: str) -> list[str]:
     return [
         *definition(declared),
         "",
+        *enum_impls(declared, home),
+        "",
+        *notated_impl(declared, imported),
+        "",
+        *exact_impl(declared, imported),
+        *(line for name, it in declared.defaults.items() for line in ["", *default_lines(declared, name, it, imported)]),
+    ]
+
+
+def enum_impls(declared: EnumDeclaration, home: str) -> list[str]:
+    """What each enumeration has, but for its definition."""
+    return [
         *own_impl(declared),
         "",
-        *contents_impl(declared, imported),
+        *contents_impl(declared, variants_import(declared, home)),
         "",
         *serialize_impl(declared),
         "",
         *deserialize_impl(declared),
         "",
         *begins_impl(declared),
-        "",
-        *notated_impl(declared, imported),
-        "",
-        *exact_impl(declared, imported),
-        *(line for name, it in declared.defaults.items() for line in ["", *default_lines(declared, name, it, imported)]),
     ]
 
 
@@ -259,12 +266,13 @@ def exact_impl(declared: EnumDeclaration, imported: list[str]) -> list[str]:
     before, after = f"{STEP}ghost values = {{ {_VALUES[declared.tag]}", f"{number_term(declared)} (elim ["
     line = f"{before} ({variants}) {after}"
     listed = [f"{_TWO}variants.{it.name} ∷" for it in declared.items]
+    head, indent = ([line], STEP) if len(line) <= GHOST_WIDTH else ([f"{before} (", *listed, f"{_TWO}[]) {after}"], _TWO)
     return [
         f"impl Exact for {declared.name} {{",
         *imported,
-        *([line] if len(line) <= GHOST_WIDTH else [f"{before} (", *listed, f"{_TWO}[]) {after}"]),
-        *(f"{STEP}  | variants.{it.name} ↦ record {{ listed = refl; small = refl }}" for it in declared.items),
-        f"{STEP}]) }};",
+        *head,
+        *(f"{indent}  | variants.{it.name} ↦ record {{ listed = refl; small = refl }}" for it in declared.items),
+        f"{indent}]) }};",
         "",
         f"{STEP}ghost exact = {{ Prim.assumption }};",
         "}",

@@ -31,12 +31,14 @@ def faithful_impl(declared: Union[StructDeclaration, ChoiceDeclaration], inner: 
         imported = variants_import(declared, home)
         sameness = f"choice_sameness ⟦<{inner} as FaithfulAlternatives>⟧.sameness ⟦<Self as Choice>⟧.parts ⟦<Self as PartialEq>⟧.eq"
         lines = [f"{STEP}ghost sameness = {{ {sameness}", f"{_TWO}({equal_alternatives(declared)}) }};"]
+    if isinstance(declared, StructDeclaration):
+        return faithful(declared.shown, imported, lines, declared.generics.declared("Faithful"))
     return faithful(declared.name, imported, lines)
 
 
-def faithful(name: str, imported: list[str], sameness: list[str]) -> list[str]:
-    """An implementation of `Faithful` with these lines of what is owed."""
-    return [f"impl Faithful for {name} {{", *imported, *sameness, "", f"{STEP}ghost respects = {{ Prim.assumption }};", "}"]
+def faithful(name: str, imported: list[str], sameness: list[str], generics: str = "") -> list[str]:
+    """An implementation of `Faithful`, for all types of these generics, with these lines of what is owed."""
+    return [f"impl{generics} Faithful for {name} {{", *imported, *sameness, "", f"{STEP}ghost respects = {{ Prim.assumption }};", "}"]
 
 
 def faithful_part_uses() -> Uses:

@@ -21,9 +21,12 @@ def newtype_uses(declared: NewtypeDeclaration) -> Uses:
 
 def newtype_lines(declared: NewtypeDeclaration) -> list[str]:
     """The items of a struct round another type."""
+    return [*definition(declared), "", *newtype_impls(declared), "", *notated_impl(declared), "", *exact_impl(declared)]
+
+
+def newtype_impls(declared: NewtypeDeclaration) -> list[str]:
+    """What each struct round another type has, but for its definition."""
     return [
-        *definition(declared),
-        "",
         *serialize_impl(declared),
         "",
         *alike_impl(declared),
@@ -31,10 +34,6 @@ def newtype_lines(declared: NewtypeDeclaration) -> list[str]:
         *deserialize_impl(declared),
         "",
         *begins_impl(declared),
-        "",
-        *notated_impl(declared),
-        "",
-        *exact_impl(declared),
     ]
 
 
@@ -56,10 +55,10 @@ def serialize_impl(declared: NewtypeDeclaration) -> list[str]:
     """The implementation of `Serialize`: as the type inside."""
     return [
         f"impl Serialize for {declared.name} {{",
-        f"{STEP}ghost meaning = {{ λ it. {quoted(declared, 'Serialize')}.meaning it.0 }};",
+        f"{STEP}ghost meaning = {{ λ it. {quoted(declared, 'Serialize')}.meaning it.{declared.part} }};",
         "",
         *signature(STEP, "serialize", ["&self", "serializer: &mut Serializer<W>"], "Result<usize>", "<W: WriteExt>"),
-        f"{_TWO}self.0.serialize(serializer)",
+        f"{_TWO}self.{declared.part}.serialize(serializer)",
         f"{STEP}}}",
         "}",
     ]
@@ -71,7 +70,7 @@ def alike_impl(declared: NewtypeDeclaration) -> list[str]:
         f"impl Via for {declared.name} {{",
         f"{STEP}type As = {declared.type};",
         "",
-        f"{STEP}ghost parts = {{ λ it. it.0 }};",
+        f"{STEP}ghost parts = {{ λ it. it.{declared.part} }};",
         "",
         *signature(STEP, "from_parts", [f"value: {declared.type}"], declared.name),
         f"{_TWO}{declared.name}(value)",
@@ -80,18 +79,18 @@ def alike_impl(declared: NewtypeDeclaration) -> list[str]:
     ]
 
 
-def deserialize_impl(declared: NewtypeDeclaration) -> list[str]:
-    """The implementation of `Deserialize`: as the type inside."""
+def deserialize_impl(declared: NewtypeDeclaration, function: str = "deserialize_as") -> list[str]:
+    """The implementation of `Deserialize`: as the type inside, by this function."""
     return [
         f"impl Deserialize for {declared.name} {{",
         f"{STEP}ghost shape = {{ {quoted(declared, 'Deserialize')}.shape }};",
         "",
-        f"{STEP}ghost facts = {{ facts_as {quoted(declared, 'Deserialize')}.facts (λ it. it.0) }};",
+        f"{STEP}ghost facts = {{ facts_as {quoted(declared, 'Deserialize')}.facts (λ it. it.{declared.part}) }};",
         "",
         f"{STEP}ghost proved = {{ Prim.assumption }};",
         "",
         *signature(STEP, "deserialize", ["deserializer: &mut Deserializer<R>"], f"Result<{declared.name}>", "<R: ReadExt>"),
-        f"{_TWO}deserialize_as(deserializer)",
+        f"{_TWO}{function}(deserializer)",
         f"{STEP}}}",
         "}",
     ]
@@ -125,7 +124,7 @@ def exact_impl(declared: NewtypeDeclaration) -> list[str]:
     return [
         f"impl Exact for {declared.name} {{",
         f"{STEP}ghost values = {{ newtype_values {facts}",
-        f"{_TWO}(λ it. it.0) (λ x. (record {{ 0 = x }}, refl)) }};",
+        f"{_TWO}(λ it. it.{declared.part}) (λ x. (record {{ {declared.part} = x }}, refl)) }};",
         "",
         f"{STEP}ghost exact = {{ Prim.assumption }};",
         "}",

@@ -4,9 +4,10 @@ from typing import Iterable
 from . import tree
 from .declarations import Declaration
 from .emit_imports import imports
+from .emit_terms import definition
 from .layout import natural
 from .library_table import TERM_HOMES
-from .terms import default_tags, definition, names_of
+from .terms import default_tags, names_of
 from .tree import TagMode
 from .wording import snake
 

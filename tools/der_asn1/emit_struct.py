@@ -1,5 +1,5 @@
 """A struct, in the form of docs/YOUR_TYPES.md."""
-from .declarations import Field, StructDeclaration
+from .declarations import Field, Generics, StructDeclaration
 from .emit_comments import default_note, difference_note, sentence
 from .emit_imports import PRELUDE, Uses
 from .layout import GHOST_WIDTH, STEP, STRUCT_LITERAL_WIDTH, TUPLE_WIDTH, WIDTH, assigned, comment, signature, tuple_lines
@@ -13,6 +13,7 @@ REFERENCES = 16  # members of one tuple of references
 PART_NAMES = {Presence.OPTIONAL: "0", Presence.DEFAULT: "value"}
 _TWO = STEP * 2
 _THREE = STEP * 3
+_LIFETIME, _ANY_LIFETIME = "'a", "'_"
 
 _TERMS = {
     PRELUDE: {"refl"},
@@ -30,8 +31,16 @@ def chunks(items: list[Field]) -> list[list[Field]]:
 
 
 def tuple_names(declared: StructDeclaration, names: PrivateNames) -> list[str]:
-    """The names of the tuples of types."""
-    return [names.of(declared, f"Parts{number}" if number > 1 else "Parts") for number in range(1, len(chunks(declared.fields)) + 1)]
+    """The tuples of types: their names, with the parameters that they have."""
+    count = len(chunks(declared.fields))
+    found = [names.of(declared, f"Parts{number}" if number > 1 else "Parts") for number in range(1, count + 1)]
+    return [f"{it}{used_from(declared, index * CHUNK).arguments()}" for index, it in enumerate(found)]
+
+
+def used_from(declared: StructDeclaration, first: int) -> Generics:
+    """The parameters that the members from this one on have."""
+    types = [*declared.fields[first:], *([declared.later] if declared.later else [])]
+    return declared.generics.used_in(set().union(*(it.type.words() for it in types)))
 
 
 def variable_names(declared: StructDeclaration) -> list[str]:
@@ -44,6 +53,8 @@ def variable_names(declared: StructDeclaration) -> list[str]:
 
 def member_type(it: Field) -> RustType:
     """A member in the tuple of types."""
+    if it.is_element:
+        return of("Element", it.type)
     if it.presence is Presence.OPTIONAL:
         return of("Optional", it.type)
     return of("Defaulted", it.type, it.default) if it.presence is Presence.DEFAULT else it.type
@@ -51,7 +62,7 @@ def member_type(it: Field) -> RustType:
 
 def member_part(it: Field, before: str = "it") -> str:
     """A member in `parts`."""
-    if it.presence is Presence.OPTIONAL:
+    if it.is_element or it.presence is Presence.OPTIONAL:
         return f"record {{ 0 = {before}.{it.name} }}"
     if it.presence is Presence.DEFAULT:
         return f"record {{ value = {before}.{it.name}; default = record {{}} }}"
@@ -80,10 +91,14 @@ def struct_uses(declared: StructDeclaration) -> Uses:
 
 def struct_lines(declared: StructDeclaration, names: PrivateNames) -> list[str]:
     """The items of a struct."""
+    members = tuple_names(declared, names)[0]
+    return [*definition(declared), "", *struct_impls(declared, names), "", *notated_impl(declared, members), "", *exact_impl(declared, members)]
+
+
+def struct_impls(declared: StructDeclaration, names: PrivateNames) -> list[str]:
+    """What each struct has, but for its definition."""
     tuples = tuple_names(declared, names)
     return [
-        *definition(declared),
-        "",
         *member_types(declared, tuples),
         *struct_impl(declared, tuples[0]),
         "",
@@ -93,10 +108,6 @@ def struct_lines(declared: StructDeclaration, names: PrivateNames) -> list[str]:
         *deserialize_impl(declared, tuples[0]),
         "",
         *begins_impl(declared),
-        "",
-        *notated_impl(declared, tuples[0]),
-        "",
-        *exact_impl(declared, tuples[0]),
     ]
 
 
@@ -119,19 +130,20 @@ def member_types(declared: StructDeclaration, names: list[str]) -> list[str]:
     for index, (name, part) in enumerate(zip(names, parts)):
         rest = names[index + 1] if index + 1 < len(names) else str(declared.later.type) if declared.later else "()"
         items = [*(str(member_type(it)) for it in part), rest]
-        lines += [*tuple_lines("", f"type {name} = ", items, ";"), ""]
+        head = f"type {name.partition('<')[0]}{used_from(declared, index * CHUNK).without_bounds()} = "
+        lines += [*tuple_lines("", head, items, ";"), ""]
     return lines
 
 
 def struct_impl(declared: StructDeclaration, members: str) -> list[str]:
     """The implementation of `Struct`."""
     return [
-        f"impl Struct for {declared.name} {{",
+        f"impl{declared.generics.declared('Deserialize')} Struct for {declared.shown} {{",
         f"{STEP}type Members = {members};",
         "",
         *ghost_tuple(f"{STEP}ghost parts = {{ λ it. ", chunks(declared.fields), " };", "it", last_part(declared, "it")),
         "",
-        *signature(STEP, "from_parts", [f"members: {members}"], declared.name),
+        *signature(STEP, "from_parts", [f"members: {members}"], declared.shown),
         *bindings(declared),
         *struct_literal(declared),
         f"{STEP}}}",
@@ -172,10 +184,16 @@ def bindings(declared: StructDeclaration) -> list[str]:
     names, lines, source = variable_names(declared), [], "members"
     for index, part in enumerate(chunks(declared.fields)):
         rest = names[index] if index < len(names) else declared.later.name if declared.later else "()"
-        items = [f"Optional({it.name})" if it.presence is Presence.OPTIONAL else it.name for it in part]
-        lines += binding([*items, rest], source)
+        lines += binding([*map(bound, part), rest], source)
         source = rest
     return lines
+
+
+def bound(it: Field) -> str:
+    """A member where its tuple is taken apart."""
+    if it.is_element:
+        return f"Element({it.name})"
+    return f"Optional({it.name})" if it.presence is Presence.OPTIONAL else it.name
 
 
 def binding(items: list[str], source: str) -> list[str]:
@@ -202,14 +220,23 @@ def serialize_impl(declared: StructDeclaration, members: str, names: PrivateName
     items = [*(member_reference(it) for it in declared.fields[:REFERENCES]), rest]
     parameters = ["&self", "serializer: &mut Serializer<W>"]
     return [
-        f"impl Serialize for {declared.name} {{",
-        f"{STEP}ghost meaning = {{ sequence_of ⟦<{members} as SerializeMembers>⟧.members ⟦<Self as Struct>⟧.parts }};",
+        f"impl{declared.generics.declared('Serialize')} Serialize for {declared.shown} {{",
+        *meaning(declared, members),
         "",
         *signature(STEP, "serialize", parameters, "Result<usize>", "<W: WriteExt>"),
         *called(items, "serialize_sequence", "serializer"),
         f"{STEP}}}",
         "}",
     ]
+
+
+def meaning(declared: StructDeclaration, members: str) -> list[str]:
+    """The meaning of a value. A struct with parameters has its parts only where these can be read, so they are spelled out."""
+    start = f"{STEP}ghost meaning = {{ sequence_of ⟦<{members} as SerializeMembers>⟧.members"
+    if not declared.generics.parameters:
+        return [f"{start} ⟦<Self as Struct>⟧.parts }};"]
+    parts = ghost_tuple(f"{_TWO}(λ it. ", chunks(declared.fields), ") };", "it", last_part(declared, "it"))
+    return [f"{start} {parts[0].strip()}"] if len(parts) == 1 and len(f"{start} {parts[0].strip()}") <= GHOST_WIDTH else [start, *parts]
 
 
 def last_reference(declared: StructDeclaration, before: str) -> str:
@@ -232,14 +259,14 @@ def last_impl(declared: StructDeclaration, tuples: list[str], names: PrivateName
     """The struct that refers to the members after the sixteenth, if there are any."""
     if len(declared.fields) <= REFERENCES:
         return []
-    rest, name = declared.fields[REFERENCES:], names.of(declared, "Last")
+    rest, name, generics = declared.fields[REFERENCES:], names.of(declared, "Last"), declared.generics
     before = f"{STEP}ghost members = {{ λ it. ⟦<{tuples[2]} as SerializeMembers>⟧.members "
     return [
         "// The members after the sixteenth field.",
         "#[derive(Drop)]",
-        f"struct {name}<'a>(&'a {declared.name});",
+        f"struct {name}{generics.declared(first=(_LIFETIME,))}(&'a {declared.shown});",
         "",
-        f"impl SerializeMembers for {name}<'_> {{",
+        f"impl{generics.declared('Serialize')} SerializeMembers for {name}{generics.arguments(first=(_ANY_LIFETIME,))} {{",
         *ghost_tuple(before, chunks(rest), " };", "it.0.now", last_part(declared, "it.0.now")),
         "",
         f"{STEP}fn serialize_members<W: WriteExt>(&self, sequence: &mut Sequence<'_, W>) -> Result<()> {{",
@@ -254,12 +281,12 @@ def deserialize_impl(declared: StructDeclaration, members: str) -> list[str]:
     """The implementation of `Deserialize`."""
     facts = f"struct_facts ⟦<{members} as DeserializeMembers>⟧.facts refl ⟦<Self as Struct>⟧.parts"
     return [
-        f"impl Deserialize for {declared.name} {{",
+        f"impl{declared.generics.declared('Deserialize')} Deserialize for {declared.shown} {{",
         f"{STEP}ghost shape = {{ sequence_shape ⟦<{members} as DeserializeMembers>⟧.layout }};",
         "",
         f"{STEP}ghost facts = {{ {facts} }};",
         "",
-        *signature(STEP, "deserialize", ["deserializer: &mut Deserializer<R>"], f"Result<{declared.name}>", "<R: ReadExt>"),
+        *signature(STEP, "deserialize", ["deserializer: &mut Deserializer<R>"], f"Result<{declared.shown}>", "<R: ReadExt>"),
         f"{_TWO}deserialize_struct_as(deserializer)",
         f"{STEP}}}",
         "",
@@ -271,7 +298,7 @@ def deserialize_impl(declared: StructDeclaration, members: str) -> list[str]:
 def notated_impl(declared: StructDeclaration, members: str) -> list[str]:
     """The implementation of `Notated`: a SEQUENCE of what the members are."""
     return [
-        f"impl Notated for {declared.name} {{",
+        f"impl{declared.generics.declared('Notated')} Notated for {declared.shown} {{",
         f"{STEP}ghost notation = {{ Notation.sequence ⟦<{members} as NotatedMembers>⟧.members_notation }};",
         "",
         f"{STEP}ghost denoted = {{ refl }};",
@@ -282,7 +309,7 @@ def notated_impl(declared: StructDeclaration, members: str) -> list[str]:
 def exact_impl(declared: StructDeclaration, members: str) -> list[str]:
     """The implementation of `Exact`: its members are exact, and each value of the tuples is that of a struct."""
     return [
-        f"impl Exact for {declared.name} {{",
+        f"impl{declared.generics.declared('Exact')} Exact for {declared.shown} {{",
         f"{STEP}ghost values = {{ struct_values ⟦<{members} as ExactMembers>⟧.all_values ⟦<{members} as NotatedMembers>⟧.members_notation",
         f"{_TWO}⟦<{members} as SerializeMembers>⟧.members ⟦<Self as Struct>⟧.parts",
         *whole(declared),
@@ -296,9 +323,11 @@ def whole(declared: StructDeclaration) -> list[str]:
     """The term of the struct that has these members, on one line if that fits."""
     items = [f"{it.name} = {member_value(it, path)}" for it, path in zip(declared.fields, member_paths(declared))]
     items += [f"{declared.later.name} = {after_last(declared)}"] if declared.later else []
-    before, after = f"{_TWO}(λ m. (record {{", "}, refl {a = m})) };"
-    line = f"{before} {'; '.join(items)} {after}"
-    return [line] if len(line) <= GHOST_WIDTH else [before, *(f"{_TWO}  {it};" for it in items), f"{_TWO}{after}"]
+    line = f"{_TWO}(λ m. (record {{ {'; '.join(items)} }}, refl {{a = m}})) }};"
+    if len(line) <= GHOST_WIDTH:
+        return [line]
+    record = [f"{_TWO}  record {{", *(f"{_TWO}    {it};" for it in items), f"{_TWO}  }},"]
+    return [f"{_TWO}(λ m. (", *record, f"{_TWO}  refl {{a = m}},", f"{_TWO})) }};"]
 
 
 def member_paths(declared: StructDeclaration) -> list[str]:
@@ -314,22 +343,24 @@ def after_last(declared: StructDeclaration) -> str:
 
 def member_value(it: Field, path: str) -> str:
     """The field of a member that is there in the tuples."""
+    if it.is_element:
+        return f"{path}.0"
     return f"{path}.{PART_NAMES[it.presence]}" if it.presence in PART_NAMES else path
 
 
 def begins_impl(declared: StructDeclaration) -> list[str]:
     """What a struct needs to be a member that may be absent, an alternative, or under another tag."""
     lines = [
-        f"impl Begins for {declared.name} {{",
+        f"impl{declared.generics.declared('Deserialize')} Begins for {declared.shown} {{",
         f"{STEP}fn begins_with(tag: Tag) -> bool {{",
         f"{_TWO}tag == Tag::SEQUENCE",
         f"{STEP}}}",
         "}",
         "",
-        f"impl List for {declared.name} {{",
+        f"impl{declared.generics.declared('Serialize')} List for {declared.shown} {{",
         f"{STEP}ghost is_list = {{ λ it. tt }};",
         "}",
     ]
     if declared.is_set:
-        lines += ["", f"impl TagOrdered for {declared.name} {{", f"{STEP}ghost ordered = {{ refl }};", "}"]
+        lines += ["", f"impl{declared.generics.declared('Deserialize')} TagOrdered for {declared.shown} {{", f"{STEP}ghost ordered = {{ refl }};", "}"]
     return lines

@@ -14,6 +14,8 @@ LAST_NAMED_LIST = 7
 U64_MAX = 2**64 - 1
 DEFAULT_UNSIGNED = range(0, 256)
 DEFAULT_SIGNED = range(-128, 128)
+# how many members a struct may have
+MOST_MEMBERS = 32
 # how many alternatives `Choice4` has
 FOUR = 4
 # numbers whose content is one byte (X.690, 8.3 and 8.4), and that are that byte

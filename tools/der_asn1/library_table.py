@@ -2,13 +2,12 @@
 
 The types of one primitive kind, those whose content passes a test, and the strings are the rows of crates/der_types/types.toml.
 """
-import pathlib
 import re
-import tomllib
 from collections.abc import Iterator
 from dataclasses import dataclass
 from typing import Any, Optional, Union
 
+from .built_in import ROWS
 from .features import Feature, Note
 from .library import Core
 
@@ -20,9 +19,8 @@ class LibraryType:
     """A type that has a name in X.680, with the identifier byte of its encoding (X.680, 8.6; X.690, 8.1.2), and what the library has for it.
 
     `rust` is its type in Rust, and `home` the module that it is imported from: none for a type of the language. `term` is its term, which
-    der_types has in ContentForms if `is_checked`, and else in Notation. A type without `rust` is kept as bytes. `clause` is that of its
-    notation if this is its name alone. `lacks` is what is missing for it, or should be known of it. `is_sized` says that a size may be
-    around it.
+    der_types has in ContentForms if `is_checked`, and else in Notation. A type without `rust` is kept as bytes. `lacks` is what is missing for
+    it, or should be known of it. `is_sized` says that a size may be around it.
     """
 
     name: str
@@ -32,47 +30,37 @@ class LibraryType:
     home: str = _TYPES
     term: str = ""
     is_checked: bool = False
-    clause: str = ""
     lacks: Optional[Union[Feature, Note]] = None
     is_sized: bool = True
-
-
-_TABLE = pathlib.Path(__file__).resolve().parents[2] / "crates/der_types/types.toml"
-_STRINGS = "X.680, 41.1"
-# types whose notation may go on after the name, with a list
-_LISTED = frozenset(("INTEGER", "BIT STRING", "ENUMERATED"))
 
 
 def types_of_rows(table: dict[str, list[dict[str, Any]]]) -> Iterator[LibraryType]:
     """The types of the table of der_types that a name alone is."""
     for row in table["kind"]:
-        if "asn1" not in row:
-            continue
-        clause = f"X.680, {row['clause']}.1"
-        yield LibraryType(row["asn1"], row["tag"], row["name"], Core[row["core"]], row.get("home", ""), row["term"], clause=clause)
+        if "asn1" in row:
+            yield LibraryType(row["asn1"], row["tag"], row["name"], Core[row["core"]], row.get("home", ""), row["term"])
     for row in table["content"]:
         if not row.get("named"):
             core = Core.NUMBER if row["asn1"] == "INTEGER" else Core.CONTENTS
-            clause = "" if row["asn1"] in _LISTED else f"X.680, {row['clause']}.1"
-            yield LibraryType(row["asn1"], row["tag"], row["name"], core, _TYPES, row["term"], True, clause, None, row.get("sized", True))
+            yield LibraryType(row["asn1"], row["tag"], row["name"], core, _TYPES, row["term"], True, None, row.get("sized", True))
     for row in table["characters"]:
         lacks = Note.CHARACTERS if row["kind"] == "bytes" else None
         for name in row["asn1"]:
-            yield LibraryType(name, row["tag"], row["string"], term=name, is_checked=True, clause=_STRINGS, lacks=lacks)
+            yield LibraryType(name, row["tag"], row["string"], term=name, is_checked=True, lacks=lacks)
 
 
-_ROWS = tuple(types_of_rows(tomllib.loads(_TABLE.read_text(encoding="utf-8"))))
+_ROWS = tuple(types_of_rows(ROWS))
 # what the library has no type for, as long as it has no row
 _OTHERS = (
-    LibraryType("ObjectDescriptor", 0x07, clause="X.680, 48.1", lacks=Note.ALPHABET),
-    LibraryType("EXTERNAL", 0x28, clause="X.680, 37.1"),
-    LibraryType("REAL", 0x09, clause="X.680, 21.1", lacks=Feature.RARE),
-    LibraryType("EMBEDDED PDV", 0x2B, clause="X.680, 36.1", lacks=Feature.RARE),
+    LibraryType("ObjectDescriptor", 0x07, lacks=Note.ALPHABET),
+    LibraryType("EXTERNAL", 0x28),
+    LibraryType("REAL", 0x09, lacks=Feature.RARE),
+    LibraryType("EMBEDDED PDV", 0x2B, lacks=Feature.RARE),
     LibraryType("SEQUENCE", 0x30),
     LibraryType("SET", 0x31),
-    LibraryType("VideotexString", 0x15, clause=_STRINGS, lacks=Note.ALPHABET),
-    LibraryType("GraphicString", 0x19, clause=_STRINGS, lacks=Note.ALPHABET),
-    LibraryType("CHARACTER STRING", 0x3D, clause="X.680, 44.1", lacks=Feature.RARE),
+    LibraryType("VideotexString", 0x15, lacks=Note.ALPHABET),
+    LibraryType("GraphicString", 0x19, lacks=Note.ALPHABET),
+    LibraryType("CHARACTER STRING", 0x3D, lacks=Feature.RARE),
 )
 TYPES = (*_ROWS, *(it for it in _OTHERS if it.name not in {row.name for row in _ROWS}))
 BY_NAME = {it.name: it for it in TYPES}

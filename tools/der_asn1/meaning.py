@@ -2,6 +2,7 @@
 from dataclasses import dataclass, replace
 from typing import Optional
 
+from .causes import Cause, Where
 from .features import Feature, Level, Note
 from .library import Rust
 from .terms import Term, wider
@@ -11,7 +12,8 @@ from .terms import Term, wider
 class Meaning:
     """A type of the notation as a type of the library: how well it is expressed, and what is missing for it.
 
-    `is_other` says that its values aren't those of the notation, not counting those of its parts.
+    `is_other` says that its values aren't those of the notation, not counting those of its parts. `causes` are the features and the types of
+    its own, each with the member that lacks it, and `loose` those that have no member yet.
     """
 
     rust: Optional[Rust]
@@ -19,16 +21,28 @@ class Meaning:
     features: frozenset = frozenset()
     notes: frozenset = frozenset()
     is_other: bool = False
+    causes: frozenset[Cause] = frozenset()
+    loose: frozenset = frozenset()
+
+    @property
+    def missing(self) -> frozenset:
+        """What the library lacks for it, and what it needs of its own."""
+        return self.features.union(it for it in self.notes if it.is_own)
 
     def lacking(self, *features: Feature) -> "Meaning":
         """The same with features that the library lacks."""
-        level = max([self.level, *(it.level for it in features)])
-        return replace(self, level=level, features=self.features | set(features), is_other=self.is_other or bool(features))
+        level, loose = max([self.level, *(it.level for it in features)]), self.loose | set(features)
+        return replace(self, level=level, features=self.features | set(features), is_other=self.is_other or bool(features), loose=loose)
 
     def noting(self, *notes: Note) -> "Meaning":
         """The same with notes."""
-        is_other = self.is_other or any(it.is_own for it in notes)
-        return replace(self, notes=self.notes | set(notes), is_other=is_other)
+        own = {it for it in notes if it.is_own}
+        level = max([self.level, *(it.level for it in notes)])
+        return replace(self, level=level, notes=self.notes | set(notes), is_other=self.is_other or bool(own), loose=self.loose | own)
+
+    def placed(self, where: Where) -> "Meaning":
+        """The same with this member as that which lacks what no other one does."""
+        return replace(self, causes=self.causes | {Cause(where, it) for it in self.loose}, loose=frozenset()) if self.loose else self
 
     def as_(self, rust: Optional[Rust]) -> "Meaning":
         """The same for a type around it."""
@@ -38,7 +52,8 @@ class Meaning:
         """The same with what is missing in its parts. What is raw there is a raw part here."""
         level = max([self.level, *(Level.PARTLY_RAW if it.level is Level.RAW else it.level for it in parts)])
         features = self.features.union(*(it.features for it in parts))
-        return Meaning(self.rust, level, features, self.notes.union(*(it.notes for it in parts)), self.is_other)
+        found = replace(self, level=level, features=features, notes=self.notes.union(*(it.notes for it in parts)))
+        return replace(found, causes=self.causes.union(*(it.causes for it in parts)), loose=self.loose.union(*(it.loose for it in parts)))
 
     def called(self, term: Optional[Term]) -> "Meaning":
         """The same with this term."""
@@ -53,4 +68,4 @@ class Meaning:
 
 def lacks(meaning: Meaning) -> list[str]:
     """What is missing for a type, and what it needs of its own, as text."""
-    return sorted([*(it.text for it in meaning.features), *(it.value for it in meaning.notes if it.is_own)])
+    return sorted(it.text for it in meaning.missing)

@@ -3,16 +3,17 @@ from dataclasses import dataclass, replace
 from typing import TYPE_CHECKING, Iterable, Optional, Union
 
 from . import tree
+from .causes import Where
 from .declarations import ChoiceDeclaration, Declaration, EnumDeclaration, Field, Hint, Item, StructDeclaration
 from .features import Feature, Level, Note
 from .intervals import Intervals
-from .library import ANY_FIRST, DEFAULT_SIGNED, DEFAULT_UNSIGNED, ONE_BYTE, U64_MAX, Core, Rust, any_element, parts_type, tagged_bytes
+from .library import ANY_FIRST, DEFAULT_SIGNED, DEFAULT_UNSIGNED, MOST_MEMBERS, ONE_BYTE, U64_MAX, Core, Rust, any_element, parts_type, tagged_bytes
 from .library_table import UNIVERSAL_TAGS
 from .members import ResolvedMember, is_extensible, members_of
 from .meaning import Meaning, lacks
 from .rust_types import UNIT, RustType, of
-from .scopes import Program, Scope
-from .source import NotationError
+from .scopes import Program, Scope, resolve
+from .source import NotationError, NotGiven
 from .terms import Item as TermItem, Term, number_list
 from .values import enumerated_numbers, integer_of, named_numbers, value_of
 from .wording import snake, variant
@@ -22,6 +23,7 @@ if TYPE_CHECKING:
 
 
 # the words of a term after the last member of an extensible type
+_OF_CHOICE = "X.680, 29.3"
 LATER, NO_LATER = "later-members", "later-members-refused"
 
 
@@ -51,7 +53,7 @@ def parts_of(meanings: "Meanings", type_: tree.Type, scope: Scope, hint: Hint) -
     """The members or alternatives with their meanings."""
     found = []
     for it in members_of(meanings.program, type_, scope):
-        meaning = meanings.of_type(it.member.type, it.scope, hint.part(it.member.name))
+        meaning = meanings.of_type(it.member.type, it.scope, hint.part(it.member.name, it.member.place))
         found.append(Part(it, meaning))
     return found
 
@@ -61,6 +63,8 @@ def structure(meanings: "Meanings", type_: tree.StructureType, scope: Scope, hin
     first = UNIVERSAL_TAGS[type_.form.value]
     try:
         parts = parts_of(meanings, type_, scope, hint)
+    except NotGiven:
+        return _raw(tagged_bytes(first), included(meanings, type_, scope, hint))
     except NotationError as error:
         meanings.program.problems.add(error.problem)
         return Meaning(tagged_bytes(first), Level.RAW).lacking(Feature.UNDEFINED)
@@ -70,23 +74,45 @@ def structure(meanings: "Meanings", type_: tree.StructureType, scope: Scope, hin
         return _raw(tagged_bytes(first), parts)
     written = parts
     if type_.form is tree.Form.SET:
+        twice = same_tag(meanings, parts, "X.680, 27.3")
+        if twice:
+            return _raw(tagged_bytes(first), parts, *ambiguity(parts)).placed(of_part(hint, twice))
         parts = in_tag_order(parts)
         if parts is None:
             return Meaning(tagged_bytes(first)).lacking(Feature.SET_ORDER)
-    if not are_distinct(meanings, parts, type_.form):
-        return _raw(tagged_bytes(first), parts, *ambiguity(parts))
+    clash = first_clash(meanings, parts, type_.form)
+    if clash:
+        return _raw(tagged_bytes(first), parts, *ambiguity(parts)).placed(of_part(hint, clash))
     found = declared_struct(meanings, type_, scope, hint, parts)
     end = last_word(type_, scope, parts)
     return found.called(structure_term(meanings, type_, written, end, (found.rust.inner or found.rust).text))
 
 
+def included(meanings: "Meanings", type_: tree.StructureType, scope: Scope, hint: Hint) -> list[Part]:
+    """The types after COMPONENTS OF, which say what isn't given."""
+    found = []
+    for it in type_.members:
+        if isinstance(it, tree.ComponentsOf):
+            member = ResolvedMember(tree.Member(it.place, "", it.type), scope)
+            found.append(Part(member, meanings.of_type(it.type, scope, hint.part("components", it.place))))
+    return found
+
+
+def of_part(hint: Hint, part: Part) -> Where:
+    """Where a member or an alternative is."""
+    place = part.resolved.member.place
+    return hint.part(part.name, place).where or Where(place)
+
+
 def declared_struct(meanings: "Meanings", type_: tree.StructureType, scope: Scope, hint: Hint, parts: list[Part]) -> Meaning:
     """The struct of these members, which is declared. A SET has the type of the library around it."""
     found = Meaning(None).containing(*(it.meaning for it in parts))
+    if len(parts) > MOST_MEMBERS:
+        return _raw(tagged_bytes(UNIVERSAL_TAGS[type_.form.value]), parts, Feature.MANY_MEMBERS)
     fields = []
     for it in parts:
         default = default_of(meanings, it)
-        found = found.lacking(*default.features).noting(*default.notes)
+        found = found.lacking(*default.features).noting(*default.notes).placed(of_part(hint, it))
         fields.append(field_of(it, default))
     end = last_word(type_, scope, parts)
     later = later_field(parts, fields) if end == LATER else None
@@ -209,29 +235,55 @@ def empty(type_: tree.StructureType, scope: Scope, first: int) -> Meaning:
 
 def _raw(rust: Rust, parts: list[Part], *features: Feature) -> Meaning:
     """A type that is kept as bytes for what is missing in its parts."""
-    found = Meaning(rust, Level.RAW).lacking(*features)
-    return replace(found, features=found.features.union(*(it.meaning.features for it in parts)))
+    found, meanings = Meaning(rust, Level.RAW).lacking(*features), [it.meaning for it in parts]
+    return replace(found, features=found.features.union(*(it.features for it in meanings)), causes=frozenset().union(*(it.causes for it in meanings)))
 
 
 # ---- what distinguishes members
 
 
-def are_distinct(meanings: "Meanings", parts: list[Part], form: tree.Form) -> bool:
-    """Whether the next byte says which member comes (X.680, 25.6 and 27.3)."""
+def first_clash(meanings: "Meanings", parts: list[Part], form: tree.Form) -> Optional[Part]:
+    """The first member of which the next byte doesn't say whether it comes (X.680, 25.6 and 27.3), or None. An error says so if its tag is known."""
     for index, it in enumerate(parts):
         if not it.resolved.may_be_absent():
             continue
         for later in parts[index + 1 :]:
             if it.firsts & later.firsts:
-                if it.is_unknown() or later.is_unknown():
-                    return False
-                clause = "X.680, 25.6" if form is tree.Form.SEQUENCE else "X.680, 27.3"
-                text = f"`{it.name}` may be absent, and `{later.name}`, which may come in its place, can begin with the same tag"
-                meanings.program.problems.warn(it.resolved.member.place, text, clause)
-                return False
+                if not (it.is_unknown() or later.is_unknown()):
+                    clause = "X.680, 25.6" if form is tree.Form.SEQUENCE else "X.680, 27.3"
+                    text = f"`{it.name}` may be absent, and `{later.name}`, which may come in its place, can begin with the same tag"
+                    meanings.program.problems.error(it.resolved.member.place, text, clause)
+                return it
             if not later.resolved.may_be_absent():
                 break
-    return True
+    return None
+
+
+def same_tag(meanings: "Meanings", parts: list[Part], clause: str) -> Optional[Part]:
+    """The first part that can begin as one before it (X.680, 27.3 and 29.3), or None. An error says so if the types of all are known."""
+    before = frozenset()
+    for it in parts:
+        if before & it.firsts:
+            if not any(part.is_unknown() for part in parts):
+                what = "an alternative" if clause == _OF_CHOICE else "a member"
+                text = f"`{it.name}` can begin with the same tag as {what} before it"
+                meanings.program.problems.error(it.resolved.member.place, text, clause)
+            return it
+        before |= it.firsts
+    say_if_open(meanings, parts)
+    return None
+
+
+def say_if_open(meanings: "Meanings", parts: list[Part]) -> None:
+    """Says if two of these are extensible choices without a tag, whose later alternatives could begin with the same one (X.680, 52.7)."""
+    found = []
+    for it in parts:
+        base = resolve(meanings.program, it.resolved.member.type, it.resolved.scope)
+        if isinstance(base.type, tree.ChoiceType) and not it.resolved.member.type.tags and not base.type.tags and is_extensible(base.type, base.scope):
+            found.append(it)
+    if len(found) > 1:
+        text = f"a later alternative of `{found[1].name}` can begin with the same tag as one of `{found[0].name}`"
+        meanings.program.problems.error(found[1].resolved.member.place, text, "X.680, 52.7")
 
 
 def ambiguity(parts: list[Part]) -> tuple[Feature, ...]:
@@ -350,8 +402,6 @@ def enumeration(meanings: "Meanings", type_: tree.EnumeratedType, scope: Scope, 
     """An enum of the crate's own. One with a number of more than a byte is any number, which the library has a type for."""
     numbers = enumerated_numbers(meanings.program, type_.items, scope)
     first = frozenset((UNIVERSAL_TAGS["ENUMERATED"],))
-    if len(set(numbers)) < len(numbers):
-        meanings.program.problems.error(type_.place, "two items of the enumeration have the same number", "X.680, 20.3")
     if not all(it in ONE_BYTE for it in numbers) or len(set(numbers)) < len(numbers):
         rust = Rust(of("Enumerated"), Core.CONTENTS, first, own=True, term=Term("ENUMERATED-extensible"))
         return Meaning(rust).noting(Note.WIDE_ENUMERATION)
@@ -398,14 +448,9 @@ def choice(meanings: "Meanings", type_: tree.ChoiceType, scope: Scope, hint: Hin
         return Meaning(any_element()).lacking(Feature.EXTENSION if is_extensible(type_, scope) else Feature.NO_VALUES)
     if any(it.meaning.rust is None for it in parts):
         return _raw(any_element(), parts)
-    firsts = frozenset()
-    for it in parts:
-        if firsts & it.firsts and not any(part.is_unknown() for part in parts):
-            text = f"`{it.name}` can begin with the same tag as an alternative before it"
-            meanings.program.problems.warn(it.resolved.member.place, text, "X.680, 29.3")
-        if firsts & it.firsts:
-            return _raw(any_element(), parts, *ambiguity(parts))
-        firsts |= it.firsts
+    twice = same_tag(meanings, parts, _OF_CHOICE)
+    if twice:
+        return _raw(any_element(), parts, *ambiguity(parts)).placed(of_part(hint, twice))
     return declared_choice(meanings, type_, scope, hint, parts)
 
 

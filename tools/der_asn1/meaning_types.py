@@ -3,7 +3,9 @@ from dataclasses import replace
 from typing import Iterable, Optional
 
 from . import tree
-from .declarations import AliasDeclaration, Declarations, Hint, NewtypeDeclaration
+from .causes import Cause, Where, counts
+from .checks import Checks
+from .declarations import AliasDeclaration, Declaration, Declarations, Hint, NewtypeDeclaration
 from .features import Feature, Level, Note
 from .library import Core, Rust, any_element, tagged_bytes
 from .library_table import BY_NAME, UNIVERSAL_TAGS, LibraryType
@@ -36,6 +38,8 @@ External ::= [UNIVERSAL 8] IMPLICIT SEQUENCE {
 Instance-Of ::= [UNIVERSAL 8] IMPLICIT SEQUENCE { type-id OBJECT IDENTIFIER, value [0] EXPLICIT ANY }
 END
 """
+# types of 2008 that the library has none for
+_TIMES = frozenset("TIME DATE TIME-OF-DAY DATE-TIME DURATION OID-IRI RELATIVE-OID-IRI".split())
 _DER = [2, 1, 2, 1]  # the object identifier of DER (X.690, 12.2)
 ASSOCIATED = Program(read_text(_ASSOCIATED_TYPES, "associated types", Problems()), Problems())
 
@@ -54,7 +58,9 @@ def instance_name(found: Found) -> str:
 
 def hint_of(found: Found, key: tuple) -> Hint:
     """What the type of an assignment is called after."""
-    return Hint(instance_name(found), key, " ".join(found.assignment.comment), found.assignment.name)
+    name = found.assignment.name
+    where = Where(found.assignment.place, found.scope.module.name, name)
+    return Hint(instance_name(found), key, " ".join(found.assignment.comment), name, where)
 
 
 def type_name(type_: tree.Type) -> str:
@@ -89,6 +95,8 @@ class Meanings:
         self.distinct = frozenset(distinct)  # the names of types that are structs of their own, in place of names of others
         self.declarations = declarations or Declarations()
         self.known, self.busy = {}, []
+        self.checks = Checks(program)
+        self.first_uses: dict[tuple[str, str, str], Where] = {}  # where each name is imported or used first that leads nowhere
 
     # ---- assignments
 
@@ -103,6 +111,7 @@ class Meanings:
             return self.known[key]
         if key in self.busy:
             return self.raw(type_, found.scope, Feature.RECURSION)
+        self.checks.assignment(found)
         self.busy.append(key)
         try:
             meaning = self.of_type(type_, found.scope, hint_of(found, key))
@@ -129,6 +138,19 @@ class Meanings:
             self.program.problems.error(found.assignment.place, text, "docs/ASN1.md")
         self.declarations.add(alias(name, found, type_, meaning, NewtypeDeclaration))
         return meaning.as_(rust if rust.core is Core.CONTAINER else replace(rust, core=Core.OWN))
+
+    def causes(self, written: Iterable[Declaration]) -> dict[Cause, int]:
+        """Why these types aren't those of the notation, with how many types contain each cause. What another crate declares is left out."""
+        own = {(it.module, it.root) for it in written}
+        others = {(it.module, it.root) for it in map(self.declarations.by_name.get, self.declarations.elsewhere) if it} - own
+        nowhere, roots = set(self.first_uses.values()), {name for _, name in own}
+        found = counts(it.causes for it in self.known.values())
+
+        def is_own(where: Where) -> bool:
+            pair = (where.module, where.owner)
+            return where in nowhere or pair in own or where.owner in roots and pair not in others
+
+        return {it: number for it, number in found.items() if is_own(it.where)}
 
     def raw(self, type_: tree.Type, scope: Scope, *features: Feature) -> Meaning:
         """A type that is kept as bytes: under its tag, if it has only one."""
@@ -158,7 +180,7 @@ class Meanings:
                 return self.unknown(Feature.UNDEFINED)
             meaning = self.under(meaning, tag, number, effective_mode(self.program, tag, inner, scope), scope)
             inner = None
-        return meaning
+        return meaning.placed(hint.where or Where(type_.place))
 
     def under(self, inner: Meaning, tag: tree.Tag, number: int, mode: tree.TagMode, scope: Scope) -> Meaning:
         """The meaning of a type under a tag, with its term."""
@@ -238,7 +260,7 @@ class Meanings:
             return Meaning(tagged_bytes(*firsts)).lacking(Feature.ENCODING)
         inner = self.of_type(contents.constraint.type, contents.scope, hint.part("content"))
         if inner.rust is None:
-            return self.unknown(Feature.UNDEFINED).containing(inner)
+            return Meaning(tagged_bytes(*firsts), Level.RAW).containing(replace(inner, level=Level.RAW))
         form = "OCTET-STRING" if name.startswith("Octet") else "BIT-STRING"
         term = Term(f"{form}-CONTAINING", inner.rust.term)
         return Meaning(Rust(of(name, inner.rust.type), Core.CONTAINER, firsts, inner.rust, term=term)).containing(inner)
@@ -250,20 +272,20 @@ class Meanings:
         if isinstance(found, Binding):
             return self.of_binding(found, hint, constraints)
         if found is None:
-            return self.not_found(type_, scope)
+            return self.not_found(type_, scope, hint)
         if class_named(self.program, type_.name, scope):
             return self.any_type()
         target = target_of(self.program, type_, scope)
         if target is None or isinstance(found.assignment, tree.UnreadAssignment):
-            return self.unknown(Feature.UNDEFINED)
+            return self.unknown(self.why_no_type(found, type_))
         if isinstance(found.assignment, tree.SetAssignment):
             return self.of_type(target.type, target.scope, hint, constraints).noting(Note.CONSTRAINT)
         named = Found(found.assignment, target.scope)
         if not constraints:
             return self.of_found(named, target.type)
-        return self.constrained_reference(named, target, constraints)
+        return self.constrained_reference(named, target, constraints, hint.where)
 
-    def constrained_reference(self, found: Found, target: Resolved, constraints: tuple[ScopedConstraint, ...]) -> Meaning:
+    def constrained_reference(self, found: Found, target: Resolved, constraints: tuple[ScopedConstraint, ...], where: Optional[Where]) -> Meaning:
         """A name with constraints after it: what the name stands for, with them."""
         base = resolve(self.program, target.type, target.scope)
         if isinstance(base.type, (tree.StructureType, tree.ChoiceType)):
@@ -271,9 +293,11 @@ class Meanings:
         key = (*target.scope.key, found.assignment.name)
         if key in self.busy:
             return self.raw(target.type, target.scope, Feature.RECURSION)
+        self.checks.assignment(found)
         self.busy.append(key)
         try:
-            return self.of_type(target.type, target.scope, Hint(found.assignment.name, root=found.assignment.name), constraints)
+            hint = Hint(found.assignment.name, root=found.assignment.name, where=where)
+            return self.of_type(target.type, target.scope, hint, constraints)
         finally:
             self.busy.pop()
 
@@ -283,15 +307,34 @@ class Meanings:
             return self.any_type()
         return self.of_type(found.argument.type, found.scope, hint, constraints)
 
-    def not_found(self, type_: tree.ReferenceType, scope: Scope) -> Meaning:
-        """A name that isn't defined here: an open type of other compilers, or one of a module that isn't given."""
+    def why_no_type(self, found: Found, type_: tree.ReferenceType) -> Feature:
+        """What is missing where a name stands for something that isn't a type."""
+        kinds = {tree.UnreadAssignment: Feature.UNREAD, tree.MacroAssignment: Feature.MACRO}
+        if type(found.assignment) not in (*kinds, tree.TypeAssignment, tree.SetAssignment):
+            self.program.problems.error(type_.place, f"`{type_.name}` isn't a type", "X.680, 14.1")
+        return kinds.get(type(found.assignment), Feature.UNDEFINED)
+
+    def not_found(self, type_: tree.ReferenceType, scope: Scope, hint: Hint) -> Meaning:
+        """A name that isn't defined here: an open type of other compilers, a type of 2008, or one of a module that isn't given."""
         if type_.name in BUILT_IN_ANY or type_.name in BUILT_IN_CLASSES:
             return self.any_type()
-        source = type_.module or self.program.source_of(type_.name, scope.module)
-        if source and self.program.module_named(source, scope.module) is None:
-            return self.unknown(Feature.IMPORT)
-        self.program.problems.error(type_.place, f"`{type_.name}` isn't defined", "X.680, 14.1")
-        return self.unknown(Feature.UNDEFINED)
+        if type_.name in _TIMES:
+            return Meaning(any_element(), Level.RAW).lacking(Feature.TIME)
+        if self.program.is_elsewhere(type_.name, type_.module, scope.module):
+            return self.unknown(Feature.IMPORT).placed(self.first_use(type_, scope, hint))
+        where = self.first_use(type_, scope, hint)
+        source = next((it for it in scope.module.imports if it.name == type_.name), None)
+        if source:
+            self.program.problems.error(where.place, self.program.why_not_imported(source, scope.module), "X.680, 13.16")
+        else:
+            self.program.problems.error(where.place, f"`{type_.name}` isn't defined", "X.680, 14.1")
+        return self.unknown(Feature.UNDEFINED).placed(where)
+
+    def first_use(self, type_: tree.ReferenceType, scope: Scope, hint: Hint) -> Where:
+        """Where a name that leads nowhere is imported, or else used first. All its uses have one cause."""
+        source = next((it.place for it in scope.module.imports if it.name == type_.name), None)
+        where = Where(source or type_.place, scope.module.name, type_.name)
+        return self.first_uses.setdefault((scope.module.path, scope.module.name, type_.name), where)
 
     def of_selectiontype(self, type_: tree.SelectionType, scope: Scope, hint: Hint, constraints: tuple[ScopedConstraint, ...]) -> Meaning:
         """The type of an alternative (X.680, 30)."""

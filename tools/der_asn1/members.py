@@ -4,7 +4,7 @@ from typing import Optional
 
 from . import tree
 from .scopes import Program, Scope, resolve
-from .source import NotationError
+from .source import NotationError, NotGiven
 
 _DEPTH = 20
 
@@ -47,8 +47,10 @@ def members_of(program: Program, type_: tree.Type, scope: Scope, depth: int = 0)
 def _components(program: Program, included: tree.ComponentsOf, type_: tree.Type, scope: Scope, depth: int) -> list[ResolvedMember]:
     """The members of the root of another type (X.680, 25.5), without its extension additions."""
     found = resolve(program, included.type, scope)
+    if found.type is None:
+        raise NotGiven(included.place, "COMPONENTS OF a type that isn't given", "X.680, 25.5")
     if not isinstance(found.type, tree.StructureType) or depth > _DEPTH:
-        raise NotationError(included.place, "COMPONENTS OF a type that isn't a SEQUENCE or SET that is given", "X.680, 25.5")
+        raise NotationError(included.place, "COMPONENTS OF a type that isn't a SEQUENCE or SET", "X.680, 25.5")
     if found.type.form is not type_.form:
         raise NotationError(included.place, f"COMPONENTS OF a {found.type.form.value} in a {type_.form.value}", "X.680, 25.5")
     inner = members_of(program, found.type, found.scope, depth + 1)

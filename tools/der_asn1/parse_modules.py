@@ -40,7 +40,7 @@ class ModuleParser(ClassParser):
             self.expect_kind(Kind.UPPER, "the name of a module", "X.680, 13.1")
         found = tree.Module(name.place, name.text)
         if self.at("{"):
-            self.braced("X.680, 13.1")
+            found.identifier = self.braced("X.680, 13.1")
         if self.now.kind is Kind.TEXT:
             self.take()
         self.expect("DEFINITIONS", "X.680, 13.1")
@@ -86,8 +86,8 @@ class ModuleParser(ClassParser):
                 names.append(self.symbol(start))
             self.expect("FROM", "X.680, 13.16")
             source = self.expect_kind(self.now.kind if self.now.kind is Kind.LOWER else Kind.UPPER, "the name of a module", "X.680, 13.16")
-            self.assigned_identifier()
-            module.imports.extend(tree.Import(it.place, it.text, source.text) for it in names)
+            identifier = self.assigned_identifier()
+            module.imports.extend(tree.Import(it.place, it.text, source.text, identifier) for it in names)
 
     def symbol(self, start: Token) -> Token:
         """A name that is imported. It may be that of a macro or a class whose name is reserved today."""
@@ -100,14 +100,16 @@ class ModuleParser(ClassParser):
             self.braced()
         return token
 
-    def assigned_identifier(self) -> None:
-        """The object identifier of the module that is imported from (X.680, 13.16)."""
+    def assigned_identifier(self) -> list[Token]:
+        """The object identifier of the module that is imported from (X.680, 13.16): what is in its braces, or the name of one."""
+        found = []
         if self.at("{"):
-            self.braced("X.680, 13.16")
+            found = self.braced("X.680, 13.16")
         elif self.now.kind is Kind.LOWER and not self.ahead().is_symbol(",", "FROM", "{"):
-            self.take()
+            found = [self.take()]
         if self.accept("WITH"):
             self.take()
+        return found
 
     # ---- assignments
 

@@ -2,15 +2,15 @@
 from typing import Optional, Union
 
 from . import tree
+from .built_in import CLAUSES
 from .cursor import split
-from .library_table import TYPES
 from .parse_constraints import ConstraintParser
 from .source import NotationError, Place
 from .tokens import Kind, Token
 
 # types whose notation is their name alone: those of one word, and the second word and the clause of each other by the first
-SIMPLE = frozenset(it.name for it in TYPES if it.clause and " " not in it.name)
-_TWO_WORDS = {it.name.split()[0]: (it.name.split()[1], it.clause) for it in TYPES if it.clause and " " in it.name}
+SIMPLE = frozenset(it for it in CLAUSES if " " not in it)
+_TWO_WORDS = {it.split()[0]: (it.split()[1], clause) for it, clause in CLAUSES.items() if " " in it}
 
 _CHOICE = "X.680, 29.1"
 
@@ -154,15 +154,22 @@ class TypeParser(ConstraintParser):
                 if self.accept("}"):
                     break
             first = False
-            if self.accept("..."):
-                found.extensible = True
-                if self.accept("!"):
-                    self.exception()
+            if self.at("..."):
+                self.enumeration_marker(found)
                 continue
             (found.additions if found.extensible else found.items).append(self.enumeration_item())
         if not found.items:
             raise NotationError(place, "an enumeration has an item at least", "X.680, 20.1")
         return found
+
+    def enumeration_marker(self, found: tree.EnumeratedType) -> None:
+        """The extension marker of an enumeration, which has one at most (X.680, 20.1)."""
+        if found.extensible:
+            raise NotationError(self.now.place, "an enumeration has one extension marker at most", "X.680, 20.1")
+        self.take()
+        found.extensible = True
+        if self.accept("!"):
+            self.exception()
 
     def enumeration_item(self) -> tree.NamedNumber:
         """An item of an enumeration, with or without its number (X.680, 20.1)."""

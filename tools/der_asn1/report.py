@@ -1,16 +1,18 @@
 """The table of how well the types of modules are expressed, and which features are missing."""
 from collections import Counter
 from dataclasses import dataclass, field
-from typing import Iterable
+from typing import Iterable, Union
 
 from . import tree
+from .causes import counted, counts
 from .examples import of_type
 from .features import OUTSIDE, Feature, Level, Note
-from .meaning import Meaning
+from .meaning import Meaning, lacks
 from .meaning_types import Meanings
+from .module_checks import ModuleChecks, identified
 from .objects import class_named
 from .scopes import Program
-from .source import Problems
+from .source import Problems, Severity
 
 
 @dataclass
@@ -30,12 +32,13 @@ class Row:
 
 @dataclass
 class Report:
-    """The types of some modules. `templates` are those with parameters, which count where they are used."""
+    """The types of some modules. `templates` are those with parameters, which count where they are used. `wrong` are the files with errors."""
 
-    rows: list = field(default_factory=list)
-    modules: list = field(default_factory=list)
+    rows: list[Row] = field(default_factory=list)
+    modules: list[tree.Module] = field(default_factory=list)
     templates: int = 0
     values: int = 0
+    wrong: set[str] = field(default_factory=set)
 
     def add(self, other: "Report") -> None:
         """Takes over another report."""
@@ -43,16 +46,25 @@ class Report:
         self.modules += other.modules
         self.templates += other.templates
         self.values += other.values
+        self.wrong |= other.wrong
+
+    def plain_modules(self) -> list[tree.Module]:
+        """The modules that are written without a flag: those without an error, whose types all are."""
+        others = {id(it.module) for it in self.rows if not it.level.is_plain}
+        return [it for it in self.modules if id(it) not in others and it.path not in self.wrong]
 
 
 def report_of(modules: list[tree.Module], problems: Problems, imported: Iterable[tree.Module] = ()) -> Report:
     """The report of modules that see each other, and those that are imported from."""
-    program = Program(modules, problems, imported)
-    meanings = Meanings(program)
+    program = identified(Program(modules, problems, imported))
+    meanings, checks = Meanings(program), ModuleChecks(program)
     found = Report(modules=list(modules))
     for module in modules:
+        checks.module(module)
         for it in program.indexes[id(module)].values():
             _add(found, meanings, module, it)
+    counted(problems, counts(it.causes for it in meanings.known.values()))
+    found.wrong = {it.place.path for it in problems.of(Severity.ERROR)}
     return found
 
 
@@ -101,28 +113,32 @@ def table(report: Report) -> list[str]:
 
 
 def types_table(report: Report) -> list[str]:
-    """A line for each type that isn't exact: where it is, what it is, and what is missing."""
+    """A line for each type: where it is, how well it is expressed and as which type, and what is missing."""
     lines = []
     for it in report.rows:
-        missing = ", ".join(sorted(feature.text for feature in it.meaning.features))
+        missing = ", ".join(lacks(it.meaning))
         rust = it.meaning.rust.text if it.meaning.rust else "no type"
         lines.append(f"{it.module.name}.{it.name}: {it.level.shown}, {rust}" + (f"; {missing}" if missing else ""))
     return lines
 
 
 def summary(report: Report) -> list[str]:
-    """How many types are exact, what they need of their own, and what is missing for the others."""
-    total = len(report.rows)
-    exact = [it for it in report.rows if it.level is Level.EXACT]
-    lines = [f"{share(len(exact), total)} exact"]
-    plain = [it for it in exact if not any(note.is_own for note in it.meaning.notes)]
-    lines.append(f"{share(len(plain), total)} exact by types of the library, structs, choices and enumerations alone")
+    """What is written without a flag, what is exact, and what the exact types leave open."""
+    total, exact = len(report.rows), [it for it in report.rows if it.level is Level.EXACT]
+    plain = [it for it in report.rows if it.level.is_plain]
+    by_hand = [it for it in report.rows if it.level is Level.BY_HAND]
     closed = [it for it in exact if Note.OPEN not in it.meaning.notes]
-    lines.append(f"{share(len(closed), total)} exact without an open type")
+    lines = [
+        f"{share(len(report.plain_modules()), len(report.modules))} modules written without a flag",
+        f"{share(len(plain), total)} types written without a flag",
+        f"{share(len(exact), total)} types exact and written",
+        f"{share(len(closed), total)} types exact and written, without an open type",
+        f"{share(len(by_hand), total)} types exact only with types by hand, in place of which `--allow-wider` writes wider ones",
+    ]
     for note in Note:
-        count = sum(note in it.meaning.notes for it in exact)
+        count = sum(note in it.meaning.notes for it in (by_hand if note.is_own else exact))
         if count:
-            lines.append(f"    {count:5} of the exact ones: {note.value}")
+            lines.append(f"    {count:5} of {'those by hand' if note.is_own else 'the exact ones'}: {note.text}")
     return lines
 
 
@@ -147,12 +163,12 @@ def without_inhabited(report: Report) -> list[str]:
 
 
 def features_table(report: Report) -> list[str]:
-    """How many types each missing feature stops, and how many lack it alone."""
+    """How many types each missing feature or type by hand stops, and how many lack it alone."""
     stops, alone = Counter(), Counter()
     for it in report.rows:
-        stops.update(it.meaning.features)
-        if len(it.meaning.features) == 1:
-            alone.update(it.meaning.features)
+        stops.update(it.meaning.missing)
+        if len(it.meaning.missing) == 1:
+            alone.update(it.meaning.missing)
     lines = [f"{'stops':>6} {'alone':>6}  missing feature"]
     ordered = sorted(stops, key=lambda it: (-stops[it], it.name))
     return lines + [f"{stops[it]:6} {alone[it]:6}  {it.text}" for it in ordered]
@@ -160,10 +176,10 @@ def features_table(report: Report) -> list[str]:
 
 def greedy(report: Report) -> list[str]:
     """The missing features in the order in which each makes the most further types exact."""
-    missing = [it.meaning.features for it in report.rows]
+    missing = [it.meaning.missing for it in report.rows]
     done, lines = frozenset(), []
     count = sum(not it for it in missing)
-    lines.append(f"{count:6}  exact now")
+    lines.append(f"{count:6}  exact and written now")
     while True:
         left = frozenset().union(*missing) - done - OUTSIDE
         if not left:
@@ -175,11 +191,11 @@ def greedy(report: Report) -> list[str]:
     return lines
 
 
-def _exact_with(missing: list[frozenset[Feature]], done: frozenset[Feature]) -> int:
+def _exact_with(missing: list[frozenset], done: frozenset) -> int:
     return sum(it <= done for it in missing)
 
 
-def _weight(missing: list[frozenset[Feature]], done: frozenset[Feature], feature: Feature) -> float:
+def _weight(missing: list[frozenset], done: frozenset, feature: Union[Feature, Note]) -> float:
     """How near types that lack a feature are to being exact with it."""
     return sum(1 / len(it - done) for it in missing if feature in it)
 

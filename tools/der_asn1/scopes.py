@@ -39,38 +39,46 @@ class Found:
     scope: Scope
 
 
+def _is_same(first: tree.Assignment, other: tree.Assignment) -> bool:
+    """Whether two assignments of types have the same text."""
+    return isinstance(first, tree.TypeAssignment) and isinstance(other, tree.TypeAssignment) and first.type.text == other.type.text
+
+
 class Program:
     """The modules that are given, by their names. The `imported` ones are there for what the others import."""
 
     def __init__(self, modules: list[tree.Module], problems: Problems, imported: Iterable[tree.Module] = ()) -> None:
         self.modules, self.problems = modules, problems
         self.by_name, self.by_stem, self.indexes = {}, {}, {}
+        self.by_import = {}  # modules that are imported from under another name than theirs
+        self.all_modules = [*modules, *imported]
         for module in modules:
             self.add(module, True)
-        for module in imported:
+        for module in self.all_modules[len(modules) :]:
             self.add(module, False)
 
     def add(self, module: tree.Module, is_own: bool) -> None:
         """Makes a module known by its name and that of its file. The first one of a name has it."""
         first = self.by_name.setdefault(module.name.lower(), module)
         if is_own and first is not module:
-            self.problems.deviation(module.place, f"the module `{module.name}` is in {first.path}, too, which is used", "X.680, 13.1")
+            said = self.problems.error if first.path == module.path else self.problems.deviation
+            said(module.place, f"the module `{module.name}` is in {first.path}, too, which is used", "X.680, 13.1")
         self.by_stem.setdefault(os.path.splitext(os.path.basename(module.path))[0].lower(), module)
         self.indexes[id(module)] = self.index(module)
 
     def index(self, module: tree.Module) -> dict[str, tree.Assignment]:
-        """The assignments of a module by their names. A name has one of them (X.680, 13.10)."""
+        """The assignments of a module by their names. A name has one of them (X.680, 13.10), or the same one twice, which is plain."""
         found = {}
         for it in module.assignments:
-            if it.name in found and not isinstance(it, tree.UnreadAssignment):
-                first = found[it.name].place
-                self.problems.deviation(it.place, f"`{it.name}` is assigned at {first.line}:{first.column} too, which is used", "X.680, 13.10")
-            found.setdefault(it.name, it)
+            first = found.setdefault(it.name, it)
+            if first is not it and not isinstance(it, tree.UnreadAssignment):
+                said = self.problems.deviation if _is_same(first, it) else self.problems.error
+                said(it.place, f"`{it.name}` is assigned at {first.place.line}:{first.place.column} too, which is used", "X.680, 13.10")
         return found
 
     def module_named(self, name: str, asking: Optional[tree.Module] = None) -> Optional[tree.Module]:
-        """The module with this name, or else in a file with this name. It isn't the module that asks."""
-        found = self.by_name.get(name.lower()) or self.by_stem.get(name.lower())
+        """The module with this name, or else in a file with this name, or imported under it. It isn't the module that asks."""
+        found = self.by_name.get(name.lower()) or self.by_stem.get(name.lower()) or self.by_import.get(name.lower())
         return None if found is asking else found
 
     def scope_of(self, module: tree.Module) -> Scope:
@@ -80,6 +88,18 @@ class Program:
     def source_of(self, name: str, module: tree.Module) -> Optional[str]:
         """The name of the module that a name is imported from, or None."""
         return next((it.module for it in module.imports if it.name == name), None)
+
+    def why_not_imported(self, name: tree.Import, module: tree.Module) -> str:
+        """Why a module that is given has no name that another module, or itself, imports from it."""
+        home = self.module_named(name.module)
+        if home is module:
+            return f"`{module.name}` imports `{name.name}` from itself"
+        return f"the module `{home.name if home else name.module}` has no `{name.name}`"
+
+    def is_elsewhere(self, name: str, module_name: Optional[str], module: tree.Module) -> bool:
+        """Whether a name would be of a module that isn't given: one that is written before it, or that it is imported from."""
+        source = module_name or self.source_of(name, module)
+        return source is not None and self.module_named(source) is None
 
     def find(
         self,

@@ -43,6 +43,10 @@ class NotationError(Exception):
         self.problem = Problem(place, text, clause)
 
 
+class NotGiven(NotationError):
+    """The notation can't be read on, since a type that it names isn't given."""
+
+
 @dataclass
 class Problems:
     """The errors and warnings of a run. A strict run has errors in place of warnings of deviations."""

@@ -7,7 +7,7 @@ from .library import ANY_FIRST, MAX_TAG
 from .library_table import UNIVERSAL_TAGS
 from .members import members_of, selected
 from .objects import class_named
-from .scopes import Program, Scope, target_of
+from .scopes import Program, Scope, resolve, target_of
 from .source import NotationError
 from .values import integer_of
 
@@ -48,7 +48,8 @@ def effective_mode(program: Program, tag: tree.Tag, inner: Optional[tree.Type], 
     mode = tag.mode or default_mode(scope)
     if mode is tree.TagMode.EXPLICIT or inner is None or not is_untagged(program, inner, scope):
         return mode
-    if tag.mode is tree.TagMode.IMPLICIT and not tag.is_automatic:
+    is_known = scope.binding(getattr(inner, "name", "")) is not None or resolve(program, inner, scope).type is not None
+    if tag.mode is tree.TagMode.IMPLICIT and not tag.is_automatic and is_known:
         program.problems.deviation(tag.place, "IMPLICIT isn't for a CHOICE, an open type or a parameter without a tag", "X.680, 31.2.9")
     return tree.TagMode.EXPLICIT
 

@@ -520,19 +520,21 @@ class UnreadAssignment(Assignment):
 
 @dataclass
 class Import:
-    """A name that is imported, and the module that has it (X.680, 13.16)."""
+    """A name that is imported, and the module that has it, by its name and its object identifier if that is there (X.680, 13.16)."""
 
     place: Place
     name: str
     module: str
+    identifier: list[Token] = field(default_factory=list, compare=False)
 
 
 @dataclass
 class Module:
-    """A module, with its assignments in their order."""
+    """A module, with its assignments in their order. `identifier` is what is in the braces after its name (X.680, 13.1)."""
 
     place: Place
     name: str
+    identifier: list[Token] = field(default_factory=list, compare=False, kw_only=True)
     tag_default: TagMode = TagMode.EXPLICIT
     extensibility_implied: bool = False
     exports: Optional[list[str]] = None

@@ -7,7 +7,7 @@ one, and the old one is exactly once in its file, or in the function that the ed
 must-fail/NAME.edit has one edit. wrong-bodies/FOLDER.bodies has the edits of the modules in a folder of src/, or in src/ itself. If these are
 too many for one file, there is also FOLDER-SUBJECT.bodies. After a line `# MODULE` come the edits of that module. Each begins with a line
 `## FUNCTION.what_is_wrong`, and changes the module's own file unless a `file:` line names another. MODULE is the file in src/ with `-` for
-each `/`.
+each `/`. A module `X-derived`, which is written for the module X, counts as one in the folder of X.
 """
 import functools
 import re
@@ -20,6 +20,9 @@ from . import rattle_source as source
 Function = tuple[str, str, str]
 # the text of each file that an edit may change, by its path in the crate
 Texts = dict[str, str]
+
+# how the name of a module ends that `tools/der_asn1/der_asn1 derive` writes
+DERIVED = "-derived"
 
 # the words that begin an edit's lines, in their order
 WORDS = re.compile(r"(survives( by hand)?:)?((file:)?old:new:)+")
@@ -184,7 +187,7 @@ def bodies_in(file: Path) -> list[Edit]:
 
 def bodies_of(stem: str, module: str, text: str) -> Iterator[Edit]:
     """The edits of a module, from the text after its line `# MODULE` in the file with this name."""
-    folder = module.rpartition("-")[0] or "src"
+    folder = module.removesuffix(DERIVED).rpartition("-")[0] or "src"
     head, *bodies = re.split(r"^## ", text, flags=re.M)
     if stem != folder and not stem.startswith(f"{folder}-"):
         yield bad_edit(f"{module}.", f"the bodies of this module belong in {folder}.bodies, and not in {stem}.bodies")

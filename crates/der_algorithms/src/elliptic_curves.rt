@@ -228,14 +228,17 @@ impl Notated for EcParameters {
 impl Exact for EcParameters {
     ghost values = { struct_values ⟦<EcParametersParts as ExactMembers>⟧.all_values ⟦<EcParametersParts as NotatedMembers>⟧.members_notation
         ⟦<EcParametersParts as SerializeMembers>⟧.members ⟦<Self as Struct>⟧.parts
-        (λ m. (record {
-          version = m.0;
-          field_id = m.1;
-          curve = m.2;
-          base = m.3;
-          order = m.4;
-          cofactor = m.5.0;
-        }, refl {a = m})) };
+        (λ m. (
+          record {
+            version = m.0;
+            field_id = m.1;
+            curve = m.2;
+            base = m.3;
+            order = m.4;
+            cofactor = m.5.0;
+          },
+          refl {a = m},
+        )) };
 
     ghost exact = { Prim.assumption };
 }

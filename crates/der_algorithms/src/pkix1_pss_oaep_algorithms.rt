@@ -121,12 +121,15 @@ impl Notated for RsassaPssParams {
 impl Exact for RsassaPssParams {
     ghost values = { struct_values ⟦<RsassaPssParamsParts as ExactMembers>⟧.all_values ⟦<RsassaPssParamsParts as NotatedMembers>⟧.members_notation
         ⟦<RsassaPssParamsParts as SerializeMembers>⟧.members ⟦<Self as Struct>⟧.parts
-        (λ m. (record {
-          hash_algorithm = m.0.0;
-          mask_gen_algorithm = m.1.0;
-          salt_length = m.2.0;
-          trailer_field = m.3.0;
-        }, refl {a = m})) };
+        (λ m. (
+          record {
+            hash_algorithm = m.0.0;
+            mask_gen_algorithm = m.1.0;
+            salt_length = m.2.0;
+            trailer_field = m.3.0;
+          },
+          refl {a = m},
+        )) };
 
     ghost exact = { Prim.assumption };
 }

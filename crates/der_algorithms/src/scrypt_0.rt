@@ -115,13 +115,16 @@ impl Notated for ScryptParams {
 impl Exact for ScryptParams {
     ghost values = { struct_values ⟦<ScryptParamsParts as ExactMembers>⟧.all_values ⟦<ScryptParamsParts as NotatedMembers>⟧.members_notation
         ⟦<ScryptParamsParts as SerializeMembers>⟧.members ⟦<Self as Struct>⟧.parts
-        (λ m. (record {
-          salt = m.0;
-          cost_parameter = m.1;
-          block_size = m.2;
-          parallelization_parameter = m.3;
-          key_length = m.4.0;
-        }, refl {a = m})) };
+        (λ m. (
+          record {
+            salt = m.0;
+            cost_parameter = m.1;
+            block_size = m.2;
+            parallelization_parameter = m.3;
+            key_length = m.4.0;
+          },
+          refl {a = m},
+        )) };
 
     ghost exact = { Prim.assumption };
 }

@@ -138,15 +138,18 @@ impl Notated for AuthEnvelopedData {
 impl Exact for AuthEnvelopedData {
     ghost values = { struct_values ⟦<AuthEnvelopedDataParts as ExactMembers>⟧.all_values ⟦<AuthEnvelopedDataParts as NotatedMembers>⟧.members_notation
         ⟦<AuthEnvelopedDataParts as SerializeMembers>⟧.members ⟦<Self as Struct>⟧.parts
-        (λ m. (record {
-          version = m.0;
-          originator_info = m.1.0;
-          recipient_infos = m.2;
-          auth_encrypted_content_info = m.3;
-          auth_attrs = m.4.0;
-          mac = m.5;
-          unauth_attrs = m.6.0;
-        }, refl {a = m})) };
+        (λ m. (
+          record {
+            version = m.0;
+            originator_info = m.1.0;
+            recipient_infos = m.2;
+            auth_encrypted_content_info = m.3;
+            auth_attrs = m.4.0;
+            mac = m.5;
+            unauth_attrs = m.6.0;
+          },
+          refl {a = m},
+        )) };
 
     ghost exact = { Prim.assumption };
 }

@@ -290,12 +290,15 @@ impl Notated for DigestedData {
 impl Exact for DigestedData {
     ghost values = { struct_values ⟦<DigestedDataParts as ExactMembers>⟧.all_values ⟦<DigestedDataParts as NotatedMembers>⟧.members_notation
         ⟦<DigestedDataParts as SerializeMembers>⟧.members ⟦<Self as Struct>⟧.parts
-        (λ m. (record {
-          version = m.0;
-          digest_algorithm = m.1;
-          encap_content_info = m.2;
-          digest = m.3;
-        }, refl {a = m})) };
+        (λ m. (
+          record {
+            version = m.0;
+            digest_algorithm = m.1;
+            encap_content_info = m.2;
+            digest = m.3;
+          },
+          refl {a = m},
+        )) };
 
     ghost exact = { Prim.assumption };
 }
@@ -538,17 +541,20 @@ impl Notated for AuthenticatedData {
 impl Exact for AuthenticatedData {
     ghost values = { struct_values ⟦<AuthenticatedDataParts as ExactMembers>⟧.all_values ⟦<AuthenticatedDataParts as NotatedMembers>⟧.members_notation
         ⟦<AuthenticatedDataParts as SerializeMembers>⟧.members ⟦<Self as Struct>⟧.parts
-        (λ m. (record {
-          version = m.0;
-          originator_info = m.1.0;
-          recipient_infos = m.2;
-          mac_algorithm = m.3;
-          digest_algorithm = m.4.0;
-          encap_content_info = m.5;
-          auth_attrs = m.6.0;
-          mac = m.7;
-          unauth_attrs = m.8.0.0;
-        }, refl {a = m})) };
+        (λ m. (
+          record {
+            version = m.0;
+            originator_info = m.1.0;
+            recipient_infos = m.2;
+            mac_algorithm = m.3;
+            digest_algorithm = m.4.0;
+            encap_content_info = m.5;
+            auth_attrs = m.6.0;
+            mac = m.7;
+            unauth_attrs = m.8.0.0;
+          },
+          refl {a = m},
+        )) };
 
     ghost exact = { Prim.assumption };
 }

@@ -126,13 +126,16 @@ impl Notated for EnvelopedData {
 impl Exact for EnvelopedData {
     ghost values = { struct_values ⟦<EnvelopedDataParts as ExactMembers>⟧.all_values ⟦<EnvelopedDataParts as NotatedMembers>⟧.members_notation
         ⟦<EnvelopedDataParts as SerializeMembers>⟧.members ⟦<Self as Struct>⟧.parts
-        (λ m. (record {
-          version = m.0;
-          originator_info = m.1.0;
-          recipient_infos = m.2;
-          encrypted_content_info = m.3;
-          unprotected_attrs = m.4.0;
-        }, refl {a = m})) };
+        (λ m. (
+          record {
+            version = m.0;
+            originator_info = m.1.0;
+            recipient_infos = m.2;
+            encrypted_content_info = m.3;
+            unprotected_attrs = m.4.0;
+          },
+          refl {a = m},
+        )) };
 
     ghost exact = { Prim.assumption };
 }
@@ -307,11 +310,14 @@ impl Notated for EncryptedContentInfo {
 impl Exact for EncryptedContentInfo {
     ghost values = { struct_values ⟦<EncryptedContentInfoParts as ExactMembers>⟧.all_values ⟦<EncryptedContentInfoParts as NotatedMembers>⟧.members_notation
         ⟦<EncryptedContentInfoParts as SerializeMembers>⟧.members ⟦<Self as Struct>⟧.parts
-        (λ m. (record {
-          content_type = m.0;
-          content_encryption_algorithm = m.1;
-          encrypted_content = m.2.0;
-        }, refl {a = m})) };
+        (λ m. (
+          record {
+            content_type = m.0;
+            content_encryption_algorithm = m.1;
+            encrypted_content = m.2.0;
+          },
+          refl {a = m},
+        )) };
 
     ghost exact = { Prim.assumption };
 }

@@ -140,13 +140,16 @@ impl Notated for KeyAgreeRecipientInfo {
 impl Exact for KeyAgreeRecipientInfo {
     ghost values = { struct_values ⟦<KeyAgreeRecipientInfoParts as ExactMembers>⟧.all_values ⟦<KeyAgreeRecipientInfoParts as NotatedMembers>⟧.members_notation
         ⟦<KeyAgreeRecipientInfoParts as SerializeMembers>⟧.members ⟦<Self as Struct>⟧.parts
-        (λ m. (record {
-          version = m.0;
-          originator = m.1;
-          ukm = m.2.0;
-          key_encryption_algorithm = m.3;
-          recipient_encrypted_keys = m.4;
-        }, refl {a = m})) };
+        (λ m. (
+          record {
+            version = m.0;
+            originator = m.1;
+            ukm = m.2.0;
+            key_encryption_algorithm = m.3;
+            recipient_encrypted_keys = m.4;
+          },
+          refl {a = m},
+        )) };
 
     ghost exact = { Prim.assumption };
 }

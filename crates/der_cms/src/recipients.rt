@@ -247,12 +247,15 @@ impl Notated for KeyTransRecipientInfo {
 impl Exact for KeyTransRecipientInfo {
     ghost values = { struct_values ⟦<KeyTransRecipientInfoParts as ExactMembers>⟧.all_values ⟦<KeyTransRecipientInfoParts as NotatedMembers>⟧.members_notation
         ⟦<KeyTransRecipientInfoParts as SerializeMembers>⟧.members ⟦<Self as Struct>⟧.parts
-        (λ m. (record {
-          version = m.0;
-          rid = m.1;
-          key_encryption_algorithm = m.2;
-          encrypted_key = m.3;
-        }, refl {a = m})) };
+        (λ m. (
+          record {
+            version = m.0;
+            rid = m.1;
+            key_encryption_algorithm = m.2;
+            encrypted_key = m.3;
+          },
+          refl {a = m},
+        )) };
 
     ghost exact = { Prim.assumption };
 }
@@ -461,12 +464,15 @@ impl Notated for KekRecipientInfo {
 impl Exact for KekRecipientInfo {
     ghost values = { struct_values ⟦<KekRecipientInfoParts as ExactMembers>⟧.all_values ⟦<KekRecipientInfoParts as NotatedMembers>⟧.members_notation
         ⟦<KekRecipientInfoParts as SerializeMembers>⟧.members ⟦<Self as Struct>⟧.parts
-        (λ m. (record {
-          version = m.0;
-          kekid = m.1;
-          key_encryption_algorithm = m.2;
-          encrypted_key = m.3;
-        }, refl {a = m})) };
+        (λ m. (
+          record {
+            version = m.0;
+            kekid = m.1;
+            key_encryption_algorithm = m.2;
+            encrypted_key = m.3;
+          },
+          refl {a = m},
+        )) };
 
     ghost exact = { Prim.assumption };
 }
@@ -673,12 +679,15 @@ impl Notated for PasswordRecipientInfo {
 impl Exact for PasswordRecipientInfo {
     ghost values = { struct_values ⟦<PasswordRecipientInfoParts as ExactMembers>⟧.all_values ⟦<PasswordRecipientInfoParts as NotatedMembers>⟧.members_notation
         ⟦<PasswordRecipientInfoParts as SerializeMembers>⟧.members ⟦<Self as Struct>⟧.parts
-        (λ m. (record {
-          version = m.0;
-          key_derivation_algorithm = m.1.0;
-          key_encryption_algorithm = m.2;
-          encrypted_key = m.3;
-        }, refl {a = m})) };
+        (λ m. (
+          record {
+            version = m.0;
+            key_derivation_algorithm = m.1.0;
+            key_encryption_algorithm = m.2;
+            encrypted_key = m.3;
+          },
+          refl {a = m},
+        )) };
 
     ghost exact = { Prim.assumption };
 }

@@ -143,14 +143,17 @@ impl Notated for SignedData {
 impl Exact for SignedData {
     ghost values = { struct_values ⟦<SignedDataParts as ExactMembers>⟧.all_values ⟦<SignedDataParts as NotatedMembers>⟧.members_notation
         ⟦<SignedDataParts as SerializeMembers>⟧.members ⟦<Self as Struct>⟧.parts
-        (λ m. (record {
-          version = m.0;
-          digest_algorithms = m.1;
-          encap_content_info = m.2;
-          certificates = m.3.0;
-          crls = m.4.0;
-          signer_infos = m.5;
-        }, refl {a = m})) };
+        (λ m. (
+          record {
+            version = m.0;
+            digest_algorithms = m.1;
+            encap_content_info = m.2;
+            certificates = m.3.0;
+            crls = m.4.0;
+            signer_infos = m.5;
+          },
+          refl {a = m},
+        )) };
 
     ghost exact = { Prim.assumption };
 }
@@ -374,15 +377,18 @@ impl Notated for SignerInfo {
 impl Exact for SignerInfo {
     ghost values = { struct_values ⟦<SignerInfoParts as ExactMembers>⟧.all_values ⟦<SignerInfoParts as NotatedMembers>⟧.members_notation
         ⟦<SignerInfoParts as SerializeMembers>⟧.members ⟦<Self as Struct>⟧.parts
-        (λ m. (record {
-          version = m.0;
-          sid = m.1;
-          digest_algorithm = m.2;
-          signed_attrs = m.3.0;
-          signature_algorithm = m.4;
-          signature = m.5;
-          unsigned_attrs = m.6.0;
-        }, refl {a = m})) };
+        (λ m. (
+          record {
+            version = m.0;
+            sid = m.1;
+            digest_algorithm = m.2;
+            signed_attrs = m.3.0;
+            signature_algorithm = m.4;
+            signature = m.5;
+            unsigned_attrs = m.6.0;
+          },
+          refl {a = m},
+        )) };
 
     ghost exact = { Prim.assumption };
 }

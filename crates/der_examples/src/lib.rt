@@ -1,14 +1,17 @@
-//! Types written by hand with the public calls only, as a user of the crates writes them.
+//! Types of one's own with the public calls only, as a user of the crates writes them. The modules `derived` are what
+//! `tools/der_asn1/der_asn1 derive` writes for a file.
 #![tactic(auto)]
 
 mod age_groups;
 mod attribute;
 mod certification_request_info;
 mod change;
+mod contact;
 mod device_label;
+mod email_text;
 mod encapsulated_content_info;
 mod encrypted_data;
-mod faithful;
+mod even_number;
 mod first_steps;
 mod general_name;
 mod gust;
@@ -28,8 +31,10 @@ mod principal_name;
 mod private_key_info;
 mod report;
 mod response_status;
+mod river_levels;
 mod rsa_public_key;
 mod script;
+mod serial_number;
 mod setting;
 mod signed;
 mod signed_data;
@@ -45,9 +50,12 @@ pub use age_groups::AgeGroups;
 pub use attribute::Attribute;
 pub use certification_request_info::CertificationRequestInfo;
 pub use change::Change;
+pub use contact::Contact;
 pub use device_label::DeviceLabel;
+pub use email_text::EmailText;
 pub use encapsulated_content_info::EncapsulatedContentInfo;
 pub use encrypted_data::EncryptedData;
+pub use even_number::EvenNumber;
 pub use first_steps::{number, octets, small_number, text};
 pub use general_name::{GeneralName, Name};
 pub use gust::Gust;
@@ -70,8 +78,10 @@ pub use principal_name::PrincipalName;
 pub use private_key_info::PrivateKeyInfo;
 pub use report::Report;
 pub use response_status::ResponseStatus;
+pub use river_levels::RiverLevels;
 pub use rsa_public_key::RsaPublicKey;
 pub use script::{Command, Script, Step};
+pub use serial_number::SerialNumber;
 pub use setting::Setting;
 pub use signed::{Bundle, Signed};
 pub use signed_data::SignedData;

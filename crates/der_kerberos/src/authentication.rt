@@ -123,13 +123,16 @@ impl Notated for ApReqMembers {
 impl Exact for ApReqMembers {
     ghost values = { struct_values ⟦<ApReqMembersParts as ExactMembers>⟧.all_values ⟦<ApReqMembersParts as NotatedMembers>⟧.members_notation
         ⟦<ApReqMembersParts as SerializeMembers>⟧.members ⟦<Self as Struct>⟧.parts
-        (λ m. (record {
-          pvno = m.0;
-          msg_type = m.1;
-          ap_options = m.2;
-          ticket = m.3;
-          authenticator = m.4;
-        }, refl {a = m})) };
+        (λ m. (
+          record {
+            pvno = m.0;
+            msg_type = m.1;
+            ap_options = m.2;
+            ticket = m.3;
+            authenticator = m.4;
+          },
+          refl {a = m},
+        )) };
 
     ghost exact = { Prim.assumption };
 }
@@ -289,17 +292,20 @@ impl Notated for AuthenticatorMembers {
 impl Exact for AuthenticatorMembers {
     ghost values = { struct_values ⟦<AuthenticatorMembersParts as ExactMembers>⟧.all_values ⟦<AuthenticatorMembersParts as NotatedMembers>⟧.members_notation
         ⟦<AuthenticatorMembersParts as SerializeMembers>⟧.members ⟦<Self as Struct>⟧.parts
-        (λ m. (record {
-          authenticator_vno = m.0;
-          crealm = m.1;
-          cname = m.2;
-          cksum = m.3.0;
-          cusec = m.4;
-          ctime = m.5;
-          subkey = m.6.0;
-          seq_number = m.7.0;
-          authorization_data = m.8.0.0;
-        }, refl {a = m})) };
+        (λ m. (
+          record {
+            authenticator_vno = m.0;
+            crealm = m.1;
+            cname = m.2;
+            cksum = m.3.0;
+            cusec = m.4;
+            ctime = m.5;
+            subkey = m.6.0;
+            seq_number = m.7.0;
+            authorization_data = m.8.0.0;
+          },
+          refl {a = m},
+        )) };
 
     ghost exact = { Prim.assumption };
 }

@@ -255,14 +255,17 @@ impl Notated for EncKrbCredPartMembers {
 impl Exact for EncKrbCredPartMembers {
     ghost values = { struct_values ⟦<EncKrbCredPartMembersParts as ExactMembers>⟧.all_values ⟦<EncKrbCredPartMembersParts as NotatedMembers>⟧.members_notation
         ⟦<EncKrbCredPartMembersParts as SerializeMembers>⟧.members ⟦<Self as Struct>⟧.parts
-        (λ m. (record {
-          ticket_info = m.0;
-          nonce = m.1.0;
-          timestamp = m.2.0;
-          usec = m.3.0;
-          s_address = m.4.0;
-          r_address = m.5.0;
-        }, refl {a = m})) };
+        (λ m. (
+          record {
+            ticket_info = m.0;
+            nonce = m.1.0;
+            timestamp = m.2.0;
+            usec = m.3.0;
+            s_address = m.4.0;
+            r_address = m.5.0;
+          },
+          refl {a = m},
+        )) };
 
     ghost exact = { Prim.assumption };
 }
@@ -424,19 +427,22 @@ impl Notated for KrbCredInfo {
 impl Exact for KrbCredInfo {
     ghost values = { struct_values ⟦<KrbCredInfoParts as ExactMembers>⟧.all_values ⟦<KrbCredInfoParts as NotatedMembers>⟧.members_notation
         ⟦<KrbCredInfoParts as SerializeMembers>⟧.members ⟦<Self as Struct>⟧.parts
-        (λ m. (record {
-          key = m.0;
-          prealm = m.1.0;
-          pname = m.2.0;
-          flags = m.3.0;
-          authtime = m.4.0;
-          starttime = m.5.0;
-          endtime = m.6.0;
-          renew_till = m.7.0;
-          srealm = m.8.0.0;
-          sname = m.8.1.0;
-          caddr = m.8.2.0;
-        }, refl {a = m})) };
+        (λ m. (
+          record {
+            key = m.0;
+            prealm = m.1.0;
+            pname = m.2.0;
+            flags = m.3.0;
+            authtime = m.4.0;
+            starttime = m.5.0;
+            endtime = m.6.0;
+            renew_till = m.7.0;
+            srealm = m.8.0.0;
+            sname = m.8.1.0;
+            caddr = m.8.2.0;
+          },
+          refl {a = m},
+        )) };
 
     ghost exact = { Prim.assumption };
 }

@@ -189,21 +189,24 @@ impl Notated for KrbErrorMembers {
 impl Exact for KrbErrorMembers {
     ghost values = { struct_values ⟦<KrbErrorMembersParts as ExactMembers>⟧.all_values ⟦<KrbErrorMembersParts as NotatedMembers>⟧.members_notation
         ⟦<KrbErrorMembersParts as SerializeMembers>⟧.members ⟦<Self as Struct>⟧.parts
-        (λ m. (record {
-          pvno = m.0;
-          msg_type = m.1;
-          ctime = m.2.0;
-          cusec = m.3.0;
-          stime = m.4;
-          susec = m.5;
-          error_code = m.6;
-          crealm = m.7.0;
-          cname = m.8.0.0;
-          realm = m.8.1;
-          sname = m.8.2;
-          e_text = m.8.3.0;
-          e_data = m.8.4.0;
-        }, refl {a = m})) };
+        (λ m. (
+          record {
+            pvno = m.0;
+            msg_type = m.1;
+            ctime = m.2.0;
+            cusec = m.3.0;
+            stime = m.4;
+            susec = m.5;
+            error_code = m.6;
+            crealm = m.7.0;
+            cname = m.8.0.0;
+            realm = m.8.1;
+            sname = m.8.2;
+            e_text = m.8.3.0;
+            e_data = m.8.4.0;
+          },
+          refl {a = m},
+        )) };
 
     ghost exact = { Prim.assumption };
 }

@@ -144,15 +144,18 @@ impl Notated for AsRepMembers {
 impl Exact for AsRepMembers {
     ghost values = { struct_values ⟦<AsRepMembersParts as ExactMembers>⟧.all_values ⟦<AsRepMembersParts as NotatedMembers>⟧.members_notation
         ⟦<AsRepMembersParts as SerializeMembers>⟧.members ⟦<Self as Struct>⟧.parts
-        (λ m. (record {
-          pvno = m.0;
-          msg_type = m.1;
-          padata = m.2.0;
-          crealm = m.3;
-          cname = m.4;
-          ticket = m.5;
-          enc_part = m.6;
-        }, refl {a = m})) };
+        (λ m. (
+          record {
+            pvno = m.0;
+            msg_type = m.1;
+            padata = m.2.0;
+            crealm = m.3;
+            cname = m.4;
+            ticket = m.5;
+            enc_part = m.6;
+          },
+          refl {a = m},
+        )) };
 
     ghost exact = { Prim.assumption };
 }
@@ -284,15 +287,18 @@ impl Notated for TgsRepMembers {
 impl Exact for TgsRepMembers {
     ghost values = { struct_values ⟦<TgsRepMembersParts as ExactMembers>⟧.all_values ⟦<TgsRepMembersParts as NotatedMembers>⟧.members_notation
         ⟦<TgsRepMembersParts as SerializeMembers>⟧.members ⟦<Self as Struct>⟧.parts
-        (λ m. (record {
-          pvno = m.0;
-          msg_type = m.1;
-          padata = m.2.0;
-          crealm = m.3;
-          cname = m.4;
-          ticket = m.5;
-          enc_part = m.6;
-        }, refl {a = m})) };
+        (λ m. (
+          record {
+            pvno = m.0;
+            msg_type = m.1;
+            padata = m.2.0;
+            crealm = m.3;
+            cname = m.4;
+            ticket = m.5;
+            enc_part = m.6;
+          },
+          refl {a = m},
+        )) };
 
     ghost exact = { Prim.assumption };
 }
@@ -487,21 +493,24 @@ impl Notated for EncKdcRepPart {
 impl Exact for EncKdcRepPart {
     ghost values = { struct_values ⟦<EncKdcRepPartParts as ExactMembers>⟧.all_values ⟦<EncKdcRepPartParts as NotatedMembers>⟧.members_notation
         ⟦<EncKdcRepPartParts as SerializeMembers>⟧.members ⟦<Self as Struct>⟧.parts
-        (λ m. (record {
-          key = m.0;
-          last_req = m.1;
-          nonce = m.2;
-          key_expiration = m.3.0;
-          flags = m.4;
-          authtime = m.5;
-          starttime = m.6.0;
-          endtime = m.7;
-          renew_till = m.8.0.0;
-          srealm = m.8.1;
-          sname = m.8.2;
-          caddr = m.8.3.0;
-          encrypted_pa_data = m.8.4.0;
-        }, refl {a = m})) };
+        (λ m. (
+          record {
+            key = m.0;
+            last_req = m.1;
+            nonce = m.2;
+            key_expiration = m.3.0;
+            flags = m.4;
+            authtime = m.5;
+            starttime = m.6.0;
+            endtime = m.7;
+            renew_till = m.8.0.0;
+            srealm = m.8.1;
+            sname = m.8.2;
+            caddr = m.8.3.0;
+            encrypted_pa_data = m.8.4.0;
+          },
+          refl {a = m},
+        )) };
 
     ghost exact = { Prim.assumption };
 }

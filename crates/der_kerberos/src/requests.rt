@@ -407,20 +407,23 @@ impl Notated for KdcReqBody {
 impl Exact for KdcReqBody {
     ghost values = { struct_values ⟦<KdcReqBodyParts as ExactMembers>⟧.all_values ⟦<KdcReqBodyParts as NotatedMembers>⟧.members_notation
         ⟦<KdcReqBodyParts as SerializeMembers>⟧.members ⟦<Self as Struct>⟧.parts
-        (λ m. (record {
-          kdc_options = m.0;
-          cname = m.1.0;
-          realm = m.2;
-          sname = m.3.0;
-          from = m.4.0;
-          till = m.5;
-          rtime = m.6.0;
-          nonce = m.7;
-          etype = m.8.0;
-          addresses = m.8.1.0;
-          enc_authorization_data = m.8.2.0;
-          additional_tickets = m.8.3.0;
-        }, refl {a = m})) };
+        (λ m. (
+          record {
+            kdc_options = m.0;
+            cname = m.1.0;
+            realm = m.2;
+            sname = m.3.0;
+            from = m.4.0;
+            till = m.5;
+            rtime = m.6.0;
+            nonce = m.7;
+            etype = m.8.0;
+            addresses = m.8.1.0;
+            enc_authorization_data = m.8.2.0;
+            additional_tickets = m.8.3.0;
+          },
+          refl {a = m},
+        )) };
 
     ghost exact = { Prim.assumption };
 }

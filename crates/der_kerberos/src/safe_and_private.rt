@@ -230,14 +230,17 @@ impl Notated for KrbSafeBody {
 impl Exact for KrbSafeBody {
     ghost values = { struct_values ⟦<KrbSafeBodyParts as ExactMembers>⟧.all_values ⟦<KrbSafeBodyParts as NotatedMembers>⟧.members_notation
         ⟦<KrbSafeBodyParts as SerializeMembers>⟧.members ⟦<Self as Struct>⟧.parts
-        (λ m. (record {
-          user_data = m.0;
-          timestamp = m.1.0;
-          usec = m.2.0;
-          seq_number = m.3.0;
-          s_address = m.4;
-          r_address = m.5.0;
-        }, refl {a = m})) };
+        (λ m. (
+          record {
+            user_data = m.0;
+            timestamp = m.1.0;
+            usec = m.2.0;
+            seq_number = m.3.0;
+            s_address = m.4;
+            r_address = m.5.0;
+          },
+          refl {a = m},
+        )) };
 
     ghost exact = { Prim.assumption };
 }
@@ -461,14 +464,17 @@ impl Notated for EncKrbPrivPartMembers {
 impl Exact for EncKrbPrivPartMembers {
     ghost values = { struct_values ⟦<EncKrbPrivPartMembersParts as ExactMembers>⟧.all_values ⟦<EncKrbPrivPartMembersParts as NotatedMembers>⟧.members_notation
         ⟦<EncKrbPrivPartMembersParts as SerializeMembers>⟧.members ⟦<Self as Struct>⟧.parts
-        (λ m. (record {
-          user_data = m.0;
-          timestamp = m.1.0;
-          usec = m.2.0;
-          seq_number = m.3.0;
-          s_address = m.4;
-          r_address = m.5.0;
-        }, refl {a = m})) };
+        (λ m. (
+          record {
+            user_data = m.0;
+            timestamp = m.1.0;
+            usec = m.2.0;
+            seq_number = m.3.0;
+            s_address = m.4;
+            r_address = m.5.0;
+          },
+          refl {a = m},
+        )) };
 
     ghost exact = { Prim.assumption };
 }

@@ -272,19 +272,22 @@ impl Notated for EncTicketPartMembers {
 impl Exact for EncTicketPartMembers {
     ghost values = { struct_values ⟦<EncTicketPartMembersParts as ExactMembers>⟧.all_values ⟦<EncTicketPartMembersParts as NotatedMembers>⟧.members_notation
         ⟦<EncTicketPartMembersParts as SerializeMembers>⟧.members ⟦<Self as Struct>⟧.parts
-        (λ m. (record {
-          flags = m.0;
-          key = m.1;
-          crealm = m.2;
-          cname = m.3;
-          transited = m.4;
-          authtime = m.5;
-          starttime = m.6.0;
-          endtime = m.7;
-          renew_till = m.8.0.0;
-          caddr = m.8.1.0;
-          authorization_data = m.8.2.0;
-        }, refl {a = m})) };
+        (λ m. (
+          record {
+            flags = m.0;
+            key = m.1;
+            crealm = m.2;
+            cname = m.3;
+            transited = m.4;
+            authtime = m.5;
+            starttime = m.6.0;
+            endtime = m.7;
+            renew_till = m.8.0.0;
+            caddr = m.8.1.0;
+            authorization_data = m.8.2.0;
+          },
+          refl {a = m},
+        )) };
 
     ghost exact = { Prim.assumption };
 }

@@ -137,13 +137,16 @@ impl Notated for OneAsymmetricKey {
 impl Exact for OneAsymmetricKey {
     ghost values = { struct_values ⟦<OneAsymmetricKeyParts as ExactMembers>⟧.all_values ⟦<OneAsymmetricKeyParts as NotatedMembers>⟧.members_notation
         ⟦<OneAsymmetricKeyParts as SerializeMembers>⟧.members ⟦<Self as Struct>⟧.parts
-        (λ m. (record {
-          version = m.0;
-          private_key_algorithm = m.1;
-          private_key = m.2;
-          attributes = m.3.0;
-          public_key = m.4.0;
-        }, refl {a = m})) };
+        (λ m. (
+          record {
+            version = m.0;
+            private_key_algorithm = m.1;
+            private_key = m.2;
+            attributes = m.3.0;
+            public_key = m.4.0;
+          },
+          refl {a = m},
+        )) };
 
     ghost exact = { Prim.assumption };
 }

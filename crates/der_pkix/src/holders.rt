@@ -127,11 +127,14 @@ impl Notated for Holder {
 impl Exact for Holder {
     ghost values = { struct_values ⟦<HolderParts as ExactMembers>⟧.all_values ⟦<HolderParts as NotatedMembers>⟧.members_notation
         ⟦<HolderParts as SerializeMembers>⟧.members ⟦<Self as Struct>⟧.parts
-        (λ m. (record {
-          base_certificate_id = m.0.0;
-          entity_name = m.1.0;
-          object_digest_info = m.2.0;
-        }, refl {a = m})) };
+        (λ m. (
+          record {
+            base_certificate_id = m.0.0;
+            entity_name = m.1.0;
+            object_digest_info = m.2.0;
+          },
+          refl {a = m},
+        )) };
 
     ghost exact = { Prim.assumption };
 }
@@ -242,12 +245,15 @@ impl Notated for ObjectDigestInfo {
 impl Exact for ObjectDigestInfo {
     ghost values = { struct_values ⟦<ObjectDigestInfoParts as ExactMembers>⟧.all_values ⟦<ObjectDigestInfoParts as NotatedMembers>⟧.members_notation
         ⟦<ObjectDigestInfoParts as SerializeMembers>⟧.members ⟦<Self as Struct>⟧.parts
-        (λ m. (record {
-          digested_object_type = m.0;
-          other_object_type_id = m.1.0;
-          digest_algorithm = m.2;
-          object_digest = m.3;
-        }, refl {a = m})) };
+        (λ m. (
+          record {
+            digested_object_type = m.0;
+            other_object_type_id = m.1.0;
+            digest_algorithm = m.2;
+            object_digest = m.3;
+          },
+          refl {a = m},
+        )) };
 
     ghost exact = { Prim.assumption };
 }
@@ -382,10 +388,10 @@ impl Exact for DigestedObjectType {
         variants.PublicKeyCert ∷
         variants.OtherObjectTypes ∷
         []) digested_object_type_number (elim [
-      | variants.PublicKey ↦ record { listed = refl; small = refl }
-      | variants.PublicKeyCert ↦ record { listed = refl; small = refl }
-      | variants.OtherObjectTypes ↦ record { listed = refl; small = refl }
-    ]) };
+          | variants.PublicKey ↦ record { listed = refl; small = refl }
+          | variants.PublicKeyCert ↦ record { listed = refl; small = refl }
+          | variants.OtherObjectTypes ↦ record { listed = refl; small = refl }
+        ]) };
 
     ghost exact = { Prim.assumption };
 }
@@ -587,11 +593,14 @@ impl Notated for V2Form {
 impl Exact for V2Form {
     ghost values = { struct_values ⟦<V2FormParts as ExactMembers>⟧.all_values ⟦<V2FormParts as NotatedMembers>⟧.members_notation
         ⟦<V2FormParts as SerializeMembers>⟧.members ⟦<Self as Struct>⟧.parts
-        (λ m. (record {
-          issuer_name = m.0.0;
-          base_certificate_id = m.1.0;
-          object_digest_info = m.2.0;
-        }, refl {a = m})) };
+        (λ m. (
+          record {
+            issuer_name = m.0.0;
+            base_certificate_id = m.1.0;
+            object_digest_info = m.2.0;
+          },
+          refl {a = m},
+        )) };
 
     ghost exact = { Prim.assumption };
 }

@@ -232,18 +232,21 @@ impl Notated for RsaPrivateKey {
 impl Exact for RsaPrivateKey {
     ghost values = { struct_values ⟦<RsaPrivateKeyParts as ExactMembers>⟧.all_values ⟦<RsaPrivateKeyParts as NotatedMembers>⟧.members_notation
         ⟦<RsaPrivateKeyParts as SerializeMembers>⟧.members ⟦<Self as Struct>⟧.parts
-        (λ m. (record {
-          version = m.0;
-          modulus = m.1;
-          public_exponent = m.2;
-          private_exponent = m.3;
-          prime1 = m.4;
-          prime2 = m.5;
-          exponent1 = m.6;
-          exponent2 = m.7;
-          coefficient = m.8.0;
-          other_prime_infos = m.8.1.0;
-        }, refl {a = m})) };
+        (λ m. (
+          record {
+            version = m.0;
+            modulus = m.1;
+            public_exponent = m.2;
+            private_exponent = m.3;
+            prime1 = m.4;
+            prime2 = m.5;
+            exponent1 = m.6;
+            exponent2 = m.7;
+            coefficient = m.8.0;
+            other_prime_infos = m.8.1.0;
+          },
+          refl {a = m},
+        )) };
 
     ghost exact = { Prim.assumption };
 }

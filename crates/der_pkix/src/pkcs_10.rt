@@ -93,11 +93,14 @@ impl Notated for CertificationRequest {
 impl Exact for CertificationRequest {
     ghost values = { struct_values ⟦<CertificationRequestParts as ExactMembers>⟧.all_values ⟦<CertificationRequestParts as NotatedMembers>⟧.members_notation
         ⟦<CertificationRequestParts as SerializeMembers>⟧.members ⟦<Self as Struct>⟧.parts
-        (λ m. (record {
-          certification_request_info = m.0;
-          signature_algorithm = m.1;
-          signature = m.2;
-        }, refl {a = m})) };
+        (λ m. (
+          record {
+            certification_request_info = m.0;
+            signature_algorithm = m.1;
+            signature = m.2;
+          },
+          refl {a = m},
+        )) };
 
     ghost exact = { Prim.assumption };
 }

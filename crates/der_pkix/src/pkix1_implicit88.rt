@@ -115,11 +115,14 @@ impl Notated for AuthorityKeyIdentifier {
 impl Exact for AuthorityKeyIdentifier {
     ghost values = { struct_values ⟦<AuthorityKeyIdentifierParts as ExactMembers>⟧.all_values ⟦<AuthorityKeyIdentifierParts as NotatedMembers>⟧.members_notation
         ⟦<AuthorityKeyIdentifierParts as SerializeMembers>⟧.members ⟦<Self as Struct>⟧.parts
-        (λ m. (record {
-          key_identifier = m.0.0;
-          authority_cert_issuer = m.1.0;
-          authority_cert_serial_number = m.2.0;
-        }, refl {a = m})) };
+        (λ m. (
+          record {
+            key_identifier = m.0.0;
+            authority_cert_issuer = m.1.0;
+            authority_cert_serial_number = m.2.0;
+          },
+          refl {a = m},
+        )) };
 
     ghost exact = { Prim.assumption };
 }

@@ -255,17 +255,20 @@ impl Notated for AttributeCertificateInfo {
 impl Exact for AttributeCertificateInfo {
     ghost values = { struct_values ⟦<AttributeCertificateInfoParts as ExactMembers>⟧.all_values ⟦<AttributeCertificateInfoParts as NotatedMembers>⟧.members_notation
         ⟦<AttributeCertificateInfoParts as SerializeMembers>⟧.members ⟦<Self as Struct>⟧.parts
-        (λ m. (record {
-          version = m.0;
-          holder = m.1;
-          issuer = m.2;
-          signature = m.3;
-          serial_number = m.4;
-          attr_cert_validity_period = m.5;
-          attributes = m.6;
-          issuer_unique_id = m.7.0;
-          extensions = m.8.0.0;
-        }, refl {a = m})) };
+        (λ m. (
+          record {
+            version = m.0;
+            holder = m.1;
+            issuer = m.2;
+            signature = m.3;
+            serial_number = m.4;
+            attr_cert_validity_period = m.5;
+            attributes = m.6;
+            issuer_unique_id = m.7.0;
+            extensions = m.8.0.0;
+          },
+          refl {a = m},
+        )) };
 
     ghost exact = { Prim.assumption };
 }
@@ -683,12 +686,15 @@ impl Notated for AaControls {
 impl Exact for AaControls {
     ghost values = { struct_values ⟦<AaControlsParts as ExactMembers>⟧.all_values ⟦<AaControlsParts as NotatedMembers>⟧.members_notation
         ⟦<AaControlsParts as SerializeMembers>⟧.members ⟦<Self as Struct>⟧.parts
-        (λ m. (record {
-          path_len_constraint = m.0.0;
-          permitted_attrs = m.1.0;
-          excluded_attrs = m.2.0;
-          permit_un_specified = m.3.value;
-        }, refl {a = m})) };
+        (λ m. (
+          record {
+            path_len_constraint = m.0.0;
+            permitted_attrs = m.1.0;
+            excluded_attrs = m.2.0;
+            permit_un_specified = m.3.value;
+          },
+          refl {a = m},
+        )) };
 
     ghost exact = { Prim.assumption };
 }

@@ -376,14 +376,17 @@ impl Notated for IssuingDistributionPoint {
 impl Exact for IssuingDistributionPoint {
     ghost values = { struct_values ⟦<IssuingDistributionPointParts as ExactMembers>⟧.all_values ⟦<IssuingDistributionPointParts as NotatedMembers>⟧.members_notation
         ⟦<IssuingDistributionPointParts as SerializeMembers>⟧.members ⟦<Self as Struct>⟧.parts
-        (λ m. (record {
-          distribution_point = m.0.0;
-          only_contains_user_certs = m.1.value;
-          only_contains_ca_certs = m.2.value;
-          only_some_reasons = m.3.0;
-          indirect_crl = m.4.value;
-          only_contains_attribute_certs = m.5.value;
-        }, refl {a = m})) };
+        (λ m. (
+          record {
+            distribution_point = m.0.0;
+            only_contains_user_certs = m.1.value;
+            only_contains_ca_certs = m.2.value;
+            only_some_reasons = m.3.0;
+            indirect_crl = m.4.value;
+            only_contains_attribute_certs = m.5.value;
+          },
+          refl {a = m},
+        )) };
 
     ghost exact = { Prim.assumption };
 }
@@ -568,17 +571,17 @@ impl Exact for CrlReason {
         variants.PrivilegeWithdrawn ∷
         variants.AaCompromise ∷
         []) crl_reason_number (elim [
-      | variants.Unspecified ↦ record { listed = refl; small = refl }
-      | variants.KeyCompromise ↦ record { listed = refl; small = refl }
-      | variants.CaCompromise ↦ record { listed = refl; small = refl }
-      | variants.AffiliationChanged ↦ record { listed = refl; small = refl }
-      | variants.Superseded ↦ record { listed = refl; small = refl }
-      | variants.CessationOfOperation ↦ record { listed = refl; small = refl }
-      | variants.CertificateHold ↦ record { listed = refl; small = refl }
-      | variants.RemoveFromCrl ↦ record { listed = refl; small = refl }
-      | variants.PrivilegeWithdrawn ↦ record { listed = refl; small = refl }
-      | variants.AaCompromise ↦ record { listed = refl; small = refl }
-    ]) };
+          | variants.Unspecified ↦ record { listed = refl; small = refl }
+          | variants.KeyCompromise ↦ record { listed = refl; small = refl }
+          | variants.CaCompromise ↦ record { listed = refl; small = refl }
+          | variants.AffiliationChanged ↦ record { listed = refl; small = refl }
+          | variants.Superseded ↦ record { listed = refl; small = refl }
+          | variants.CessationOfOperation ↦ record { listed = refl; small = refl }
+          | variants.CertificateHold ↦ record { listed = refl; small = refl }
+          | variants.RemoveFromCrl ↦ record { listed = refl; small = refl }
+          | variants.PrivilegeWithdrawn ↦ record { listed = refl; small = refl }
+          | variants.AaCompromise ↦ record { listed = refl; small = refl }
+        ]) };
 
     ghost exact = { Prim.assumption };
 }

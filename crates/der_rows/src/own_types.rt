@@ -7,9 +7,10 @@ use crate::lamp::Lamp;
 use crate::nested_tags::{FourTags, SixteenTags};
 use crate::seen::Seen;
 use der_examples::{
-    AgeGroups, Change, EncryptedData, GeneralName, Gust, Host, Interval, Marker, Moment, Named,
-    Noted, NumberOrFlag, Parcel, Place, Point, PrincipalName, PrivateKeyInfo, Report, RsaPublicKey,
-    Setting, Stay, Tagged, Ticket, Track,
+    AgeGroups, Change, Contact, EmailText, EncryptedData, EvenNumber, GeneralName, Gust, Host,
+    Interval, Marker, Moment, Named, Noted, NumberOrFlag, Parcel, Place, Point, PrincipalName,
+    PrivateKeyInfo, Report, RiverLevels, RsaPublicKey, SerialNumber, Setting, Stay, Tagged, Ticket,
+    Track,
 };
 use der_tool_lib::{AlgorithmIdentifier, SubjectPublicKeyInfo, TestStruct};
 use der_x509::{CertificateList, Extension, TbsCertificate, Version};
@@ -66,6 +67,17 @@ fn example(alloc: Global, name: &str, row: &RowBytes) -> Result<String, AllocErr
         "Stay" => read_as::<Stay>(alloc, row),
         "Gust" => read_as::<Gust>(alloc, row),
         "Report" => read_as::<Report>(alloc, row),
+        _ => later_example(alloc, name, row),
+    }
+}
+
+fn later_example(alloc: Global, name: &str, row: &RowBytes) -> Result<String, AllocError> {
+    match name {
+        "Contact" => read_as::<Contact>(alloc, row),
+        "EmailText" => read_as::<EmailText>(alloc, row),
+        "EvenNumber" => read_as::<EvenNumber>(alloc, row),
+        "RiverLevels" => read_as::<RiverLevels>(alloc, row),
+        "SerialNumber" => read_as::<SerialNumber>(alloc, row),
         _ => generic_example(alloc, name, row),
     }
 }

@@ -6,8 +6,10 @@ pub mod Ranges
 pub mod Listed
 pub mod Fronts
 pub mod Walking
+pub mod WalkLemmas
 pub mod OpeningLemmas
 pub mod Places
 pub mod Texts
 pub mod Padding
 pub mod Showing
+pub mod WrittenLemmas

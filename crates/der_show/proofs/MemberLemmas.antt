@@ -62,7 +62,7 @@ module _ (order : Order) where
       unordered = λ u. record { members = m ∷ u.members; at_front = one_more m u.members bytes after is element u.at_front; unordered = u.unordered };
     }
 
-    goes_ordered : (last : List ℕ) → may_follow order last m ≡ true → OrderedFrom order m after → OrderedFrom order last bytes
+    pub goes_ordered : (last : List ℕ) → may_follow order last m ≡ true → OrderedFrom order m after → OrderedFrom order last bytes
     goes_ordered last follows h [] at = tt
     goes_ordered last follows h (n ∷ ms) at =
         let (first, others) = others_at_front m n ms bytes after is element at in

@@ -1,13 +1,14 @@
 -- Strings that are opened.
 use Rattle.std.proofs.Common.{◌≡◌, ◌≢◌, ℕ, ◌+◌, ◌≤◌, ◌<◌, ◌^◌, ◌==◌, Bool, true, false, if◌then◌else◌, Option, Some, None, List, [], ◌∷◌, length, take, drop, sym, ap, subst, ◌∙◌, arith, append-nil, take-append-drop, length-take-le}
 use Rattle.std.proofs.Math.Seq.{take-length}
-use Rattle.std.specs.Prelude.{MatchBool}
+use Rattle.std.specs.Prelude.{MatchBool, MatchOption, is_none}
 use Rattle.picky_der_core.specs.Element.{IsElement}
 use Rattle.der_show.specs.declared.header.Header.{Header}
 use Rattle.der_show.specs.declared.rule.Rule.{Rule}
 use Rattle.der_show.specs.declared.options.ShowOptions.{ShowOptions}
 use Rattle.der_show.specs.Headers.{HasHeader, BreaksHeader}
-use Rattle.der_show.specs.Outlines.{IsFound, AreElements}
+use Rattle.der_show.specs.declared.outline.Complaint.{Complaint}
+use Rattle.der_show.specs.Outlines.{IsFound, AreElements, IsComplaint}
 use Rattle.der_show.specs.Openings.{Opens, IsOneInDer, whole_bytes}
 use Rattle.der_show.specs.Entries.{content_of}
 use Rattle.der_show.proofs.HeaderLemmas.{found, content_found, begins_with, one_element}
@@ -61,6 +62,8 @@ is_one bytes h has all e =
     let (element, fits) = found bytes h has in
     record { one = subst IsElement (ap (λ k. take k bytes) all ∙ take-length bytes) element; in_der = e }
 
-pub one_by_test : (bytes : List ℕ) (h : Header) (b : Bool) → HasHeader bytes h → h.header_len + h.content_len ≡ length bytes → MatchBool b (AreElements bytes) (AreElements bytes → ⊥) → MatchBool b (IsOneInDer bytes) (IsOneInDer bytes → ⊥)
-one_by_test bytes h true has all e = is_one bytes h has all e
-one_by_test bytes h false has all none = λ one. none one.in_der
+pub one_by_complaint : (bytes : List ℕ) (h : Header) (it : Option Complaint) (b : Bool) → HasHeader bytes h → h.header_len + h.content_len ≡ length bytes
+    → MatchOption it (AreElements bytes) (IsComplaint bytes) → b ≡ is_none it → MatchBool b (IsOneInDer bytes) (IsOneInDer bytes → ⊥)
+one_by_complaint bytes h None b has all e same = subst (λ x. MatchBool x (IsOneInDer bytes) (IsOneInDer bytes → ⊥)) (sym same) (is_one bytes h has all e)
+one_by_complaint bytes h (Some c) b has all e same =
+    subst (λ x. MatchBool x (IsOneInDer bytes) (IsOneInDer bytes → ⊥)) (sym same) (λ one. let listed = one.in_der.1 in e.1.none listed.nodes listed.canonical listed.is)

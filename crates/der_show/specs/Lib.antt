@@ -5,7 +5,9 @@ pub mod Nodes
 pub mod Ends
 pub mod Outlines
 pub mod Openings
+pub mod Written
 pub mod Entries
+pub mod Walks
 pub mod Steps
 pub mod Lines
 pub mod Json

@@ -73,5 +73,9 @@ pub record IsRefused (bytes : List ℕ) (es : List Element) (c : Complaint) : Ty
   pub within : innermost (length bytes) ends ≤ length bytes
   pub breaks : Breaks (slice_range bytes c.offset (innermost (length bytes) ends)) c.rule
 
+-- the same, whatever elements are before it
+abbrev pub IsComplaint : List ℕ → Complaint → Type 0
+IsComplaint bytes c = (es : List Element) × IsRefused bytes es c
+
 abbrev pub IsOutline : List ℕ → Outline → Type 0
 IsOutline bytes o = MatchOption o.complaint (IsListed bytes o.elements.items) (IsRefused bytes o.elements.items)

@@ -1,42 +1,40 @@
 //! The contents of elements.
-ghost use Rattle.std.specs.Prelude.{◌≡◌, ◌%◌, ◌^◌, ◌==◌, ◌<◌, IfOk, MatchOption, if◌then◌else◌, Some, None};
+ghost use Rattle.std.specs.Prelude.{◌≡◌, ◌%◌, ◌^◌, ◌==◌, ◌<◌, MatchOption, if◌then◌else◌, Some, None};
 ghost use Rattle.der_show.specs.Contents.{IsContent, BreaksContent, unless, boolean_rule, integer_rule, bit_string_rule, null_rule, primitive_rule, string_rule};
 
 use crate::strings::{is_bmp, is_universal};
 use crate::{Rule, are_in_set_order};
-use der_types::{Contents, GeneralizedTime, ObjectIdentifier, RelativeOid, UtcTime};
+use der_types::{is_generalized_time, is_subidentifiers, is_utc_time};
 use picky_der_core::asn1::Tag;
 use picky_der_core::integer::is_integer;
-use std::alloc::{AllocError, Global};
 
-/// Returns the rule that the content of an element with this tag breaks, or `None`. The only error is a failed allocation.
+/// Returns the rule that the content of an element with this tag breaks, or `None`.
 ///
 /// It checks the contents of the universal types that DER restricts, except REAL and TIME. For strings it checks whether the bytes are
 /// characters, but not which characters the type has.
-pub fn content_rule(alloc: Global, tag: Tag, content: &[u8]) -> Result<Option<Rule>, AllocError>
-    ensures { IfOk result (λ rule. MatchOption rule (IsContent tag content.now)
-        (BreaksContent tag content.now)) }
+pub fn content_rule(tag: Tag, content: &[u8]) -> Option<Rule>
+    ensures { MatchOption result (IsContent tag content.now) (BreaksContent tag content.now) }
 {
     if tag == Tag::SET {
-        return Ok(unless(are_in_set_order(content), Rule::SetOrder));
+        return unless(are_in_set_order(content), Rule::SetOrder);
     }
-    primitive_rule(alloc, tag, content)
+    primitive_rule(tag, content)
 }
 
 // The rule that the content of a primitive element breaks, or `None`.
-fn primitive_rule(alloc: Global, tag: Tag, content: &[u8]) -> Result<Option<Rule>, AllocError>
-    ensures { IfOk result (λ rule. rule ≡ primitive_rule tag content.now) }
+fn primitive_rule(tag: Tag, content: &[u8]) -> Option<Rule>
+    ensures { result ≡ primitive_rule tag content.now }
 {
     match tag.inner() {
-        0x01 => Ok(boolean_rule(content)),
-        0x02 | 0x0A => Ok(integer_rule(content)),
-        0x03 => Ok(bit_string_rule(content)),
-        0x05 => Ok(unless(content.is_empty(), Rule::NullContent)),
-        0x06 => rule_of::<ObjectIdentifier>(alloc, content, Rule::ObjectIdentifier),
-        0x0D => rule_of::<RelativeOid>(alloc, content, Rule::RelativeOid),
-        0x17 => rule_of::<UtcTime>(alloc, content, Rule::UtcTime),
-        0x18 => rule_of::<GeneralizedTime>(alloc, content, Rule::GeneralizedTime),
-        _ => Ok(string_rule(tag, content)),
+        0x01 => boolean_rule(content),
+        0x02 | 0x0A => integer_rule(content),
+        0x03 => bit_string_rule(content),
+        0x05 => unless(content.is_empty(), Rule::NullContent),
+        0x06 => unless(is_subidentifiers(content), Rule::ObjectIdentifier),
+        0x0D => unless(is_subidentifiers(content), Rule::RelativeOid),
+        0x17 => unless(is_utc_time(content), Rule::UtcTime),
+        0x18 => unless(is_generalized_time(content), Rule::GeneralizedTime),
+        _ => string_rule(tag, content),
     }
 }
 
@@ -57,21 +55,6 @@ fn unless(is_kept: bool, rule: Rule) -> Option<Rule>
     ensures { result ≡ unless is_kept rule }
 {
     if is_kept { None } else { Some(rule) }
-}
-
-// The rule, or `None` if the type has a value with this content.
-fn rule_of<T: Contents>(
-    alloc: Global,
-    content: &[u8],
-    rule: Rule,
-) -> Result<Option<Rule>, AllocError>
-    ensures { IfOk result (λ found. found ≡ unless (T.is_content content.now) rule) }
-{
-    let copy = content.to_vec(alloc)?;
-    match T::from_content(copy) {
-        Some(_) => Ok(None),
-        None => Ok(Some(rule)),
-    }
 }
 
 // The rule that a BOOLEAN breaks, or `None`.

@@ -1,5 +1,5 @@
 //! The ends of the elements that are open.
-ghost use Rattle.std.specs.Prelude.{◌≡◌, [], ◌∷◌, length, take, reverse, OnOk};
+ghost use Rattle.std.specs.Prelude.{◌≡◌, ◌≤◌, [], ◌∷◌, length, take, reverse, OnOk};
 ghost use Rattle.der_show.specs.Ends.{innermost, without_reached};
 
 use std::alloc::{AllocError, Global};
@@ -64,8 +64,9 @@ impl Ends {
 }
 
 // How many ends remain when the last ones that are at this offset are removed.
-fn depth_at(ends: &[usize], offset: usize) -> usize
-    ensures { reverse (take result ends.now) ≡ without_reached offset (reverse ends.now) }
+pub(crate) fn depth_at(ends: &[usize], offset: usize) -> usize
+    ensures kept { reverse (take result ends.now) ≡ without_reached offset (reverse ends.now) }
+    ensures within { result ≤ length ends.now }
 {
     let mut depth = ends.len();
     while depth > 0 && ends[depth - 1] == offset {

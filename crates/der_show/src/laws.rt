@@ -2,7 +2,8 @@
 ghost use Rattle.picky_der_core.specs.Equality.{IsKept};
 
 use crate::{
-    Cause, Complaint, Element, Entry, Header, LineForm, Reason, Rule, ShowOptions, Shown, Source,
+    Cause, Complaint, Element, Entry, Front, Header, LineForm, Next, Place, Reason, Rule,
+    ShowOptions, Shown, Source,
 };
 
 /// A copy is the same.
@@ -10,6 +11,9 @@ pub fn copies()
     ensures header { IsKept ⟦<Header as Clone>⟧.is_clone (λ it. it) }
     ensures element { IsKept ⟦<Element as Clone>⟧.is_clone (λ it. it) }
     ensures rule { IsKept ⟦<Rule as Clone>⟧.is_clone (λ it. it) }
+    ensures front { IsKept ⟦<Front as Clone>⟧.is_clone (λ it. it) }
+    ensures place { IsKept ⟦<Place as Clone>⟧.is_clone (λ it. it) }
+    ensures next { IsKept ⟦<Next as Clone>⟧.is_clone (λ it. it) }
     ensures complaint { IsKept ⟦<Complaint as Clone>⟧.is_clone (λ it. it) }
     ensures entry { IsKept ⟦<Entry as Clone>⟧.is_clone (λ it. it) }
     ensures cause { IsKept ⟦<Cause as Clone>⟧.is_clone (λ it. it) }

@@ -26,6 +26,8 @@ mod strings;
 mod text;
 mod type_name;
 mod value;
+mod walk;
+pub mod written;
 
 pub use content::content_rule;
 pub use element::Element;
@@ -36,6 +38,7 @@ pub use listing::{Shown, show, show_as};
 pub use members::are_in_set_order;
 pub use object_identifier::push_object_identifier;
 pub use options::{LineForm, ShowOptions, Source};
-pub use outline::{Complaint, Outline, outline_of};
+pub use outline::{Complaint, Front, Outline, complaint_of, front_of, outline_of};
 pub use reason::{Cause, Reason, reason_of};
 pub use rule::Rule;
+pub use walk::{Next, Place, next_element};

@@ -3,8 +3,7 @@ ghost use Rattle.std.specs.Prelude.{◌≡◌, ℕ, IfOk, MatchBool, MatchOption
 ghost use Rattle.std.specs.Option.{option_map};
 ghost use Rattle.der_show.specs.Openings.{held, IsOneInDer, Opens};
 
-use crate::outline::is_der;
-use crate::{ShowOptions, header_of};
+use crate::{ShowOptions, complaint_of, header_of};
 use picky_der_core::asn1::Tag;
 use std::alloc::{AllocError, Global};
 
@@ -53,5 +52,5 @@ fn is_one_in_der(alloc: Global, bytes: &[u8]) -> Result<bool, AllocError>
     if header.header_len + header.content_len != bytes.len() {
         return Ok(false);
     }
-    is_der(alloc, bytes)
+    Ok(complaint_of(alloc, bytes)?.is_none())
 }

@@ -1,7 +1,7 @@
 //! Goes from element to element.
-ghost use Rattle.std.specs.Prelude.{◌≡◌, ◌+◌, ◌^◌, ◌<◌, IfOk, OnOk, MatchBool};
+ghost use Rattle.std.specs.Prelude.{◌≡◌, ◌+◌, ◌^◌, ◌<◌, IfOk, OnOk, MatchOption};
 ghost use Rattle.der_show.specs.Ends.{next_offset, next_ends};
-ghost use Rattle.der_show.specs.Outlines.{IsFront, IsOutline, AreElements};
+ghost use Rattle.der_show.specs.Outlines.{IsFront, IsOutline, AreElements, IsComplaint};
 
 use crate::ends::Ends;
 use crate::{Element, Header, Rule, content_rule, form_rule, header_of};
@@ -35,7 +35,7 @@ pub fn outline_of(alloc: Global, bytes: &[u8]) -> Result<Outline, AllocError>
     let mut offset = 0;
     while offset < len {
         let end = ends.innermost(len);
-        let header = match front_of(alloc, &bytes[offset..end])? {
+        let header = match front_of(&bytes[offset..end]) {
             Front::Element(header) => header,
             Front::Broken(rule) => {
                 return Ok(Outline {
@@ -59,47 +59,48 @@ pub fn outline_of(alloc: Global, bytes: &[u8]) -> Result<Outline, AllocError>
     })
 }
 
-// Returns whether the bytes are elements in DER and nothing else.
-pub(crate) fn is_der(alloc: Global, bytes: &[u8]) -> Result<bool, AllocError>
-    ensures { IfOk result (λ is. MatchBool is (AreElements bytes.now) (AreElements bytes.now → ⊥)) }
+/// Returns the first rule that the elements of bytes break, at any depth, or `None` if the bytes are elements in DER and nothing else. The only
+/// error is a failed allocation.
+pub fn complaint_of(alloc: Global, bytes: &[u8]) -> Result<Option<Complaint>, AllocError>
+    ensures { IfOk result (λ it. MatchOption it (AreElements bytes.now) (IsComplaint bytes.now)) }
 {
     let len = bytes.len();
     let mut ends = Ends::new(alloc);
     let mut offset = 0;
     while offset < len {
         let end = ends.innermost(len);
-        match front_of(alloc, &bytes[offset..end])? {
+        match front_of(&bytes[offset..end]) {
             Front::Element(header) => offset = go_on(&mut ends, offset, header)?,
-            Front::Broken(_) => return Ok(false),
+            Front::Broken(rule) => return Ok(Some(Complaint { offset, rule })),
         }
     }
-    Ok(true)
+    Ok(None)
 }
 
-// What is at the front of bytes.
-#[derive(Clone, Copy)]
-pub(crate) enum Front {
-    // An element in DER, with this header.
+/// What is at the front of bytes.
+#[derive(Debug, Clone, Copy, PartialEq, Eq)]
+pub enum Front {
+    /// An element whose tag, length and content are in DER, with this header. The elements in it aren't looked at.
     Element(Header),
-    // An element that breaks this rule.
+    /// An element that breaks this rule.
     Broken(Rule),
 }
 
-// What is at the front of the bytes. They end where the element around it ends.
-pub(crate) fn front_of(alloc: Global, bytes: &[u8]) -> Result<Front, AllocError>
-    ensures { IfOk result (IsFront bytes.now) }
+/// Returns what is at the front of bytes, which end where the element around it ends.
+pub fn front_of(bytes: &[u8]) -> Front
+    ensures { IsFront bytes.now result }
 {
     let header = match header_of(bytes) {
         Ok(header) => header,
-        Err(rule) => return Ok(Front::Broken(rule)),
+        Err(rule) => return Front::Broken(rule),
     };
     if let Some(rule) = form_rule(header.tag) {
-        return Ok(Front::Broken(rule));
+        return Front::Broken(rule);
     }
     let content = &bytes[header.header_len..header.header_len + header.content_len];
-    match content_rule(alloc, header.tag, content)? {
-        Some(rule) => Ok(Front::Broken(rule)),
-        None => Ok(Front::Element(header)),
+    match content_rule(header.tag, content) {
+        Some(rule) => Front::Broken(rule),
+        None => Front::Element(header),
     }
 }
 

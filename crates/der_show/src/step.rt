@@ -46,7 +46,7 @@ pub(crate) fn step_at(
 ) -> Result<Step, AllocError>
     ensures { IfOk result (IsStep options.now depth ahead.now) }
 {
-    let rule = match front_of(alloc, ahead)? {
+    let rule = match front_of(ahead) {
         Front::Element(header) => {
             let content = &ahead[header.header_len..header.header_len + header.content_len];
             let opening = opening_of(alloc, options, depth, header.tag, content)?;

@@ -135,13 +135,16 @@ impl Notated for SingleResponse {
 impl Exact for SingleResponse {
     ghost values = { struct_values ⟦<SingleResponseParts as ExactMembers>⟧.all_values ⟦<SingleResponseParts as NotatedMembers>⟧.members_notation
         ⟦<SingleResponseParts as SerializeMembers>⟧.members ⟦<Self as Struct>⟧.parts
-        (λ m. (record {
-          cert_id = m.0;
-          cert_status = m.1;
-          this_update = m.2;
-          next_update = m.3.0;
-          single_extensions = m.4.0;
-        }, refl {a = m})) };
+        (λ m. (
+          record {
+            cert_id = m.0;
+            cert_status = m.1;
+            this_update = m.2;
+            next_update = m.3.0;
+            single_extensions = m.4.0;
+          },
+          refl {a = m},
+        )) };
 
     ghost exact = { Prim.assumption };
 }

@@ -271,13 +271,13 @@ impl Exact for OcspResponseStatus {
         variants.SigRequired ∷
         variants.Unauthorized ∷
         []) ocsp_response_status_number (elim [
-      | variants.Successful ↦ record { listed = refl; small = refl }
-      | variants.MalformedRequest ↦ record { listed = refl; small = refl }
-      | variants.InternalError ↦ record { listed = refl; small = refl }
-      | variants.TryLater ↦ record { listed = refl; small = refl }
-      | variants.SigRequired ↦ record { listed = refl; small = refl }
-      | variants.Unauthorized ↦ record { listed = refl; small = refl }
-    ]) };
+          | variants.Successful ↦ record { listed = refl; small = refl }
+          | variants.MalformedRequest ↦ record { listed = refl; small = refl }
+          | variants.InternalError ↦ record { listed = refl; small = refl }
+          | variants.TryLater ↦ record { listed = refl; small = refl }
+          | variants.SigRequired ↦ record { listed = refl; small = refl }
+          | variants.Unauthorized ↦ record { listed = refl; small = refl }
+        ]) };
 
     ghost exact = { Prim.assumption };
 }
@@ -464,12 +464,15 @@ impl Notated for BasicOcspResponse {
 impl Exact for BasicOcspResponse {
     ghost values = { struct_values ⟦<BasicOcspResponseParts as ExactMembers>⟧.all_values ⟦<BasicOcspResponseParts as NotatedMembers>⟧.members_notation
         ⟦<BasicOcspResponseParts as SerializeMembers>⟧.members ⟦<Self as Struct>⟧.parts
-        (λ m. (record {
-          tbs_response_data = m.0;
-          signature_algorithm = m.1;
-          signature = m.2;
-          certs = m.3.0;
-        }, refl {a = m})) };
+        (λ m. (
+          record {
+            tbs_response_data = m.0;
+            signature_algorithm = m.1;
+            signature = m.2;
+            certs = m.3.0;
+          },
+          refl {a = m},
+        )) };
 
     ghost exact = { Prim.assumption };
 }
@@ -588,13 +591,16 @@ impl Notated for ResponseData {
 impl Exact for ResponseData {
     ghost values = { struct_values ⟦<ResponseDataParts as ExactMembers>⟧.all_values ⟦<ResponseDataParts as NotatedMembers>⟧.members_notation
         ⟦<ResponseDataParts as SerializeMembers>⟧.members ⟦<Self as Struct>⟧.parts
-        (λ m. (record {
-          version = m.0.0;
-          responder_id = m.1;
-          produced_at = m.2;
-          responses = m.3;
-          response_extensions = m.4.0;
-        }, refl {a = m})) };
+        (λ m. (
+          record {
+            version = m.0.0;
+            responder_id = m.1;
+            produced_at = m.2;
+            responses = m.3;
+            response_extensions = m.4.0;
+          },
+          refl {a = m},
+        )) };
 
     ghost exact = { Prim.assumption };
 }

@@ -199,12 +199,15 @@ impl Notated for TbsRequest {
 impl Exact for TbsRequest {
     ghost values = { struct_values ⟦<TbsRequestParts as ExactMembers>⟧.all_values ⟦<TbsRequestParts as NotatedMembers>⟧.members_notation
         ⟦<TbsRequestParts as SerializeMembers>⟧.members ⟦<Self as Struct>⟧.parts
-        (λ m. (record {
-          version = m.0.0;
-          requestor_name = m.1.0;
-          request_list = m.2;
-          request_extensions = m.3.0;
-        }, refl {a = m})) };
+        (λ m. (
+          record {
+            version = m.0.0;
+            requestor_name = m.1.0;
+            request_list = m.2;
+            request_extensions = m.3.0;
+          },
+          refl {a = m},
+        )) };
 
     ghost exact = { Prim.assumption };
 }
@@ -485,12 +488,15 @@ impl Notated for CertId {
 impl Exact for CertId {
     ghost values = { struct_values ⟦<CertIdParts as ExactMembers>⟧.all_values ⟦<CertIdParts as NotatedMembers>⟧.members_notation
         ⟦<CertIdParts as SerializeMembers>⟧.members ⟦<Self as Struct>⟧.parts
-        (λ m. (record {
-          hash_algorithm = m.0;
-          issuer_name_hash = m.1;
-          issuer_key_hash = m.2;
-          serial_number = m.3;
-        }, refl {a = m})) };
+        (λ m. (
+          record {
+            hash_algorithm = m.0;
+            issuer_name_hash = m.1;
+            issuer_key_hash = m.2;
+            serial_number = m.3;
+          },
+          refl {a = m},
+        )) };
 
     ghost exact = { Prim.assumption };
 }

@@ -136,14 +136,17 @@ impl Notated for TimeStampReq {
 impl Exact for TimeStampReq {
     ghost values = { struct_values ⟦<TimeStampReqParts as ExactMembers>⟧.all_values ⟦<TimeStampReqParts as NotatedMembers>⟧.members_notation
         ⟦<TimeStampReqParts as SerializeMembers>⟧.members ⟦<Self as Struct>⟧.parts
-        (λ m. (record {
-          version = m.0;
-          message_imprint = m.1;
-          req_policy = m.2.0;
-          nonce = m.3.0;
-          cert_req = m.4.value;
-          extensions = m.5.0;
-        }, refl {a = m})) };
+        (λ m. (
+          record {
+            version = m.0;
+            message_imprint = m.1;
+            req_policy = m.2.0;
+            nonce = m.3.0;
+            cert_req = m.4.value;
+            extensions = m.5.0;
+          },
+          refl {a = m},
+        )) };
 
     ghost exact = { Prim.assumption };
 }
@@ -569,18 +572,21 @@ impl Notated for TstInfo {
 impl Exact for TstInfo {
     ghost values = { struct_values ⟦<TstInfoParts as ExactMembers>⟧.all_values ⟦<TstInfoParts as NotatedMembers>⟧.members_notation
         ⟦<TstInfoParts as SerializeMembers>⟧.members ⟦<Self as Struct>⟧.parts
-        (λ m. (record {
-          version = m.0;
-          policy = m.1;
-          message_imprint = m.2;
-          serial_number = m.3;
-          gen_time = m.4;
-          accuracy = m.5.0;
-          ordering = m.6.value;
-          nonce = m.7.0;
-          tsa = m.8.0.0;
-          extensions = m.8.1.0;
-        }, refl {a = m})) };
+        (λ m. (
+          record {
+            version = m.0;
+            policy = m.1;
+            message_imprint = m.2;
+            serial_number = m.3;
+            gen_time = m.4;
+            accuracy = m.5.0;
+            ordering = m.6.value;
+            nonce = m.7.0;
+            tsa = m.8.0.0;
+            extensions = m.8.1.0;
+          },
+          refl {a = m},
+        )) };
 
     ghost exact = { Prim.assumption };
 }

@@ -81,7 +81,9 @@ pub use restricted_string::{
 };
 pub use set::{Asn1Set, ImplicitSet, TagOrdered};
 pub use size::Size;
+pub use subidentifiers::is_subidentifiers;
 pub use time::Time;
+pub use time_contents::{is_generalized_time, is_utc_time};
 pub use utc_time::UtcTime;
 pub use whole_number::WholeNumber;
 pub use width::Width;

@@ -4,8 +4,9 @@ ghost use Rattle.der_types.specs.Subidentifiers.{marked, subidentifier, subident
 
 use std::alloc::AllocError;
 
-// Whether the bytes are one or more complete numbers, each in the fewest bytes.
-pub(crate) fn is_subidentifiers(bytes: &[u8]) -> bool
+/// Returns whether the bytes are one or more complete numbers, each in the fewest bytes (X.690, 8.19.2). The content of an OBJECT IDENTIFIER is
+/// such bytes, and so is that of a RELATIVE-OID.
+pub fn is_subidentifiers(bytes: &[u8]) -> bool
     ensures { result ≡ is_subidentifiers bytes.now }
 {
     let mut is_inside = false;

@@ -69,8 +69,8 @@ pub(crate) fn year_at_first(bytes: &[u8]) -> u16
     u16::from(number_at(bytes, 0)) * 100 + u16::from(number_at(bytes, 2))
 }
 
-/// Whether bytes are the content of a UTCTime (X.690, 11.8).
-pub(crate) fn is_utc_time(bytes: &[u8]) -> bool
+/// Returns whether bytes are the content of a UTCTime (X.690, 11.8).
+pub fn is_utc_time(bytes: &[u8]) -> bool
     ensures { result ≡ is_utc_time bytes.now }
 {
     if bytes.len() != 13 {
@@ -124,8 +124,8 @@ fn is_ended(bytes: &[u8]) -> bool
     bytes[14] == b'.' && bytes[len - 1] == b'Z' && is_fraction(&bytes[15..len - 1])
 }
 
-/// Whether bytes are the content of a GeneralizedTime (X.690, 11.7).
-pub(crate) fn is_generalized_time(bytes: &[u8]) -> bool
+/// Returns whether bytes are the content of a GeneralizedTime (X.690, 11.7).
+pub fn is_generalized_time(bytes: &[u8]) -> bool
     ensures { result ≡ is_generalized_time bytes.now }
 {
     bytes.len() > 14 && are_whole_seconds(bytes) && is_ended(bytes)

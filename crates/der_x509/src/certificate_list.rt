@@ -226,15 +226,18 @@ impl Notated for TbsCertList {
 impl Exact for TbsCertList {
     ghost values = { struct_values ⟦<TbsCertListParts as ExactMembers>⟧.all_values ⟦<TbsCertListParts as NotatedMembers>⟧.members_notation
         ⟦<TbsCertListParts as SerializeMembers>⟧.members ⟦<Self as Struct>⟧.parts
-        (λ m. (record {
-          version = m.0.0;
-          signature = m.1;
-          issuer = m.2;
-          this_update = m.3;
-          next_update = m.4.0;
-          revoked_certificates = m.5.0;
-          crl_extensions = m.6.0;
-        }, refl {a = m})) };
+        (λ m. (
+          record {
+            version = m.0.0;
+            signature = m.1;
+            issuer = m.2;
+            this_update = m.3;
+            next_update = m.4.0;
+            revoked_certificates = m.5.0;
+            crl_extensions = m.6.0;
+          },
+          refl {a = m},
+        )) };
 
     ghost exact = { Prim.assumption };
 }

@@ -273,18 +273,21 @@ impl Notated for TbsCertificate {
 impl Exact for TbsCertificate {
     ghost values = { struct_values ⟦<TbsCertificateParts as ExactMembers>⟧.all_values ⟦<TbsCertificateParts as NotatedMembers>⟧.members_notation
         ⟦<TbsCertificateParts as SerializeMembers>⟧.members ⟦<Self as Struct>⟧.parts
-        (λ m. (record {
-          version = m.0.value;
-          serial_number = m.1;
-          signature = m.2;
-          issuer = m.3;
-          validity = m.4;
-          subject = m.5;
-          subject_public_key_info = m.6;
-          issuer_unique_id = m.7.0;
-          subject_unique_id = m.8.0.0;
-          extensions = m.8.1.0;
-        }, refl {a = m})) };
+        (λ m. (
+          record {
+            version = m.0.value;
+            serial_number = m.1;
+            signature = m.2;
+            issuer = m.3;
+            validity = m.4;
+            subject = m.5;
+            subject_public_key_info = m.6;
+            issuer_unique_id = m.7.0;
+            subject_unique_id = m.8.0.0;
+            extensions = m.8.1.0;
+          },
+          refl {a = m},
+        )) };
 
     ghost exact = { Prim.assumption };
 }

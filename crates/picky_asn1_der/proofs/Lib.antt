@@ -3,3 +3,4 @@ pub mod RawTags
 mod ListContents
 mod RoundTrips
 mod SameEncodings
+pub mod PartLemmas

@@ -28,10 +28,12 @@ pub mod ser {
 mod faithful;
 pub mod implicit_list;
 pub mod later_members;
+pub mod parts;
 pub mod raw_der;
 pub mod round_trip;
 
 pub use later_members::LaterMembers;
+pub use parts::{Signed, from_der_signed, part_range};
 pub use picky_der_core::misc::Length;
 pub use picky_der_core::{Asn1DerError, Result, asn1, laws, misc};
 pub use picky_der_de::{

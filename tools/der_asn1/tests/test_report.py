@@ -14,6 +14,7 @@ from . import module_text
 
 RARE = "REAL, EMBEDDED PDV and CHARACTER STRING"
 BITS = "an IMPLICIT tag over BIT STRING (CONTAINING ..)"
+CONSTRAINED = "a type of its own with `Constrained`"
 OWN = "an enum of its own with numbers of more than a byte"
 
 BODY = """A ::= BOOLEAN
@@ -33,7 +34,7 @@ class Reports(unittest.TestCase):
         self.found = report.report_of(read_text(module_text(BODY), "m.asn1", problems), problems)
 
     def test_a_row_for_each_type(self):
-        wanted = [("A", Level.EXACT), ("B", Level.NEAR), ("C", Level.EXACT), ("D", Level.PARTLY_RAW), ("E", Level.REFUSED), ("G", Level.REFUSED)]
+        wanted = [("A", Level.EXACT), ("B", Level.WIDER), ("C", Level.EXACT), ("D", Level.PARTLY_RAW), ("E", Level.REFUSED), ("G", Level.REFUSED)]
         self.assertEqual(wanted, [(it.name, it.level) for it in self.found.rows])
 
     def test_what_isnt_counted(self):
@@ -41,9 +42,9 @@ class Reports(unittest.TestCase):
 
     def test_the_table(self):
         first, module, total = report.table(self.found)
-        self.assertEqual("types exact near open partly raw raw refused".split(), first.split())
-        self.assertEqual("M 6 2 1 0 1 0 2".split(), module.split())
-        self.assertEqual("in all 6 2 1 0 1 0 2".split(), total.split())
+        self.assertEqual("types exact open by hand wider partly raw raw refused".split(), first.split())
+        self.assertEqual("M 6 2 0 0 1 1 0 2".split(), module.split())
+        self.assertEqual("in all 6 2 0 0 1 1 0 2".split(), total.split())
 
     def test_the_greedy_list(self):
         self.assertEqual(["2", "3", "4", "5"], [it.split()[0] for it in report.greedy(self.found)])
@@ -92,12 +93,12 @@ class Command(unittest.TestCase):
     def test_a_module(self):
         status, out, err = self.run_on({"m.asn1": module_text("T ::= NULL")}, "--report")
         self.assertEqual((0, ""), (status, err))
-        self.assertIn("1 of 1 (100.0 %) exact\n", out)
+        self.assertIn("1 of 1 (100.0 %) types exact and written\n", out)
 
     def test_an_error_has_its_place(self):
         status, out, err = self.run_on({"m.asn1": module_text("T ::= 5\nU ::= NULL")}, "--report")
         self.assertEqual((1, "m.asn1:2:7: error: expected a type, found `5` (X.680, 17.1)\n"), (status, err))
-        self.assertIn("1 of 2 (50.0 %) exact\n", out)
+        self.assertIn("1 of 2 (50.0 %) types exact and written\n", out)
 
     def test_a_file_that_cant_be_read_on(self):
         status, _, err = self.run_on({"m.asn1": "M"}, "--report")
@@ -115,7 +116,7 @@ class Command(unittest.TestCase):
             "n.asn1": "N DEFINITIONS ::= BEGIN U ::= NULL V ::= CHARACTER STRING END",
         }
         _, out, _ = self.run_on(texts, "--report", "--import", "{folder}/n.asn1")
-        self.assertIn("1 of 1 (100.0 %) exact\n", out)
+        self.assertIn("1 of 1 (100.0 %) types exact and written\n", out)
 
     def test_types(self):
         _, out, _ = self.run_on({"m.asn1": module_text("T ::= NULL")}, "--report", "--types")
@@ -164,17 +165,57 @@ class Command(unittest.TestCase):
 
     def test_what_a_crate_refuses(self):
         for notation, options, wanted in (
-            ("T ::= CHARACTER STRING", [], f"2:1: error: `T` would be kept as bytes, or a part of it: {RARE}. `--allow-raw` allows it"),
-            ("T ::= [1] IMPLICIT BIT STRING (CONTAINING NULL)", ["--strict"], f"2:1: error: `T` would be kept as bytes, or a part of it: {BITS}. `--allow-raw` allows it"),
-            ("T ::= ENUMERATED { a(128) }", [], f"2:1: error: `T` would have more values than the notation: {OWN}. `--allow-wider` allows it"),
+            ("T ::= CHARACTER STRING", [], f"2:1: error: `T` would be kept as bytes: {RARE}; 1 type contains it. `--allow-raw T` allows it"),
+            ("T ::= [1] IMPLICIT BIT STRING (CONTAINING NULL)", ["--strict"], f"2:1: error: `T` would be kept as bytes: {BITS}; 1 type contains it. `--allow-raw T` allows it"),
+            ("T ::= ENUMERATED { a(128) }", [], f"2:1: error: `T` would have other values than the notation: {OWN}; 1 type contains it. `--allow-wider T` allows it"),
             ("T ::= [31] NULL", [], "2:1: error: `T` has no type: tags with a number above 30"),
             ("T ::= NULL", ["--type", "U"], "1:1: error: no module has a type `U`"),
-            ("T ::= SEQUENCE { " + ", ".join(f"a{it} [{it % 30}] NULL" for it in range(33)) + " }", [], "2:7: error: `T` has more than 32 members"),
+            ("T ::= SEQUENCE { " + ", ".join(f"a{it} [{it % 30}] NULL" for it in range(33)) + " }", [], "2:1: error: `T` would be kept as bytes: a struct of more than 32 members; 1 type contains it. `--allow-raw T` allows it"),
         ):
             with self.subTest(notation), tempfile.TemporaryDirectory() as folder:
                 status, _, err = self.run_on({"m.asn1": module_text(notation)}, "--out", folder, *options)
                 self.assertEqual((1, f"m.asn1:{wanted}"), (status, err.rsplit(" (", 1)[0]))
                 self.assertEqual([], os.listdir(folder))
+
+    def test_one_error_for_each_cause(self):
+        """The member is named, and all types that contain it are counted."""
+        texts = {"m.asn1": module_text("T ::= SEQUENCE { a INTEGER (-5..5), b Missing }\nU ::= SEQUENCE { a T, b Missing }\nV ::= U")}
+        with tempfile.TemporaryDirectory() as folder:
+            status, _, err = self.run_on(texts, "--out", folder)
+            wanted = f"`a` of `T` would have other values than the notation: {CONSTRAINED}; 3 types contain it. `--allow-wider T` allows it"
+            self.assertEqual(
+                (1, [f"m.asn1:2:18: error: {wanted} (docs/ASN1.md)", "m.asn1:2:39: error: `Missing` isn't defined; 3 types contain it (X.680, 14.1)"]),
+                (status, err.splitlines()),
+            )
+
+    def test_what_is_allowed_for_one_type(self):
+        texts = {"m.asn1": module_text("T ::= SEQUENCE { a INTEGER (-5..5) }\nU ::= SEQUENCE { a T, b INTEGER (-7..7) }")}
+        for words, wanted in ((["T"], [3]), (["U"], [2]), (["T,U"], []), (["T", "--allow-wider", "U"], []), ([], [])):
+            with self.subTest(words), tempfile.TemporaryDirectory() as folder:
+                status, _, err = self.run_on(texts, "--out", folder, "--allow-wider", *words)
+                self.assertEqual((bool(wanted), wanted), (bool(status), [int(it.split(":")[1]) for it in err.splitlines()]))
+
+    def test_a_module_that_isnt_given(self):
+        texts = {"m.asn1": "M DEFINITIONS ::= BEGIN\nIMPORTS N1 FROM N;\nT ::= SEQUENCE { a N1 }\nU ::= SEQUENCE OF N1\nEND"}
+        with tempfile.TemporaryDirectory() as folder:
+            _, _, err = self.run_on(texts, "--out", folder)
+            wanted = "`N1` would be kept as bytes: a module that isn't given; 2 types contain it. `--allow-raw N1` allows it"
+            self.assertEqual([f"m.asn1:2:9: error: {wanted} (docs/ASN1.md)"], err.splitlines())
+            self.assertEqual(0, self.run_on(texts, "--out", folder, "--allow-raw", "N1")[0])
+
+    def test_what_isnt_supported_is_defined(self):
+        texts = {"m.asn1": module_text("T ::= DATE\nU ::= SEQUENCE { a V }\nV ::= 5")}
+        _, out, err = self.run_on(texts, "--report", "--types")
+        self.assertEqual(["m.asn1:4:7: error: expected a type, found `5` (X.680, 17.1)"], err.splitlines())
+        self.assertIn("M.T: raw, T; TIME, DATE, TIME-OF-DAY", out)
+        self.assertIn("M.U: partly raw, U; a type whose notation isn't read\n", out)
+
+    def test_what_the_report_calls_exact_is_written(self):
+        """A range below zero is exact by hand alone, and so is what contains it."""
+        _, out, _ = self.run_on({"m.asn1": module_text("T ::= SEQUENCE { a U, b NULL }\nU ::= INTEGER (-5..5)\nV ::= NULL")}, "--report")
+        self.assertIn("0 of 1 (0.0 %) modules written without a flag\n1 of 3 (33.3 %) types written without a flag\n", out)
+        self.assertIn("1 of 3 (33.3 %) types exact and written\n", out)
+        self.assertIn("2 of 3 (66.7 %) types exact only with types by hand", out)
 
     def test_what_a_crate_allows(self):
         raw, wider = ("T ::= CHARACTER STRING", "--allow-raw", "TaggedBytes<0x3D>"), ("T ::= ENUMERATED { a(128) }", "--allow-wider", "Enumerated")

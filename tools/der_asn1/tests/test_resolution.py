@@ -2,6 +2,7 @@
 import unittest
 
 from .. import tree
+from ..features import Level
 from ..intervals import ALL, INFINITY, Intervals
 from ..members import members_of
 from ..objects import class_named, set_named
@@ -45,7 +46,7 @@ class Names(unittest.TestCase):
 
     def test_two_assignments_of_a_name(self):
         one = given("T ::= NULL\nT ::= BOOLEAN")
-        self.assertEqual(["0.asn1:3:1: warning: `T` is assigned at 2:1 too, which is used (X.680, 13.10)"], [str(it) for it in one.problems.found])
+        self.assertEqual(["0.asn1:3:1: error: `T` is assigned at 2:1 too, which is used (X.680, 13.10)"], [str(it) for it in one.problems.found])
 
     def test_arguments_that_are_missing(self):
         one = given("T { A } ::= SEQUENCE { a A }\nU ::= T { NULL, NULL }\nV ::= T")
@@ -116,7 +117,7 @@ class Enumerations(unittest.TestCase):
         one = given("T ::= ENUMERATED { a(1), b(1) }")
         one.meaning("T")
         said = [str(it) for it in one.problems.found]
-        self.assertEqual(["0.asn1:2:7: error: two items of the enumeration have the same number (X.680, 20.3)"], said)
+        self.assertEqual(["0.asn1:2:26: error: `b` has the number 1, as `a` has at 2:20 (X.680, 20.3)"], said)
 
 
 class Members(unittest.TestCase):
@@ -153,9 +154,7 @@ class Members(unittest.TestCase):
     def test_components_of_no_sequence(self):
         with self.assertRaises(NotationError) as caught:
             self.members("T ::= SEQUENCE { COMPONENTS OF NULL }")
-        self.assertEqual(
-            "0.asn1:2:18: error: COMPONENTS OF a type that isn't a SEQUENCE or SET that is given (X.680, 25.5)", str(caught.exception.problem)
-        )
+        self.assertEqual("0.asn1:2:18: error: COMPONENTS OF a type that isn't a SEQUENCE or SET (X.680, 25.5)", str(caught.exception.problem))
 
 
 class Tags(unittest.TestCase):
@@ -290,4 +289,4 @@ class Kinds(unittest.TestCase):
     def test_a_set_of_values_is_a_type(self):
         one = given("S INTEGER ::= { 1 | 2 }\nT ::= S")
         self.assertIsInstance(one.assignment("S")[0], tree.SetAssignment)
-        self.assertEqual(0, one.meaning("T").level)
+        self.assertEqual(Level.BY_HAND, one.meaning("T").level)

@@ -2,7 +2,7 @@
 import unittest
 
 from ..emit_notation import defined
-from ..terms import definition
+from ..emit_terms import definition
 from . import Given, given, module_text
 from .test_emit import crate_of
 

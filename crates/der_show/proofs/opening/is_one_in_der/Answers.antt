@@ -1,7 +1,6 @@
-use Rattle.std.proofs.Common.{arith}
+use Rattle.std.proofs.Common.{arith, rules}
 use Rattle.der_show.proofs.HeaderLemmas.{found}
-use Rattle.der_show.proofs.OpeningLemmas.{not_one_broken, not_one_longer, one_by_test}
-use Rattle.der_show.proofs.Texts.{if_ok}
+use Rattle.der_show.proofs.OpeningLemmas.{not_one_broken, not_one_longer, one_by_complaint}
 use Rattle.der_show.proofs.opening.is_one_in_der.Goals as goal
 
 pub returns-in-Err : goal.returns-in-Err
@@ -14,4 +13,4 @@ pub returns-then-header-bytes : goal.returns-then-header-bytes
 returns-then-header-bytes c = not_one_longer c.args.bytes.now c.in-Ok.header c.in-Ok.ensures.ok c.if-header-bytes.true
 
 pub returns : goal.returns
-returns c = if_ok c.is_der.result (λ is e. one_by_test c.args.bytes.now c.in-Ok.header is c.in-Ok.ensures.ok c.if-header-bytes.false e) c.is_der.ensures
+returns c = one_by_complaint c.args.bytes.now c.in-Ok.header c.in_ok-complaint_of.field-0 c.is_none.result c.in-Ok.ensures.ok c.if-header-bytes.false c.in_ok-complaint_of.ensures (search (rules, c.is_none.ensures))

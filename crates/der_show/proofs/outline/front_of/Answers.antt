@@ -15,8 +15,8 @@ overflow_add-content c = omega (arith, header_within c.args.bytes.now c.in-Ok.he
 pub slice_bounds-content-end : goal.slice_bounds-content-end
 slice_bounds-content-end c = omega (arith, header_within c.args.bytes.now c.in-Ok.header c.in-Ok.ensures.ok)
 
-pub returns-in-Some-2 : goal.returns-in-Some-2
-returns-in-Some-2 c = content_broken c.args.bytes.now c.in-Ok.header c.in-Ok.ensures.ok _ (rw c.in-Some-2.is at c.in_ok-rule.ensures)
+pub returns-in-Some-content_rule : goal.returns-in-Some-content_rule
+returns-in-Some-content_rule c = content_broken c.args.bytes.now c.in-Ok.header c.in-Ok.ensures.ok _ (rw c.in-Some-content_rule.is at c.content_rule.ensures)
 
 pub returns-in-None : goal.returns-in-None
-returns-in-None c = front_found c.args.bytes.now c.in-Ok.header c.in-Ok.ensures.ok (sym c.form_rule.ensures ∙ c.in_default.is) (rw c.in-None.is at c.in_ok-rule.ensures)
+returns-in-None c = front_found c.args.bytes.now c.in-Ok.header c.in-Ok.ensures.ok (sym c.form_rule.ensures ∙ c.in_default.is) (rw c.in-None.is at c.content_rule.ensures)

@@ -16,14 +16,14 @@ slice_bounds-front_of-end c =
 pub returns-in-Broken : goal.returns-in-Broken
 returns-in-Broken c =
     let small : length c.args.bytes.now < 2 ^ 64 = omega arith in
-    let broken = rw c.in-Broken.is at c.in_ok-header.ensures in
+    let broken = rw c.in-Broken.is at c.front_of.ensures in
     walk_refused c.args.bytes.now c.loop-offset.ends c.loop-offset.offset c.loop-offset.elements.items c.in-Broken.rule c.loop-offset.invariant.walks c.loop-offset.invariant.before c.loop-offset-test.true small
     (subst (λ k. Breaks (slice_range c.args.bytes.now c.loop-offset.offset k) c.in-Broken.rule) c.innermost-end.ensures broken)
 
 pub go_on-requires : goal.go_on-requires
 go_on-requires c =
     let small : length c.args.bytes.now < 2 ^ 64 = omega arith in
-    let found = rw c.in-Element.is at c.in_ok-header.ensures in
+    let found = rw c.in-Element.is at c.front_of.ensures in
     omega (
       arith,
       found_within c.args.bytes.now c.loop-offset.ends c.loop-offset.offset c.loop-offset.elements.items c.in-Element.header c.loop-offset.invariant.walks c.loop-offset-test.true
@@ -32,7 +32,7 @@ go_on-requires c =
 
 pub loop-offset-preserved : goal.loop-offset-preserved
 loop-offset-preserved c =
-    let found = subst (λ k. IsFound (slice_range c.args.bytes.now c.loop-offset.offset k) c.in-Element.header) c.innermost-end.ensures (rw c.in-Element.is at c.in_ok-header.ensures) in
+    let found = subst (λ k. IsFound (slice_range c.args.bytes.now c.loop-offset.offset k) c.in-Element.header) c.innermost-end.ensures (rw c.in-Element.is at c.front_of.ensures) in
     rw (c.in_ok-offset.ensures.ends, c.in_ok-offset.ensures.offset, c.in_ok-push.ensures.items, c.depth.ensures)
     (record {
       walks = walk_continues c.args.bytes.now c.loop-offset.ends c.loop-offset.offset c.loop-offset.elements.items c.in-Element.header c.loop-offset.invariant.walks c.loop-offset-test.true found;
@@ -41,7 +41,7 @@ loop-offset-preserved c =
 
 pub loop-offset-smaller : goal.loop-offset-smaller
 loop-offset-smaller c =
-    let found = subst (λ k. IsFound (slice_range c.args.bytes.now c.loop-offset.offset k) c.in-Element.header) c.innermost-end.ensures (rw c.in-Element.is at c.in_ok-header.ensures) in
+    let found = subst (λ k. IsFound (slice_range c.args.bytes.now c.loop-offset.offset k) c.in-Element.header) c.innermost-end.ensures (rw c.in-Element.is at c.front_of.ensures) in
     omega (
       arith,
       c.in_ok-offset.ensures.offset,

@@ -1,0 +1,327 @@
+/* Tests of the library.
+ *
+ *     test_picky_der CASES [time]
+ *
+ * CASES is what bindings/test writes: inputs, each with what `der read` says of it. Each input is in a block of its own of exactly its size,
+ * so that a tool that watches memory sees a read past the end. With `time` the calls are timed, and nothing is tested. */
+#define _POSIX_C_SOURCE 200809L
+#include "picky_der.h"
+
+#include <pthread.h>
+#include <stdio.h>
+#include <stdlib.h>
+#include <string.h>
+#include <time.h>
+
+#ifdef WITH_OPENSSL
+#include <openssl/x509.h>
+#endif
+
+enum { THREADS = 4, DEEPEST = 64 };
+
+/* What is known of an input. */
+enum verdict { CERTIFICATE = 0, READ = 1, REFUSED = 2, UNKNOWN = 3 };
+
+struct input {
+    enum verdict verdict;
+    size_t offset; /* where `der read` refuses it */
+    uint8_t *bytes;
+    size_t len;
+};
+
+static struct input *inputs;
+static size_t input_count;
+
+static void need(int holds, const char *what) {
+    if (!holds) {
+        fprintf(stderr, "test_picky_der: %s\n", what);
+        exit(1);
+    }
+}
+
+static size_t number_in(FILE *file) {
+    uint8_t four[4];
+    need(fread(four, 1, 4, file) == 4, "a number of the cases");
+    return (size_t)four[0] << 24 | (size_t)four[1] << 16 | (size_t)four[2] << 8 | four[3];
+}
+
+static void load(const char *path) {
+    FILE *file = fopen(path, "rb");
+    need(file != NULL, "the file of cases");
+    input_count = number_in(file);
+    inputs = calloc(input_count, sizeof *inputs);
+    for (size_t i = 0; i < input_count; i++) {
+        inputs[i].verdict = (enum verdict)number_in(file);
+        inputs[i].offset = number_in(file);
+        inputs[i].len = number_in(file);
+        inputs[i].bytes = malloc(inputs[i].len + (inputs[i].len == 0));
+        need(fread(inputs[i].bytes, 1, inputs[i].len, file) == inputs[i].len, "the bytes of a case");
+    }
+    fclose(file);
+}
+
+/* ---- elements */
+
+static int same_element(const picky_der_element *a, const picky_der_element *b) {
+    return a->offset == b->offset && a->header_len == b->header_len && a->content_len == b->content_len && a->depth == b->depth &&
+           a->tag == b->tag && a->tag_class == b->tag_class && a->tag_number == b->tag_number && a->is_constructed == b->is_constructed;
+}
+
+/* Goes over the bytes by picky_der_next, and compares with what picky_der_elements gives. */
+static void walk(const uint8_t *bytes, size_t len, const picky_der_element *all, size_t count, picky_der_code end) {
+    picky_der_place place = {0, 0};
+    size_t ends[DEEPEST];
+    picky_der_element element;
+    size_t found = 0;
+    picky_der_code code;
+    while ((code = picky_der_next(bytes, len, &place, ends, DEEPEST, &element)) == PICKY_DER_OK) {
+        need(found < count && same_element(&element, &all[found]), "an element of the walk");
+        found++;
+    }
+    need(found == count, "how many elements the walk comes to");
+    need(code == (end == PICKY_DER_OK ? (picky_der_code)PICKY_DER_END : end), "how the walk ends");
+}
+
+/* The elements of the bytes are the same by each way to them. Returns the code, and the position through the pointer. */
+static picky_der_code list(const uint8_t *bytes, size_t len, size_t *position) {
+    size_t count = 99, again = 99;
+    picky_der_element none;
+    picky_der_code code = picky_der_elements(bytes, len, &none, 0, &count, position);
+    need(*position <= len, "a position of the elements");
+    picky_der_element *all = malloc((count + 1) * sizeof *all);
+    memset(&all[count], 0xA5, sizeof *all);
+    need(picky_der_elements(bytes, len, all, count + 1, &again, position) == code && again == count, "the elements with room");
+    for (const uint8_t *byte = (const uint8_t *)&all[count]; byte < (const uint8_t *)&all[count + 1]; byte++)
+        need(*byte == 0xA5, "the place after the last element");
+    for (size_t i = 0; i < count; i++) {
+        picky_der_element front;
+        need(all[i].tag == bytes[all[i].offset], "a tag");
+        need(picky_der_front(bytes + all[i].offset, len - all[i].offset, &front) == PICKY_DER_OK, "an element at the front");
+        front.offset = all[i].offset;
+        front.depth = all[i].depth;
+        need(same_element(&front, &all[i]), "the same element at the front");
+    }
+    walk(bytes, len, all, count, code);
+    free(all);
+    return code;
+}
+
+/* ---- checks */
+
+static void certificate(const struct input *it) {
+    size_t position = 99;
+    need(picky_der_check_certificate(it->bytes, it->len, &position) == PICKY_DER_OK && position == it->len, "a certificate is one");
+    need(picky_der_check(PICKY_DER_TYPE_CERTIFICATE, it->bytes, it->len, &position) == PICKY_DER_OK, "by its number too");
+    need(picky_der_check_crl(it->bytes, it->len, &position) != PICKY_DER_OK, "it is no list of revoked ones");
+    need(picky_der_check(0, it->bytes, it->len, &position) == PICKY_DER_UNKNOWN_TYPE && position == 0, "no type has the number 0");
+    need(list(it->bytes, it->len, &position) == PICKY_DER_OK && position == it->len, "its elements are in DER");
+
+    uint8_t *more = malloc(it->len + 1);
+    memcpy(more, it->bytes, it->len);
+    more[it->len] = 0;
+    need(picky_der_check_certificate(more, it->len + 1, &position) == PICKY_DER_INVALID && position == it->len, "a byte after it");
+    free(more);
+    for (size_t cut = 0; cut < it->len; cut += 31) {
+        uint8_t *part = malloc(cut + (cut == 0));
+        memcpy(part, it->bytes, cut);
+        need(picky_der_check_certificate(part, cut, &position) == PICKY_DER_TRUNCATED && position <= cut, "a part of it");
+        free(part);
+    }
+}
+
+/* What the check says of an input is what `der read` and `der show` say. */
+static void changed(const struct input *it) {
+    size_t position = 99, broken = 99;
+    picky_der_code code = picky_der_check_certificate(it->bytes, it->len, &position);
+    picky_der_code rule = list(it->bytes, it->len, &broken);
+    need(position <= it->len && code != PICKY_DER_NO_MEMORY, "a position of a check");
+    need(code != PICKY_DER_OK || rule == PICKY_DER_OK, "what is accepted is in DER");
+    need(code < 100 || (code == rule && position == broken), "the rule of a check");
+    if (it->verdict == UNKNOWN)
+        return;
+    need((it->verdict == READ) == (code == PICKY_DER_OK || code > 100), "the verdict of der read");
+    if (it->verdict == REFUSED && rule != PICKY_DER_OK)
+        need(it->offset == broken, "the offset of der read");
+}
+
+static void *run(void *unused) {
+    (void)unused;
+    for (size_t i = 0; i < input_count; i++)
+        (inputs[i].verdict == CERTIFICATE ? certificate : changed)(&inputs[i]);
+    return NULL;
+}
+
+/* ---- places and ends that are none */
+
+static void places(void) {
+    const uint8_t bytes[] = {0x30, 0x04, 0x31, 0x02, 0x05, 0x00};
+    size_t ends[3] = {0, 0, 0};
+    picky_der_element element = {0};
+    picky_der_place place = {0, 0};
+    need(picky_der_next(bytes, sizeof bytes, &place, ends, 0, &element) == PICKY_DER_NO_ROOM && place.offset == 0, "no end at all");
+    need(picky_der_next(bytes, sizeof bytes, &place, ends, 1, &element) == PICKY_DER_OK && place.offset == 2 && place.depth == 1, "one end");
+    need(picky_der_next(bytes, sizeof bytes, &place, ends, 1, &element) == PICKY_DER_NO_ROOM && place.depth == 1, "one end for two");
+    need(picky_der_next(bytes, sizeof bytes, &place, ends, 2, &element) == PICKY_DER_OK && place.depth == 2, "two ends");
+    need(picky_der_next(bytes, sizeof bytes, &place, ends, 2, &element) == PICKY_DER_OK && place.depth == 0, "the last element");
+    need(picky_der_next(bytes, sizeof bytes, &place, ends, 2, &element) == PICKY_DER_END && place.offset == 6, "the end");
+    need(picky_der_next(bytes, sizeof bytes, &place, ends, 0, &element) == PICKY_DER_END, "the end, again");
+    picky_der_place wild[] = {{7, 0}, {SIZE_MAX, 0}, {0, 4}, {0, SIZE_MAX}, {5, 1}, {1, 2}};
+    size_t wild_ends[3] = {5, SIZE_MAX, 2};
+    for (size_t i = 0; i < sizeof wild / sizeof *wild; i++) {
+        picky_der_place before = wild[i];
+        need(picky_der_next(bytes, sizeof bytes, &wild[i], wild_ends, 3, &element) == PICKY_DER_NO_PLACE, "a place that is none");
+        need(wild[i].offset == before.offset && wild[i].depth == before.depth, "it is as it was");
+    }
+    size_t position = 99;
+    need(picky_der_check_certificate(PICKY_DER_BYTES(NULL), 0, &position) == PICKY_DER_TRUNCATED && position == 0, "no bytes");
+    need(picky_der_front(PICKY_DER_BYTES(NULL), 0, &element) == PICKY_DER_RULE_CUT_HEADER, "no element");
+    need(strcmp(picky_der_clause(PICKY_DER_RULE_LONG_LENGTH), "10.1") == 0 && *picky_der_text(PICKY_DER_END) != 0, "texts");
+    need(*picky_der_text(77) == 0 && *picky_der_clause(PICKY_DER_OK) == 0, "no texts");
+}
+
+/* ---- writing */
+
+struct buffer {
+    uint8_t *bytes;
+    size_t room, used;
+};
+
+/* Writes the elements of the bytes again, those from `*at` on that are at this depth. */
+static picky_der_code write_again(struct buffer *to, const uint8_t *bytes, const picky_der_element *all, size_t count, size_t *at, size_t depth) {
+    picky_der_code worst = PICKY_DER_OK;
+    while (*at < count && all[*at].depth == depth) {
+        const picky_der_element *it = &all[(*at)++];
+        picky_der_code code;
+        if (it->is_constructed) {
+            size_t start = to->used;
+            code = write_again(to, bytes, all, count, at, depth + 1);
+            worst = code != PICKY_DER_OK ? code : worst;
+            code = picky_der_wrap(to->bytes, to->room, &to->used, start, it->tag);
+        } else {
+            code = picky_der_put(to->bytes, to->room, &to->used, it->tag, bytes + it->offset + it->header_len, it->content_len);
+        }
+        worst = code != PICKY_DER_OK ? code : worst;
+    }
+    return worst;
+}
+
+/* A certificate that is written again from its elements is the same bytes. The first pass has no room, and tells the size. */
+static void written_again(const struct input *it) {
+    size_t count, position, at = 0;
+    picky_der_element none;
+    uint8_t nothing;
+    need(picky_der_elements(it->bytes, it->len, &none, 0, &count, &position) == PICKY_DER_OK, "the elements of a certificate");
+    picky_der_element *all = malloc(count * sizeof *all);
+    picky_der_elements(it->bytes, it->len, all, count, &count, &position);
+    struct buffer sized = {&nothing, 0, 0};
+    need(write_again(&sized, it->bytes, all, count, &at, 0) == PICKY_DER_NO_ROOM && sized.used == it->len, "the size of what is written");
+    struct buffer exact = {malloc(it->len), it->len, 0};
+    at = 0;
+    need(write_again(&exact, it->bytes, all, count, &at, 0) == PICKY_DER_OK && exact.used == it->len, "what fits exactly");
+    need(memcmp(exact.bytes, it->bytes, it->len) == 0, "what is written");
+    struct buffer small = {malloc(it->len - 1), it->len - 1, 0};
+    at = 0;
+    need(write_again(&small, it->bytes, all, count, &at, 0) == PICKY_DER_NO_ROOM && small.used == it->len, "one byte too little");
+    free(small.bytes);
+    free(exact.bytes);
+    free(all);
+}
+
+static void writing(void) {
+    uint8_t out[8];
+    size_t used = 0;
+    const uint8_t two = 2, one = 1;
+    picky_der_put(out, sizeof out, &used, 0x02, &two, 1);
+    picky_der_put(out, sizeof out, &used, 0x02, &one, 1);
+    need(picky_der_wrap(out, sizeof out, &used, 0, 0x31) == PICKY_DER_RULE_SET_ORDER && used == 6, "a set out of order");
+    need(picky_der_wrap(out, sizeof out, &used, 7, 0x30) == PICKY_DER_NO_PLACE && used == 6, "a start past the end");
+    need(picky_der_wrap(out, sizeof out, &used, 0, 0x30) == PICKY_DER_OK && used == 8, "the same as a sequence");
+    need(memcmp(out, "\x30\x06\x02\x01\x02\x02\x01\x01", 8) == 0, "its bytes");
+    used = SIZE_MAX - 1;
+    need(picky_der_put(out, sizeof out, &used, 0x02, &one, 1) == PICKY_DER_UNSUPPORTED && used == SIZE_MAX - 1, "a size that isn't one");
+    need(picky_der_wrap(out, sizeof out, &used, 0, 0x30) == PICKY_DER_UNSUPPORTED && used == SIZE_MAX - 1, "a size that isn't one");
+}
+
+/* ---- times */
+
+static double now(void) {
+    struct timespec at;
+    clock_gettime(CLOCK_MONOTONIC, &at);
+    return (double)at.tv_sec + (double)at.tv_nsec / 1e9;
+}
+
+#define TIMED(name, call)                                                                                                                  \
+    do {                                                                                                                                   \
+        double best = 1e9;                                                                                                                 \
+        size_t certificates = 0;                                                                                                           \
+        for (int round = 0; round < 7; round++) {                                                                                          \
+            certificates = 0;                                                                                                              \
+            double start = now();                                                                                                          \
+            for (int pass = 0; pass < 20; pass++)                                                                                          \
+                for (size_t i = 0; i < input_count; i++)                                                                                   \
+                    if (inputs[i].verdict == CERTIFICATE) {                                                                                \
+                        const uint8_t *bytes = inputs[i].bytes;                                                                            \
+                        size_t len = inputs[i].len;                                                                                        \
+                        certificates++;                                                                                                    \
+                        call;                                                                                                              \
+                    }                                                                                                                      \
+            double each = (now() - start) / (double)certificates * 1e6;                                                                    \
+            best = each < best ? each : best;                                                                                              \
+        }                                                                                                                                  \
+        printf("%-34s %8.2f us\n", name, best);                                                                                            \
+    } while (0)
+
+static void walk_alone(const uint8_t *bytes, size_t len) {
+    picky_der_place place = {0, 0};
+    size_t ends[DEEPEST];
+    picky_der_element element;
+    while (picky_der_next(bytes, len, &place, ends, DEEPEST, &element) == PICKY_DER_OK)
+        ;
+}
+
+static void measure(void) {
+    size_t position, count;
+    picky_der_element none;
+    TIMED("picky_der_check_certificate", picky_der_check_certificate(bytes, len, &position));
+    TIMED("picky_der_elements, without room", picky_der_elements(bytes, len, &none, 0, &count, &position));
+    TIMED("picky_der_next, to the end", walk_alone(bytes, len));
+#ifdef WITH_OPENSSL
+    TIMED("d2i_X509", {
+        const uint8_t *at = bytes;
+        X509 *it = d2i_X509(NULL, &at, (long)len);
+        need(it != NULL, "OpenSSL");
+        X509_free(it);
+    });
+    TIMED("d2i_X509, i2d_X509, memcmp", {
+        const uint8_t *at = bytes;
+        X509 *it = d2i_X509(NULL, &at, (long)len);
+        unsigned char *again = NULL;
+        need(i2d_X509(it, &again) == (int)len && memcmp(again, bytes, len) == 0, "OpenSSL");
+        OPENSSL_free(again);
+        X509_free(it);
+    });
+#endif
+}
+
+int main(int argc, char **argv) {
+    need(argc > 1, "usage: test_picky_der CASES [time]");
+    load(argv[1]);
+    if (argc > 2) {
+        measure();
+        return 0;
+    }
+    places();
+    writing();
+    for (size_t i = 0; i < input_count; i++)
+        if (inputs[i].verdict == CERTIFICATE)
+            written_again(&inputs[i]);
+    pthread_t threads[THREADS];
+    for (int i = 0; i < THREADS; i++)
+        need(pthread_create(&threads[i], NULL, run, NULL) == 0, "a thread");
+    for (int i = 0; i < THREADS; i++)
+        pthread_join(threads[i], NULL);
+    for (size_t i = 0; i < input_count; i++)
+        free(inputs[i].bytes);
+    free(inputs);
+    return 0;
+}

@@ -1,0 +1,3 @@
+module picky-der.example/pickyder
+
+go 1.19

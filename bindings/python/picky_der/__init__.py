@@ -1,0 +1,262 @@
+"""Checks, lists and writes DER by a library that is proved.
+
+``check("certificate", data)`` returns if the bytes are exactly one message of a type, in DER throughout, and raises `DecodeError` if they
+aren't. ``elements(data)`` goes over elements, and ``encode(tag, content)`` writes one.
+
+Data is any object with the buffer protocol. Other threads run during a call, so data that can change must not be changed then.
+"""
+import ctypes
+import os
+from ctypes import POINTER, byref, c_bool, c_char_p, c_size_t, c_uint8, c_uint32
+from typing import Iterable, Iterator, List, NamedTuple, Optional, Union
+
+from . import _tables
+from ._tables import RULES, TEXTS, TYPES
+
+__all__ = ["DecodeError", "Element", "TYPES", "Writer", "check", "elements", "encode", "encode_set", "front", "is_der"]
+
+Data = Union[bytes, bytearray, memoryview]
+
+_SHORTEST_ENDS = 32
+
+
+class _Element(ctypes.Structure):
+    _fields_ = [
+        ("offset", c_size_t),
+        ("header_len", c_size_t),
+        ("content_len", c_size_t),
+        ("depth", c_size_t),
+        ("tag", c_uint8),
+        ("tag_class", c_uint8),
+        ("tag_number", c_uint8),
+        ("is_constructed", c_bool),
+    ]
+
+
+class _Place(ctypes.Structure):
+    _fields_ = [("offset", c_size_t), ("depth", c_size_t)]
+
+
+def _load() -> ctypes.CDLL:
+    """The library: the file that PICKY_DER_LIBRARY names, or the one beside this module, or the system's."""
+    beside = os.path.join(os.path.dirname(os.path.abspath(__file__)), "libpicky_der.so")
+    path = os.environ.get("PICKY_DER_LIBRARY") or (beside if os.path.exists(beside) else "libpicky_der.so.1")
+    library = ctypes.CDLL(path)
+    sizes = POINTER(c_size_t)
+    library.picky_der_check.argtypes = [c_uint32, c_char_p, c_size_t, sizes]
+    library.picky_der_front.argtypes = [c_char_p, c_size_t, POINTER(_Element)]
+    library.picky_der_elements.argtypes = [c_char_p, c_size_t, POINTER(_Element), c_size_t, sizes, sizes]
+    library.picky_der_next.argtypes = [c_char_p, c_size_t, POINTER(_Place), sizes, c_size_t, POINTER(_Element)]
+    library.picky_der_put.argtypes = [POINTER(c_uint8), c_size_t, sizes, c_uint8, c_char_p, c_size_t]
+    library.picky_der_wrap.argtypes = [POINTER(c_uint8), c_size_t, sizes, c_size_t, c_uint8]
+    for name in ("check", "front", "elements", "next", "put", "wrap"):
+        getattr(library, f"picky_der_{name}").restype = c_uint32
+    return library
+
+
+_library = _load()
+
+
+class DecodeError(ValueError):
+    """The bytes aren't what they were checked for."""
+
+    #: The index of the byte, or of the element, where this was found.
+    position: int
+    #: The code of the library.
+    code: int
+    #: The rule of X.690 that is broken, as ``long_length``, or None if the bytes are in DER.
+    rule: Optional[str]
+    #: Its clause, as ``10.1``.
+    clause: Optional[str]
+
+    def __init__(self, code: int, position: int, rule: int = 0) -> None:
+        self.code, self.position = code, position
+        broken = RULES.get(code) or RULES.get(rule)
+        self.rule, words, self.clause = broken or (None, TEXTS.get(code, f"code {code}"), None)
+        super().__init__(f"at {position}: {words}" + (f" (X.690, {self.clause})" if broken else ""))
+
+
+class Element(NamedTuple):
+    """An element, by its place in the bytes."""
+
+    #: The index of its first byte.
+    offset: int
+    #: How many bytes its tag and its length take.
+    header_len: int
+    #: How many elements are around it.
+    depth: int
+    #: Its first byte.
+    tag: int
+    #: The class of its tag: 0 universal, 1 application, 2 context-specific, 3 private.
+    tag_class: int
+    #: The number of its tag.
+    tag_number: int
+    #: Whether its content is made of elements.
+    is_constructed: bool
+    #: Its content, a part of the bytes.
+    content: memoryview
+
+
+def _bytes(data: Data) -> bytes:
+    return data if isinstance(data, bytes) else bytes(data)
+
+
+def _element(view: memoryview, found: _Element) -> Element:
+    start = found.offset + found.header_len
+    content = view[start : start + found.content_len]
+    return Element(
+        found.offset, found.header_len, found.depth, found.tag, found.tag_class, found.tag_number, found.is_constructed, content
+    )
+
+
+def _rule_of(der: bytes) -> int:
+    """The code of the first rule that the elements of the bytes break, or 0."""
+    count, position = c_size_t(), c_size_t()
+    return _library.picky_der_elements(der, len(der), byref(_Element()), 0, byref(count), byref(position))
+
+
+def check(name: str, data: Data) -> None:
+    """Returns if the bytes are exactly one message of the type, and each element in them is in DER.
+
+    The type is a word of `der read`, as ``certificate``, or the name of the type, as ``Certificate``; TYPES has all words. It raises
+    DecodeError if the bytes aren't such a message, MemoryError if memory ran out, and KeyError if no type has the name.
+    """
+    number = TYPES.get(name) or _tables.NAMES[name]
+    der, position = _bytes(data), c_size_t()
+    code = _library.picky_der_check(number, der, len(der), byref(position))
+    if code == _tables.NO_MEMORY:
+        raise MemoryError
+    if code != _tables.OK:
+        raise DecodeError(code, position.value, _rule_of(der))
+
+
+def is_der(data: Data) -> bool:
+    """Returns whether the bytes are elements in DER and nothing else. It raises MemoryError if memory ran out."""
+    code = _rule_of(_bytes(data))
+    if code == _tables.NO_MEMORY:
+        raise MemoryError
+    return code == _tables.OK
+
+
+def front(data: Data) -> Element:
+    """Returns the element at the front of the bytes. Others may follow it, and the elements in it aren't looked at.
+
+    It raises DecodeError with the rule that this element breaks.
+    """
+    der, found = _bytes(data), _Element()
+    code = _library.picky_der_front(der, len(der), byref(found))
+    if code != _tables.OK:
+        raise DecodeError(code, 0)
+    return _element(memoryview(der), found)
+
+
+def elements(data: Data) -> Iterator[Element]:
+    """Goes over the elements of the bytes, at any depth and each before those in it.
+
+    It raises DecodeError at the first element that breaks a rule. If it comes to its end, the bytes are in DER.
+    """
+    der = _bytes(data)
+    view, place, found, room = memoryview(der), _Place(), _Element(), _SHORTEST_ENDS
+    ends = (c_size_t * room)()
+    while True:
+        code = _library.picky_der_next(der, len(der), byref(place), ends, room, byref(found))
+        if code == _tables.OK:
+            yield _element(view, found)
+        elif code == _tables.NO_ROOM:
+            room *= 2
+            ends = (c_size_t * room)(*ends)
+        elif code == _tables.END:
+            return
+        else:
+            raise DecodeError(code, place.offset)
+
+
+class Writer:
+    """Writes elements one after another. Elements that are written within ``with writer.within(tag):`` are the content of one with this tag."""
+
+    def __init__(self) -> None:
+        self._room = 256
+        self._out = (c_uint8 * self._room)()
+        self._used = c_size_t()
+
+    def _grown(self, needed: int) -> None:
+        self._room = max(needed, 2 * self._room)
+        out = (c_uint8 * self._room)()
+        ctypes.memmove(out, self._out, len(self._out))
+        self._out = out
+
+    def put(self, tag: int, content: Data = b"") -> "Writer":
+        """Appends an element with this tag, a byte, and this content."""
+        der, before = _bytes(content), self._used.value
+        while True:
+            code = _library.picky_der_put(self._out, self._room, byref(self._used), _byte(tag), der, len(der))
+            if code != _tables.NO_ROOM:
+                return self._done(code, before)
+            needed, self._used.value = self._used.value, before
+            self._grown(needed)
+
+    def within(self, tag: int) -> "_Within":
+        """What is written in this block is the content of an element with this tag."""
+        return _Within(self, _byte(tag))
+
+    def _wrap(self, start: int, tag: int) -> None:
+        before = self._used.value
+        while True:
+            code = _library.picky_der_wrap(self._out, self._room, byref(self._used), start, tag)
+            if code != _tables.NO_ROOM:
+                self._done(code, start)
+                return
+            needed, self._used.value = self._used.value, before
+            self._grown(needed)
+
+    def _done(self, code: int, position: int) -> "Writer":
+        if code != _tables.OK:
+            raise DecodeError(code, position)
+        return self
+
+    def bytes(self) -> bytes:
+        """What was written."""
+        return bytes(memoryview(self._out)[: self._used.value])
+
+
+class _Within:
+    def __init__(self, writer: Writer, tag: int) -> None:
+        self._writer, self._tag, self._start = writer, tag, 0
+
+    def __enter__(self) -> Writer:
+        self._start = self._writer._used.value
+        return self._writer
+
+    def __exit__(self, kind: object, value: object, trace: object) -> None:
+        if kind is None:
+            self._writer._wrap(self._start, self._tag)
+
+
+def _byte(tag: int) -> int:
+    if not 0 <= tag <= 255:
+        raise ValueError("a tag is one byte")
+    return tag
+
+
+def encode(tag: int, *contents: Data) -> bytes:
+    """Returns an element with this tag, whose content is these bytes one after another.
+
+    It raises DecodeError for the tag of a SET, 0x31, if the members are in neither of the orders of a SET; `encode_set` sorts them.
+    """
+    content = b"".join(map(_bytes, contents))
+    if tag != 0x31:
+        return Writer().put(tag, content).bytes()
+    writer = Writer()
+    with writer.within(tag):
+        for member in _members(content):
+            writer.put(member.tag, member.content)
+    return writer.bytes()
+
+
+def _members(content: bytes) -> List[Element]:
+    return [it for it in elements(content) if it.depth == 0]
+
+
+def encode_set(members: Iterable[Data]) -> bytes:
+    """Returns a SET OF with these members, encodings that are put in the order of X.690, 11.6."""
+    return encode(0x31, *sorted(map(_bytes, members)))

@@ -1,0 +1,34 @@
+//! Checks, lists and writes DER by a library that is proved.
+//!
+//! ```
+//! use picky_der::{elements, Message};
+//!
+//! let der = [0x30, 0x03, 0x02, 0x01, 0x05];
+//! let numbers = elements(&der).collect::<Result<Vec<_>, _>>()?;
+//! assert_eq!(numbers[1].content, [5]);
+//! assert!(Message::Certificate.check(&der).is_err());
+//! # Ok::<(), picky_der::Error>(())
+//! ```
+#![forbid(unsafe_code)]
+#![deny(missing_docs)]
+
+mod elements;
+mod error;
+mod tables;
+mod writer;
+
+pub use elements::{elements, front, is_der, Class, Element, Elements};
+pub use error::{Error, Reason};
+pub use tables::Message;
+pub use writer::Writer;
+
+impl Message {
+    /// `Ok` exactly if the bytes are one message of the type and nothing else, and each element in them is in DER.
+    ///
+    /// # Errors
+    /// `Reason::NoMemory` says that memory ran out, and any other reason that the bytes aren't such a message, as was found at the position.
+    pub fn check(self, bytes: &[u8]) -> Result<(), Error> {
+        let (code, position) = picky_der_sys::check(self as u32, bytes);
+        Error::of(code, position)
+    }
+}

@@ -1,0 +1,97 @@
+//! The cases that bindings/test writes: inputs, each with what `der read` says of it.
+use picky_der::{elements, front, is_der, Class, Error, Message, Reason, Writer};
+
+const CERTIFICATE: u32 = 0;
+const READ: u32 = 1;
+const REFUSED: u32 = 2;
+
+struct Case {
+    verdict: u32,
+    offset: usize,
+    der: Vec<u8>,
+}
+
+fn cases() -> Vec<Case> {
+    let bytes = std::fs::read(std::env::var("CASES").expect("CASES names the file")).unwrap();
+    let number = |at: usize| u32::from_be_bytes(bytes[at..at + 4].try_into().unwrap());
+    let mut at = 4;
+    let mut next = || {
+        let len = number(at + 8) as usize;
+        let case = Case { verdict: number(at), offset: number(at + 4) as usize, der: bytes[at + 12..at + 12 + len].to_vec() };
+        at += 12 + len;
+        case
+    };
+    (0..number(0)).map(|_| next()).collect()
+}
+
+fn check(case: &Case) {
+    let broken = elements(&case.der).find_map(Result::err);
+    match Message::Certificate.check(&case.der) {
+        Ok(()) => assert!(broken.is_none() && case.verdict != REFUSED),
+        Err(error @ Error { reason: Reason::Rule(_), .. }) => assert!(broken == Some(error) && case.verdict != REFUSED && case.verdict != CERTIFICATE),
+        Err(error) => assert!(error.position <= case.der.len() && case.verdict != READ && case.verdict != CERTIFICATE),
+    }
+    if let (REFUSED, Some(error)) = (case.verdict, broken) {
+        assert_eq!(error.position, case.offset);
+    }
+    assert_eq!(is_der(&case.der), broken.is_none());
+}
+
+#[test]
+fn four_threads() {
+    let threads: Vec<_> = (0..4).map(|_| std::thread::spawn(|| cases().iter().for_each(check))).collect();
+    threads.into_iter().for_each(|it| it.join().unwrap());
+}
+
+#[test]
+fn parts_and_more() {
+    let der = cases().remove(0).der;
+    for cut in (0..der.len()).step_by(31) {
+        let error = Message::Certificate.check(&der[..cut]).unwrap_err();
+        assert!(error.reason == Reason::Truncated && error.position <= cut);
+    }
+    let more = [der.as_slice(), &[0]].concat();
+    let error = Message::Certificate.check(&more).unwrap_err();
+    assert_eq!(error, Error { reason: Reason::Invalid, position: der.len() });
+    assert!(Message::ALL.iter().all(|it| (it.check(&der).is_ok()) == (*it == Message::Certificate)));
+}
+
+fn write_again(writer: &mut Writer, bytes: &[u8]) -> Result<(), Error> {
+    for element in elements(bytes) {
+        let element = element?;
+        if element.depth == 0 && element.is_constructed {
+            writer.within(element.tag, |inner| write_again(inner, element.content))?;
+        } else if element.depth == 0 {
+            writer.put(element.tag, element.content)?;
+        }
+    }
+    Ok(())
+}
+
+#[test]
+fn written_again() {
+    for case in cases().iter().filter(|it| it.verdict == CERTIFICATE) {
+        let mut writer = Writer::new();
+        write_again(&mut writer, &case.der).unwrap();
+        assert_eq!(writer.as_bytes(), case.der);
+    }
+}
+
+#[test]
+fn small_ones() {
+    let first = front(&[0xA1, 0x02, 0x05, 0x00, 0xFF]).unwrap();
+    assert_eq!((first.class, first.number, first.content, first.encoding.len()), (Class::ContextSpecific, 1, &[5, 0][..], 4));
+    let error = front(&[0x30, 0x81, 0x01, 0x00]).unwrap_err();
+    assert_eq!(error.rule().unwrap().1, "10.1");
+    assert_eq!(error.to_string(), "at 0: the length isn't in the fewest bytes (X.690, 10.1)");
+    let mut writer = Writer::new();
+    let unordered = writer.within(0x31, |set| set.put(2, &[2])?.put(2, &[1]).map(|_| ()));
+    assert!(unordered.unwrap_err().rule().is_some());
+    let mut deep = Vec::new();
+    for _ in 0..200 {
+        let mut writer = Writer::new();
+        writer.put(0x30, &deep).unwrap();
+        deep = writer.into_bytes();
+    }
+    assert_eq!(elements(&deep).map(|it| it.unwrap().depth).max(), Some(199));
+}

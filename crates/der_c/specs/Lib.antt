@@ -1,0 +1,5 @@
+pub mod Codes
+pub mod Verdict
+pub mod Types
+pub mod Elements
+pub mod Writing

@@ -1,0 +1,12 @@
+//! What programs in other languages call: DER that is checked, gone over and written. Each function is a thin one over the libraries below.
+#![tactic(auto)]
+
+mod check;
+mod code;
+mod element;
+mod elements;
+mod front;
+mod messages;
+mod next;
+mod types;
+mod writing;
