@@ -485,8 +485,8 @@ impl Faithful for Version {
 }
 
 impl FaithfulDefault<Version> for VersionV1 {
-    ghost sameness = { default_sameness ⟦<Version as PartialEq>⟧.eq ⟦<Version as Serialize>⟧.meaning ⟦<VersionV1 as DefaultOf<Version>>⟧.left_out
-        ⟦<VersionV1 as DefaultOf<Version>>⟧.by_tree ⟦<Version as Faithful>⟧.sameness };
+    ghost sameness = { default_sameness ⟦<Version as PartialEq>⟧.eq ⟦<Version as Serialize>⟧.meaning
+        is_default_version_v1 version_v1_by_tree ⟦<Version as Faithful>⟧.sameness };
 
     ghost respects = { Prim.assumption };
 }
