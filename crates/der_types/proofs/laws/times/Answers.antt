@@ -1,9 +1,12 @@
-use Rattle.std.proofs.Common.{◌≡◌, sym, true≢false, eqb-true, arith}
+use Rattle.std.proofs.Common.{◌≡◌, ◌==◌, ◌≤◌, ◌<◌, refl, sym, ◌∙◌, true≢false, eqb-true, arith}
 use Rattle.std.proofs.lemmas.Bool.{and_parts}
+use Rattle.std.specs.Ordering.{nat_cmp}
 use Rattle.der_types.specs.declared.date_time.DateTime.{DateTime}
+use Rattle.der_types.specs.declared.time.Time.{Time}
 use Rattle.der_types.specs.declared.time.Time.TheVariants.{Utc, Generalized}
 use Rattle.der_types.specs.CalendarLaws.{civil_of, time_of, same_seconds}
 use Rattle.der_types.specs.DateTimes.{seconds_of}
+use Rattle.der_types.specs.TimeChoice.{date_time_of}
 use Rattle.der_types.specs.TimeChoiceLaws.{cmp_dates_and_times, earlier, later}
 use Rattle.der_types.proofs.laws.times.Goals as goal
 

@@ -1,6 +1,6 @@
-use Rattle.std.proofs.Common.{◌≤◌, sym, subst, ◌∙◌, arith}
+use Rattle.std.proofs.Common.{◌<◌, ◌≤◌, sym, ap, subst, ◌∙◌, arith}
 use Rattle.der_types.specs.TimeContents.{year_at_first}
-use Rattle.der_types.specs.TimeLaws.{IsStamp, later_of, stamp_of, later-read}
+use Rattle.der_types.specs.TimeLaws.{IsStamp, IsLater, later_of, stamp_of, later-read}
 use Rattle.der_types.specs.TimeValues.{IsReadAt}
 use Rattle.der_types.proofs.later_time.LaterTime.of.Goals as goal
 

@@ -1,5 +1,6 @@
 use Rattle.std.proofs.Common.{subst, ap, take, drop, ◌∙◌}
 use Rattle.picky_der_core.specs.Primitive.{Primitive}
+use Rattle.picky_der_core.specs.Tree.{Tree}
 use Rattle.picky_der_ser.specs.Calls.{WritesPrimitive}
 use Rattle.der_types.specs.TimeLaws.{utc_tail}
 use Rattle.der_types.proofs.utc_time.UtcTime.write_under.Goals as goal
