@@ -1,5 +1,7 @@
 //! Members of later versions, after the members that a struct knows.
 ghost use Rattle.std.specs.Prelude.{◌≡◌, [], true, false, None, IfOk, IfErr, IfSome, IfNone, OnOk};
+ghost use Rattle.std.specs.Cmp.Lexicographic.{pointwise};
+ghost use Rattle.picky_der_core.specs.Equality.{IsThatOf};
 ghost use Rattle.picky_der_core.specs.Shape.{Shape, Layout, firsts_of};
 ghost use Rattle.picky_der_de.specs.MembersFacts.{others_facts};
 ghost use Rattle.picky_der_de.specs.Layouts.{Lacks, RefusesLayout};
@@ -45,6 +47,12 @@ fn are_outside<A: Alternatives>(elements: &[Asn1RawDer]) -> bool
 }
 
 impl<A: Alternatives> LaterMembers<A> {
+    /// Two are equal exactly if their elements are, in order.
+    pub fn equality()
+        ensures { IsThatOf ⟦<LaterMembers<A> as PartialEq>⟧.eq (λ it. it.elements.items)
+            (pointwise ⟦<Asn1RawDer as PartialEq>⟧.eq) }
+    {}
+
     /// No members, on this allocator.
     pub fn none(alloc: Global) -> LaterMembers<A>
         ensures { result.elements.items ≡ [] }

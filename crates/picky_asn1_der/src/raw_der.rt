@@ -1,5 +1,5 @@
 //! Elements that are kept as they are.
-ghost use Rattle.std.specs.Prelude.{◌≡◌, IfOk, IfErr};
+ghost use Rattle.std.specs.Prelude.{◌≡◌, codes, IfOk, IfErr};
 ghost use Rattle.std.specs.Cmp.Lexicographic.{slice_cmp};
 ghost use Rattle.std.specs.Ordering.{nat_cmp};
 ghost use Rattle.std.specs.Hash as fed;
@@ -33,6 +33,11 @@ pub fn comparisons()
     ensures hash { (raw : _) → ⟦<Asn1RawDer as Hash>⟧.hash_input raw
         ≡ fed.slice fed.u8 raw.0.items }
     ensures copy { IsKept ⟦<Asn1RawDer as Clone>⟧.is_clone (λ raw. raw.0.items) }
+{}
+
+/// The name of the type is `Asn1RawDer`.
+pub fn name()
+    ensures { Asn1RawDer.NAME.now ≡ codes "Asn1RawDer" }
 {}
 
 impl Asn1RawDer {

@@ -1,5 +1,5 @@
 //! Whole inputs: bytes that are the encoding of one value and nothing else.
-ghost use Rattle.std.specs.Prelude.{◌≡◌, length, IfOk, IfErr};
+ghost use Rattle.std.specs.Prelude.{◌≡◌, ◌↔◌, length, IsTrue, IfOk, IfErr};
 ghost use Rattle.picky_der_core.specs.Equality.{IsKept};
 ghost use Rattle.picky_der_de.specs.Whole.{IsWhole, IsNoEncoding};
 
@@ -20,6 +20,12 @@ pub struct DecodeError {
 }
 
 impl DecodeError {
+    /// Two are equal exactly if their errors are equal and their positions are the same.
+    pub fn equality()
+        ensures { (x y : DecodeError) → IsTrue (⟦<DecodeError as PartialEq>⟧.eq x y)
+            ↔ IsTrue (⟦<Asn1DerError as PartialEq>⟧.eq x.error y.error) × (x.position ≡ y.position) }
+    {}
+
     /// A copy is the same error at the same position.
     pub fn copies()
         ensures { IsKept ⟦<DecodeError as Clone>⟧.is_clone (λ refusal. refusal) }

@@ -18,7 +18,7 @@ use picky_der_core::misc::ReadExt;
 use picky_der_core::{Asn1DerError, Result};
 
 impl<R: ReadExt> Deserializer<R> {
-    /// Reads the content under this tag into one vector. The content isn't checked. The vector grows only as bytes are read.
+    /// Reads the content under this tag into one vector. The content isn't checked.
     ///
     /// `UnsupportedValue` for a tag with the number 31, which announces the long form: nothing is consumed or allocated then.
     /// `InvalidData` for another tag. `OutOfMemory` if an allocation fails. Any other error is that of a header or of an end,

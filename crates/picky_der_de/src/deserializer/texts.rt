@@ -30,7 +30,7 @@ impl<R: ReadExt> Deserializer<R> {
         self.read_plain::<Utf8String, char>()
     }
 
-    /// Reads a text (X.690, 8.23) into one string. The string grows only as bytes are read.
+    /// Reads a text (X.690, 8.23) into one string.
     ///
     /// `InvalidData` for another tag, and for a content that isn't UTF-8. `OutOfMemory` if an allocation fails. Any other error
     /// is that of a header or of an end, or the reader's I/O error.
