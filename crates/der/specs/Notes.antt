@@ -10,10 +10,12 @@ use Rattle.der_read.specs.Place.{place_name, place_text, block_data}
 -- the line that a listing begins with
 abbrev pub heading_text : List ℕ → Option ℕ → Option (List ℕ) → List ℕ
 heading_text file block None = place_name file block ++ (codes ":" ++ (0x0A ∷ []))
-heading_text file block (Some label) = place_name file block ++ (codes ", " ++ (text_or_bytes label ++ (codes ":" ++ (0x0A ∷ []))))
+heading_text file block (Some label) =
+    place_name file block ++ (codes ", " ++ (text_or_bytes label ++ (codes ":" ++ (0x0A ∷ []))))
 
 abbrev pub skipped_data : List ℕ → ℕ → Data
-skipped_data file skipped = object (member (codes "file") (string file) (member (codes "skippedLines") (number (unsigned skipped)) no_members))
+skipped_data file skipped =
+    object (member (codes "file") (string file) (member (codes "skippedLines") (number (unsigned skipped)) no_members))
 
 -- the line on lines outside of blocks
 abbrev pub skipped_line : Format → List ℕ → ℕ → List ℕ
@@ -25,7 +27,9 @@ abbrev pub skipped_text : Format → List ℕ → ℕ → List ℕ
 skipped_text format file skipped = if skipped == 0 then [] else skipped_line format file skipped ++ (0x0A ∷ [])
 
 abbrev pub refused_data : List ℕ → Option ℕ → List ℕ → Data
-refused_data file block reason = object (member (codes "block") (block_data block) (member (codes "file") (string file) (member (codes "refused") (string reason) no_members)))
+refused_data file block reason =
+    object (member (codes "block") (block_data block)
+    (member (codes "file") (string file) (member (codes "refused") (string reason) no_members)))
 
 -- the line that says why something isn't looked at
 abbrev pub refused_line : Format → List ℕ → Option ℕ → List ℕ → List ℕ

@@ -1,5 +1,6 @@
 -- What is printed of the bytes of a file.
-use Rattle.std.specs.Prelude.{◌≡◌, ℕ, ◌+◌, ◌<◌, ◌≤◌, Bool, List, [], ◌∷◌, ◌++◌, length, Option, None, Some, Ok, Err, if◌then◌else◌, string_bytes}
+use Rattle.std.specs.Prelude.{◌≡◌, ℕ, ◌+◌, ◌<◌, ◌≤◌, Bool, List, [], ◌∷◌, ◌++◌, length, Option, None, Some, Ok, Err}
+use Rattle.std.specs.Prelude.{if◌then◌else◌, string_bytes}
 use Rattle.std.specs.Io.KnownBytes.{Appends}
 use Rattle.der_program_base.specs.declared.blocks.Block.{Block}
 use Rattle.der_program_base.specs.declared.contents.Contents.{Contents}
@@ -55,9 +56,12 @@ IsListingPrinted form options bytes status text = (shown : Shown) × Shows form 
     × (status ≡ listing_status shown)
 
 -- the listing begins at one of the bytes; else nothing is listed
-pub data IsShowPrinted (format : Format) (view : View) (source : Source) (options : ShowOptions) (bytes : List ℕ) (status : Status) (text : List ℕ) : Type 0 where
-  listed : options.start < length bytes → IsListingPrinted (form_of format view source) options bytes status text → IsShowPrinted format view source options bytes status text
-  nothing : length bytes ≤ options.start → IsRefusalPrinted format source status text → IsShowPrinted format view source options bytes status text
+pub data IsShowPrinted (format : Format) (view : View) (source : Source) (options : ShowOptions) (bytes : List ℕ)
+    (status : Status) (text : List ℕ) : Type 0 where
+  listed : options.start < length bytes → IsListingPrinted (form_of format view source) options bytes status text
+      → IsShowPrinted format view source options bytes status text
+  nothing : length bytes ≤ options.start → IsRefusalPrinted format source status text
+      → IsShowPrinted format view source options bytes status text
 
 -- the lines and the status of a command
 abbrev pub AreLinesPrinted : (Printed → Type 0) → Status → List ℕ → Type 0
@@ -65,20 +69,29 @@ AreLinesPrinted Is status text = (printed : Printed) × Is printed × (text ≡ 
     × (status ≡ printed.status)
 
 -- the lines of `der read`, `der cms` and `der certificate`
-pub data IsReadPrinted (format : Format) (source : Source) (wanted : Option MessageType) (label : Option (List ℕ)) (bytes : List ℕ) (status : Status) (text : List ℕ) : Type 0 where
-  read_lines : AreLinesPrinted (IsReadMessage format source.file.now source.block wanted label bytes) status text → IsReadPrinted format source wanted label bytes status text
+pub data IsReadPrinted (format : Format) (source : Source) (wanted : Option MessageType) (label : Option (List ℕ))
+    (bytes : List ℕ) (status : Status) (text : List ℕ) : Type 0 where
+  read_lines : AreLinesPrinted (IsReadMessage format source.file.now source.block wanted label bytes) status text
+      → IsReadPrinted format source wanted label bytes status text
 
-pub data IsCmsPrinted (format : Format) (source : Source) (signers : Signers) (bytes : List ℕ) (status : Status) (text : List ℕ) : Type 0 where
-  cms_lines : AreLinesPrinted (IsPrinted source.file.now source.block bytes signers format) status text → IsCmsPrinted format source signers bytes status text
+pub data IsCmsPrinted (format : Format) (source : Source) (signers : Signers) (bytes : List ℕ) (status : Status)
+    (text : List ℕ) : Type 0 where
+  cms_lines : AreLinesPrinted (IsPrinted source.file.now source.block bytes signers format) status text
+      → IsCmsPrinted format source signers bytes status text
 
-pub data AreCertificatesPrinted (format : Format) (source : Source) (bytes : List ℕ) (status : Status) (text : List ℕ) : Type 0 where
-  certificate_lines : AreLinesPrinted (IsCertificatePrinted format source.file.now source.block bytes) status text → AreCertificatesPrinted format source bytes status text
+pub data AreCertificatesPrinted (format : Format) (source : Source) (bytes : List ℕ) (status : Status)
+    (text : List ℕ) : Type 0 where
+  certificate_lines : AreLinesPrinted (IsCertificatePrinted format source.file.now source.block bytes) status text
+      → AreCertificatesPrinted format source bytes status text
 
 -- what the command of a request prints of these bytes
-pub data IsMessagePrinted (r : Request) (view : View) (source : Source) (label : Option (List ℕ)) (bytes : List ℕ) (status : Status) (text : List ℕ) : Type 0 where
-  show : (options : ShowOptions) → r.action ≡ action.Show options → IsShowPrinted r.format view source options bytes status text
+pub data IsMessagePrinted (r : Request) (view : View) (source : Source) (label : Option (List ℕ)) (bytes : List ℕ)
+    (status : Status) (text : List ℕ) : Type 0 where
+  show : (options : ShowOptions) → r.action ≡ action.Show options
+      → IsShowPrinted r.format view source options bytes status text
       → IsMessagePrinted r view source label bytes status text
-  read : (wanted : Option MessageType) → r.action ≡ action.Read wanted → IsReadPrinted r.format source wanted label bytes status text
+  read : (wanted : Option MessageType) → r.action ≡ action.Read wanted
+      → IsReadPrinted r.format source wanted label bytes status text
       → IsMessagePrinted r view source label bytes status text
   cms : (signers : Signers) → r.action ≡ action.Cms signers → IsCmsPrinted r.format source signers bytes status text
       → IsMessagePrinted r view source label bytes status text
@@ -110,9 +123,12 @@ IsBlockPrinted r view source block status text =
 -- of each block, in order, with its number, after a line on the lines before it; the status is the worst
 pub data AreBlocksPrinted (r : Request) (view : View) (file : List ℕ) : List Block → Status → List ℕ → Type 0 where
   none : AreBlocksPrinted r view file [] Fine []
-  next : (blocks : List Block) (status : Status) (text : List ℕ) (block : Block) (source : Source) (own_status : Status) (own : List ℕ) → AreBlocksPrinted r view file blocks status text
-      → source.file.now ≡ file → source.block ≡ Some (length blocks + 1) → IsBlockPrinted r view source block own_status own
-      → AreBlocksPrinted r view file (blocks ++ block ∷ []) (worse_of status own_status) (text ++ (skipped_text r.format file block.skipped ++ own))
+  next : (blocks : List Block) (status : Status) (text : List ℕ) (block : Block) (source : Source) (own_status : Status)
+      (own : List ℕ) → AreBlocksPrinted r view file blocks status text
+      → source.file.now ≡ file → source.block ≡ Some (length blocks + 1)
+      → IsBlockPrinted r view source block own_status own
+      → AreBlocksPrinted r view file (blocks ++ block ∷ []) (worse_of status own_status)
+      (text ++ (skipped_text r.format file block.skipped ++ own))
 
 -- ---- files
 
@@ -126,7 +142,8 @@ AreContentsPrinted r view source input (Pem blocks) status text = (own : List �
 AreContentsPrinted r view source input (Other guess) status text = IsRefusalPrinted r.format source status text
 
 -- what is printed of an input, by what it is
-pub record IsReport (r : Request) (view : View) (file : List ℕ) (input : List ℕ) (status : Status) (text : List ℕ) : Type 0 where
+pub record IsReport (r : Request) (view : View) (file : List ℕ) (input : List ℕ) (status : Status)
+    (text : List ℕ) : Type 0 where
   pub source : Source
   pub is_source : source.file.now ≡ file
   pub whole : source.block ≡ None

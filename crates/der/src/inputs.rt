@@ -9,7 +9,8 @@ use std::io::{self, ErrorKind, IsTerminal};
 
 /// Prints what is asked about the messages in a file, and returns the worst status.
 ///
-/// If the file can't be read, it says so on standard error, and the status is `Trouble`. The error is that of the output, or `OutOfMemory`.
+/// If the file can't be read, it says so on standard error, and the status is `Trouble`. The error is that of the
+/// output, or `OutOfMemory`.
 pub fn print_file<W: WriteExt>(
     rt: &HostRuntime,
     request: &Request,
@@ -27,7 +28,8 @@ pub fn print_file<W: WriteExt>(
     }
 }
 
-/// Returns whether the output is a terminal, and the variable `NO_COLOR` of the environment doesn't ask for a text without colours.
+/// Returns whether the output is a terminal, and the variable `NO_COLOR` of the environment doesn't ask for a text
+/// without colours.
 pub fn has_colours(rt: &HostRuntime) -> bool {
     let refuses = match std::env::var(rt, "NO_COLOR") {
         Ok(text) => !text.is_empty(),

@@ -1,4 +1,5 @@
-//! What is printed of files, besides what is printed of the messages in them. The only error of each function is a failed allocation.
+//! What is printed of files, besides what is printed of the messages in them. The only error of each function is a
+//! failed allocation.
 ghost use Rattle.std.specs.Prelude.{◌≡◌, IfOk, string_bytes};
 ghost use Rattle.std.specs.Option.{option_copied};
 ghost use Rattle.serde_json.specs.View.{view};

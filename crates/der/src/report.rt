@@ -4,7 +4,9 @@ ghost use Rattle.std.specs.Option.{option_copied};
 ghost use Rattle.std.specs.Io.KnownBytes.{Appends};
 ghost use Rattle.der_program_base.specs.declared.status.Status.TheVariants.{Refused};
 ghost use Rattle.der.specs.Notes.{refused_text, skipped_text};
-ghost use Rattle.der.specs.Report.{Prints, AreBlocksPrinted, IsBlockPrinted, IsMessagePrinted, IsReport, IsRefusalPrinted, IsListingPrinted, IsShowPrinted, IsReadPrinted, IsCmsPrinted, AreCertificatesPrinted, listing_status, front_text, form_of};
+ghost use Rattle.der.specs.Report.{Prints, AreBlocksPrinted, IsBlockPrinted, IsMessagePrinted, IsReport};
+ghost use Rattle.der.specs.Report.{IsRefusalPrinted, IsListingPrinted, IsShowPrinted, IsReadPrinted, IsCmsPrinted};
+ghost use Rattle.der.specs.Report.{AreCertificatesPrinted, listing_status, front_text, form_of};
 
 use crate::notes::{heading, refusal_note, skipped_note};
 use crate::request::{Action, Request};

@@ -25,8 +25,8 @@ pub enum Action {
     Certificate,
 }
 
-/// Returns what the arguments of the command with this name and these words ask for, or `None` after saying on standard error what is wrong
-/// with them.
+/// Returns what the arguments of the command with this name and these words ask for, or `None` after saying on standard
+/// error what is wrong with them.
 ///
 /// Returns the error of the system if that can't be written, and `OutOfMemory` if an allocation failed.
 pub fn request_of(

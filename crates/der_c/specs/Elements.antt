@@ -30,7 +30,8 @@ element_in_c e = record {
 -- ---- at the front
 
 pub data IsFrontInC (bytes : List ℕ) (old new : PickyDerElement) (code : ℕ) : Type 0 where
-  element : (h : Header) → IsFound bytes h → new ≡ element_in_c (listed_at 0 0 h) → code ≡ ok → IsFrontInC bytes old new code
+  element : (h : Header) → IsFound bytes h → new ≡ element_in_c (listed_at 0 0 h) → code ≡ ok
+      → IsFrontInC bytes old new code
   broken : (r : Rule) → Breaks bytes r → new ≡ old → code ≡ rule_code r → IsFrontInC bytes old new code
 
 -- ---- all
@@ -45,10 +46,13 @@ pub record AreWritten (old new : List PickyDerElement) (count : ℕ) (o : Outlin
   pub counted : count ≡ length o.elements.items
 
 pub data AreElementsInC (bytes : List ℕ) (old new : List PickyDerElement) (count position code : ℕ) : Type 0 where
-  all : (o : Outline) → IsOutline bytes o → o.complaint ≡ None → AreWritten old new count o → position ≡ length bytes → code ≡ ok → AreElementsInC bytes old new count position code
-  broken : (o : Outline) (c : Complaint) → IsOutline bytes o → o.complaint ≡ Some c → AreWritten old new count o → position ≡ c.offset → code ≡ rule_code c.rule
+  all : (o : Outline) → IsOutline bytes o → o.complaint ≡ None → AreWritten old new count o → position ≡ length bytes
+      → code ≡ ok → AreElementsInC bytes old new count position code
+  broken : (o : Outline) (c : Complaint) → IsOutline bytes o → o.complaint ≡ Some c → AreWritten old new count o
+      → position ≡ c.offset → code ≡ rule_code c.rule
       → AreElementsInC bytes old new count position code
-  no_memory : new ≡ old → count ≡ 0 → position ≡ 0 → code ≡ memory_failed → AreElementsInC bytes old new count position code
+  no_memory : new ≡ old → count ≡ 0 → position ≡ 0 → code ≡ memory_failed
+      → AreElementsInC bytes old new count position code
 
 -- ---- one after another
 
@@ -63,9 +67,11 @@ IsGiven old new code next.End = (new ≡ old) × (code ≡ at_end)
 IsGiven old new code next.NoRoom = (new ≡ old) × (code ≡ no_room)
 IsGiven old new code next.NoPlace = (new ≡ old) × (code ≡ no_place)
 
-pub record IsStepInC (bytes : List ℕ) (old : PickyDerPlace) (olds : List ℕ) (new : PickyDerPlace) (news : List ℕ) (before after : PickyDerElement) (code : ℕ) : Type 0 where
+pub record IsStepInC (bytes : List ℕ) (old : PickyDerPlace) (olds : List ℕ) (new : PickyDerPlace) (news : List ℕ)
+    (before after : PickyDerElement) (code : ℕ) : Type 0 where
   pub found : Next
   pub is : IsNext bytes (place_of old) olds (place_of new) news found
   -- in a walk from the first byte on, whatever elements it went over
-  pub walk : (es : List Element) → IsWalked bytes (open_ends (place_of old) olds) old.offset es → ComesNext bytes (place_of old) olds (place_of new) news es found
+  pub walk : (es : List Element) → IsWalked bytes (open_ends (place_of old) olds) old.offset es
+      → ComesNext bytes (place_of old) olds (place_of new) news es found
   pub given : IsGiven before after code found

@@ -7,7 +7,8 @@ use Rattle.der_read.specs.Described.{Description}
 use Rattle.der_read.specs.Message.{IsMessageOf, IsRefused}
 use Rattle.der_c.specs.Codes.{ok, memory_failed, error_code, rule_code}
 
--- the bytes are the encoding of a value of the type, and each element in them is in DER, also where the type leaves a part open
+-- the bytes are the encoding of a value of the type, and each element in them is in DER, also where the type leaves a
+-- part open
 pub record IsMessageInDer (d : Description) (bytes : List ℕ) : Type 0 where
   pub message : IsMessageOf d bytes
   pub in_der : AreElements bytes
@@ -17,9 +18,11 @@ pub data IsFinding (d : Description) (bytes : List ℕ) (code position : ℕ) : 
   -- the message, and the position is their end
   message : IsMessageInDer d bytes → code ≡ ok → position ≡ length bytes → IsFinding d bytes code position
   -- the encoding of no value of the type
-  refused : (r : DecodeError) → IsRefused d bytes r → code ≡ error_code r.error → position ≡ r.position → IsFinding d bytes code position
+  refused : (r : DecodeError) → IsRefused d bytes r → code ≡ error_code r.error → position ≡ r.position
+      → IsFinding d bytes code position
   -- such an encoding, but the element at the position breaks a rule
-  broken : (c : Complaint) → IsMessageOf d bytes → IsComplaint bytes c → code ≡ rule_code c.rule → position ≡ c.offset → IsFinding d bytes code position
+  broken : (c : Complaint) → IsMessageOf d bytes → IsComplaint bytes c → code ≡ rule_code c.rule → position ≡ c.offset
+      → IsFinding d bytes code position
   -- nothing is known
   no_memory : code ≡ memory_failed → position ≡ 0 → IsFinding d bytes code position
 

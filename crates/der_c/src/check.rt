@@ -6,7 +6,8 @@ use der_read::{Described, MessageType, refusal_of};
 use der_show::complaint_of;
 use std::alloc::Global;
 
-// Returns the code for whether the bytes are exactly one message of a type, in which each element is in DER, and writes where this was found.
+// Returns the code for whether the bytes are exactly one message of a type, in which each element is in DER, and writes
+// where this was found.
 pub(crate) fn check(alloc: Global, named: MessageType, bytes: &[u8], position: &mut usize) -> u32
     ensures { IsVerdict (⟦<MessageType as Described>⟧.description named) bytes.now result position.new }
 {

@@ -14,7 +14,8 @@ pub const PICKY_DER_TRUNCATED: u32 = 1;
 /// No: the bytes up to the one at the position begin no message of the type.
 pub const PICKY_DER_INVALID: u32 = 2;
 
-/// No, as with PICKY_DER_INVALID, but they may begin a message that isn't read here. Of a writer: what is asked for is too large.
+/// No, as with PICKY_DER_INVALID, but they may begin a message that isn't read here. Of a writer: what is asked for is
+/// too large.
 pub const PICKY_DER_UNSUPPORTED: u32 = 3;
 
 /// Unknown: an allocation failed.

@@ -7,12 +7,13 @@ use crate::element::{PickyDerElement, element_in_c};
 use der_show::{Element, outline_of};
 use std::alloc::{AllocError, Global};
 
-/// Writes the elements of the bytes to `elements`, at any depth and each before those in it, as many as there is room for, and to `count` how
-/// many there are. No room is needed to count them, or to check that the bytes are DER.
+/// Writes the elements of the bytes to `elements`, at any depth and each before those in it, as many as there is room
+/// for, and to `count` how many there are. No room is needed to count them, or to check that the bytes are DER.
 ///
-/// Returns PICKY_DER_OK if all bytes are elements in DER, and writes how many bytes there are to `position`. Returns the code of the first
-/// rule that is broken, and writes the offset of the element that breaks it; then the elements before it are written and counted. Returns
-/// PICKY_DER_NO_MEMORY if an allocation failed, and then nothing but zeros to `count` and `position` is written.
+/// Returns PICKY_DER_OK if all bytes are elements in DER, and writes how many bytes there are to `position`. Returns
+/// the code of the first rule that is broken, and writes the offset of the element that breaks it; then the elements
+/// before it are written and counted. Returns PICKY_DER_NO_MEMORY if an allocation failed, and then nothing but zeros
+/// to `count` and `position` is written.
 #[unsafe(no_mangle)]
 pub extern "C" fn picky_der_elements(
     alloc: Global,

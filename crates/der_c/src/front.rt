@@ -5,8 +5,8 @@ use crate::code::{PICKY_DER_OK, rule_code};
 use crate::element::{PickyDerElement, element_in_c};
 use der_show::{Element, Front, front_of};
 
-/// Writes the element at the front of the bytes to `element`, and returns PICKY_DER_OK. Its tag, its length and its content are in DER, but
-/// the elements in it aren't looked at. Bytes may follow it.
+/// Writes the element at the front of the bytes to `element`, and returns PICKY_DER_OK. Its tag, its length and its
+/// content are in DER, but the elements in it aren't looked at. Bytes may follow it.
 ///
 /// Else it returns the code of the rule that is broken, and `element` is as it was. It takes no memory.
 #[unsafe(no_mangle)]

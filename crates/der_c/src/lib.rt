@@ -1,4 +1,5 @@
-//! What programs in other languages call: DER that is checked, gone over and written. Each function is a thin one over the libraries below.
+//! What programs in other languages call: DER that is checked, gone over and written. Each function is a thin one over
+//! the libraries below.
 #![tactic(auto)]
 
 mod check;

@@ -15,12 +15,14 @@ pub struct PickyDerPlace {
     pub depth: usize,
 }
 
-/// Goes over the element at a place, which it writes to `element`, moves the place to the next one, and returns PICKY_DER_OK. The next one is
-/// in this element if it is constructed, else after it. The caller keeps the place and the `ends` of the elements around it, and calls again.
+/// Goes over the element at a place, which it writes to `element`, moves the place to the next one, and returns
+/// PICKY_DER_OK. The next one is in this element if it is constructed, else after it. The caller keeps the place and
+/// the `ends` of the elements around it, and calls again.
 ///
-/// Returns PICKY_DER_END after the last element: all bytes are elements in DER. Returns the code of the rule that the element at the place
-/// breaks, PICKY_DER_NO_ROOM if more elements are around a place than there are `ends`, and PICKY_DER_NO_PLACE if no walk over these bytes
-/// comes to the place. Then place, ends and element are as they were. It takes no memory.
+/// Returns PICKY_DER_END after the last element: all bytes are elements in DER. Returns the code of the rule that the
+/// element at the place breaks, PICKY_DER_NO_ROOM if more elements are around a place than there are `ends`, and
+/// PICKY_DER_NO_PLACE if no walk over these bytes comes to the place. Then place, ends and element are as they were. It
+/// takes no memory.
 #[unsafe(no_mangle)]
 pub extern "C" fn picky_der_next(
     bytes: &[u8],

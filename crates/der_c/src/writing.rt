@@ -13,8 +13,9 @@ use picky_der_core::misc::Length;
 
 /// Appends an element with this tag and content to the first `used` bytes of `out`, and adds its size to `used`.
 ///
-/// Returns PICKY_DER_OK, or PICKY_DER_NO_ROOM if `out` is too small. Then `out` is as it was, but `used` still grows, so that the same calls
-/// with no room tell how many bytes are needed. Returns PICKY_DER_UNSUPPORTED if so many bytes can't be counted, and then nothing changes.
+/// Returns PICKY_DER_OK, or PICKY_DER_NO_ROOM if `out` is too small. Then `out` is as it was, but `used` still grows,
+/// so that the same calls with no room tell how many bytes are needed. Returns PICKY_DER_UNSUPPORTED if so many bytes
+/// can't be counted, and then nothing changes.
 #[unsafe(no_mangle)]
 pub extern "C" fn picky_der_put(out: &mut [u8], used: &mut usize, tag: u8, content: &[u8]) -> u32
     ensures { IsPut (tlv tag content.now) out.old out.new used.old used.new result }
@@ -32,12 +33,13 @@ pub extern "C" fn picky_der_put(out: &mut [u8], used: &mut usize, tag: u8, conte
     PICKY_DER_OK
 }
 
-/// Makes the bytes from `start` to `used` the content of one element with this tag, and adds the size of its header to `used`. These bytes are
-/// what was written since `used` was `start`.
+/// Makes the bytes from `start` to `used` the content of one element with this tag, and adds the size of its header to
+/// `used`. These bytes are what was written since `used` was `start`.
 ///
-/// Returns PICKY_DER_OK, or PICKY_DER_NO_ROOM if `out` is too small, as picky_der_put does. Returns PICKY_DER_RULE_SET_ORDER if the tag is
-/// that of a SET, 0x31, and its members are neither in the order of their tags nor in that of their encodings; PICKY_DER_NO_PLACE if `start`
-/// is past `used`; and PICKY_DER_UNSUPPORTED if so many bytes can't be counted. Then nothing changes.
+/// Returns PICKY_DER_OK, or PICKY_DER_NO_ROOM if `out` is too small, as picky_der_put does. Returns
+/// PICKY_DER_RULE_SET_ORDER if the tag is that of a SET, 0x31, and its members are neither in the order of their tags
+/// nor in that of their encodings; PICKY_DER_NO_PLACE if `start` is past `used`; and PICKY_DER_UNSUPPORTED if so many
+/// bytes can't be counted. Then nothing changes.
 #[unsafe(no_mangle)]
 pub extern "C" fn picky_der_wrap(out: &mut [u8], used: &mut usize, start: usize, tag: u8) -> u32
     ensures { IsWrapped tag start out.old out.new used.old used.new result }

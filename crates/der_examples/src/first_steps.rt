@@ -22,7 +22,8 @@ pub fn octets(alloc: Global, content: Vec<u8>) -> Result<Vec<u8>>
     to_vec(alloc, &ByteBuf::from(content))
 }
 
-/// Returns the encoding of the number 128, `02 02 00 80`: the tag, the length, a byte 00 that keeps the number from being negative, and 80.
+/// Returns the encoding of the number 128, `02 02 00 80`: the tag, the length, a byte 00 that keeps the number from
+/// being negative, and 80.
 pub fn number(alloc: Global) -> Result<Vec<u8>>
     ensures ok { IfOk result (λ bytes. bytes.items ≡ 0x02 ∷ 0x02 ∷ 0x00 ∷ 0x80 ∷ []) }
     ensures err { IfErr result (λ e. e ≡ Asn1DerError.OutOfMemory) }
@@ -30,8 +31,8 @@ pub fn number(alloc: Global) -> Result<Vec<u8>>
     to_vec(alloc, &128u8)
 }
 
-/// Returns the number of 8 bits at the front: 7 for `02 01 07 05 00`. `02 02 00 80` is read as 128. `02 02 00 7F` is `InvalidData`, since
-/// the shorter `02 01 7F` is the one encoding of 127.
+/// Returns the number of 8 bits at the front: 7 for `02 01 07 05 00`. `02 02 00 80` is read as 128. `02 02 00 7F` is
+/// `InvalidData`, since the shorter `02 01 7F` is the one encoding of 127.
 pub fn small_number(alloc: Global, bytes: &[u8]) -> Result<u8>
     ensures value { IfOk result (IsFront ⟦<u8 as Serialize>⟧.meaning ⟦<u8 as Deserialize>⟧.shape
         ⟦<u8 as PartialEq>⟧.eq bytes.now (length bytes.now)) }
@@ -41,8 +42,8 @@ pub fn small_number(alloc: Global, bytes: &[u8]) -> Result<u8>
     from_bytes(alloc, bytes)
 }
 
-/// Reads the text at the front of a reader. From `0C 02 C3 A9 05 00` it reads `é`, and leaves `05 00` in the reader. It consumes at most
-/// 10240 bytes, whatever length the text announces.
+/// Reads the text at the front of a reader. From `0C 02 C3 A9 05 00` it reads `é`, and leaves `05 00` in the reader. It
+/// consumes at most 10240 bytes, whatever length the text announces.
 pub fn text<R: ReadExt>(alloc: Global, reader: &mut R) -> Result<String>
     ensures value { IfOk result (ReadsFront ⟦<String as Serialize>⟧.meaning
         ⟦<String as Deserialize>⟧.shape ⟦<String as PartialEq>⟧.eq 10240

@@ -26,8 +26,8 @@ pub enum KeyParameters {
     Other(Option<Asn1RawDer>),
 }
 
-/// The algorithm of a key, as a SEQUENCE (RFC 5280, 4.1.1.2). Its parameters have the type that the identifier says. Other parameters are
-/// `InvalidData`.
+/// The algorithm of a key, as a SEQUENCE (RFC 5280, 4.1.1.2). Its parameters have the type that the identifier says.
+/// Other parameters are `InvalidData`.
 #[derive(Debug, Drop)]
 pub struct KeyAlgorithm {
     identifier: ObjectIdentifier,

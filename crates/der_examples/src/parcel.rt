@@ -3,8 +3,8 @@ mod derived;
 
 use picky_asn1_der::{LaterMembers, NoneOf, OneOf};
 
-/// A parcel, with members that later versions may add: `SEQUENCE { number INTEGER (0..4294967295), fragile BOOLEAN, note UTF8String
-/// OPTIONAL, ... }`.
+/// A parcel, with members that later versions may add: `SEQUENCE { number INTEGER (0..4294967295), fragile BOOLEAN,
+/// note UTF8String OPTIONAL, ... }`.
 #[derive(Debug, Drop, PartialEq, Eq)]
 pub struct Parcel {
     /// Its number.
@@ -13,7 +13,8 @@ pub struct Parcel {
     pub fragile: bool,
     /// What is written on it.
     pub note: Option<String>,
-    /// The members of later versions, in order. The type lists the optional members directly before them as alternatives of a choice, and
-    /// `NoneOf` alone if there is none. The first element may not begin as one of these alternatives.
+    /// The members of later versions, in order. The type lists the optional members directly before them as
+    /// alternatives of a choice, and `NoneOf` alone if there is none. The first element may not begin as one of these
+    /// alternatives.
     pub later: LaterMembers<OneOf<String, NoneOf>>,
 }

@@ -1,5 +1,5 @@
-//! A record of personnel, the example of X.690's annex A. It has sets of different members, and application tags instead of the types' own
-//! tags.
+//! A record of personnel, the example of X.690's annex A. It has sets of different members, and application tags
+//! instead of the types' own tags.
 mod derived;
 
 use der_types::{Asn1Set, ImplicitPrimitive, ImplicitSet, Integer, VisibleString};
@@ -37,7 +37,8 @@ pub struct ChildInformation {
     pub date_of_birth: ExplicitContextTag0<RecordDate>,
 }
 
-/// Information about an employee, as the members of a SET in the order of their tags. The members with application tags come first.
+/// Information about an employee, as the members of a SET in the order of their tags. The members with application tags
+/// come first.
 // asn1: set
 #[derive(Debug, Drop, PartialEq, Eq)]
 pub struct PersonnelMembers {

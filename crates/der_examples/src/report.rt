@@ -15,7 +15,8 @@ pub struct Report {
     pub moment: Moment,
     /// Whether nobody checked the report.
     pub automatic: bool,
-    /// The height above the sea in meters. A report without it can't be read back, since the next member is also an INTEGER.
+    /// The height above the sea in meters. A report without it can't be read back, since the next member is also an
+    /// INTEGER.
     pub height: Option<u16>, // asn1: element
     /// The air pressure in pascals.
     pub pressure: u32,

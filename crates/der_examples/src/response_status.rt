@@ -1,8 +1,8 @@
 //! An ENUMERATED whose values have names.
 mod derived;
 
-/// The outcome of a request for the status of a certificate, as an ENUMERATED (RFC 6960, 4.2.1). Every other content is refused with
-/// `InvalidData`.
+/// The outcome of a request for the status of a certificate, as an ENUMERATED (RFC 6960, 4.2.1). Every other content is
+/// refused with `InvalidData`.
 // asn1: exact
 #[derive(Debug, Clone, Copy, PartialEq, Eq)]
 pub enum ResponseStatus {

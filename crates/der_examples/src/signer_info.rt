@@ -15,7 +15,8 @@ pub struct SignerInfo {
     pub identifier: Asn1RawDer,
     /// The algorithm of the content's digest.
     pub digest_algorithm: AlgorithmIdentifier,
-    /// More attributes that are signed. The signature is over `to_vec(alloc, &attributes.0)`, the SET OF attributes with its own tag.
+    /// More attributes that are signed. The signature is over `to_vec(alloc, &attributes.0)`, the SET OF attributes
+    /// with its own tag.
     pub signed_attributes: Option<ImplicitList0<Asn1SetOf<Attribute>>>,
     /// The algorithm of the signature.
     pub signature_algorithm: AlgorithmIdentifier,

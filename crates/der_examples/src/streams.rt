@@ -11,8 +11,8 @@ use picky_asn1_der::{
 };
 use std::alloc::Global;
 
-/// Reads a number and the text after it: 7 and `hi` from `02 01 07 0C 02 68 69`. Its errors are the errors of `next_from_bytes` for the
-/// number, and of `from_bytes` for the text.
+/// Reads a number and the text after it: 7 and `hi` from `02 01 07 0C 02 68 69`. Its errors are the errors of
+/// `next_from_bytes` for the number, and of `from_bytes` for the text.
 pub fn number_and_text(alloc: Global, bytes: &[u8]) -> Result<(u8, String)>
     ensures number { IfOk result (λ pair. IsFront ⟦<u8 as Serialize>⟧.meaning
         ⟦<u8 as Deserialize>⟧.shape ⟦<u8 as PartialEq>⟧.eq bytes.now (length bytes.now) pair.0) }
@@ -33,8 +33,8 @@ pub fn number_and_text(alloc: Global, bytes: &[u8]) -> Result<(u8, String)>
     Ok((number, text))
 }
 
-/// Reads the next text of a reader, in at most 4096 bytes, or returns `None` if the reader has no more bytes. A text that is cut short is
-/// `TruncatedData`.
+/// Reads the next text of a reader, in at most 4096 bytes, or returns `None` if the reader has no more bytes. A text
+/// that is cut short is `TruncatedData`.
 pub fn next_text<R: ReadExt>(alloc: Global, reader: &mut R) -> Result<Option<String>>
     ensures value { IfOk result (λ next. IfSome next
         (ReadsFront ⟦<String as Serialize>⟧.meaning ⟦<String as Deserialize>⟧.shape

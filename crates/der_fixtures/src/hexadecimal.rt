@@ -9,8 +9,8 @@ use std::alloc::{AllocError, Global};
 
 /// Returns the bytes of a text of hexadecimal digits in upper or lower case, two for each byte. Spaces are skipped.
 ///
-/// `OutOfMemory` if an allocation fails. The other errors are the errors of `hex::decode` for the text without its spaces: an odd number of
-/// digits, or a character that isn't a digit.
+/// `OutOfMemory` if an allocation fails. The other errors are the errors of `hex::decode` for the text without its
+/// spaces: an odd number of digits, or a character that isn't a digit.
 pub fn bytes_of(alloc: Global, text: &str) -> Result<Vec<u8>, FromHexError>
     ensures ok { IfOk result (λ bytes. decode_of (without_spaces text.now) ≡ Ok bytes.items) }
     ensures err { IfErr result

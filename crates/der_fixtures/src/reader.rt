@@ -52,8 +52,8 @@ impl Read for SlowReader<'_> {
     }
 }
 
-/// A reader that returns one byte per call, except for one call that fails. The call after the failure returns the byte that would have
-/// come then.
+/// A reader that returns one byte per call, except for one call that fails. The call after the failure returns the byte
+/// that would have come then.
 #[derive(Drop)]
 pub struct FailingReader<'a> {
     reader: SlowReader<'a>,
@@ -65,8 +65,8 @@ pub struct FailingReader<'a> {
 impl<'a> FailingReader<'a> {
     ghost use Rattle.der_fixtures.specs.Devices.{left_of, total_of, inner_of};
 
-    /// Returns a reader of these bytes whose call number `call` fails with an error of this kind. Calls are counted from 1. With 0, no call
-    /// fails.
+    /// Returns a reader of these bytes whose call number `call` fails with an error of this kind. Calls are counted
+    /// from 1. With 0, no call fails.
     pub fn new(bytes: &'a [u8], call: usize, kind: ErrorKind) -> FailingReader<'a>
         ensures left { left_of (inner_of result) ≡ bytes.now }
         ensures total { total_of (inner_of result) ≡ length bytes.now }

@@ -1,5 +1,6 @@
 -- The calendars of der_types and jiff count the same days.
-use Rattle.std.proofs.Common.{◌≡◌, ℕ, zero, suc, ◌+◌, ◌-◌, ◌<◌, ◌≤◌, ◌<ℤ◌, ◌⊎◌, inl, inr, Option, Some, None, IfNone, refl, sym, subst, ◌∙◌, arith, pos, ◌-ℤ◌}
+use Rattle.std.proofs.Common.{◌≡◌, ℕ, zero, suc, ◌+◌, ◌-◌, ◌<◌, ◌≤◌, ◌<ℤ◌, ◌⊎◌, inl, inr, Option, Some, None, IfNone}
+use Rattle.std.proofs.Common.{refl, sym, subst, ◌∙◌, arith, pos, ◌-ℤ◌}
 use Rattle.std.proofs.lemmas.Bool.Decides.{nat_tests}
 use Rattle.jiff_core.specs.declared.civil.date.Date.{Date}
 use Rattle.jiff_core.specs.declared.civil.datetime.DateTime.{DateTime as Civil}
@@ -19,7 +20,12 @@ use Rattle.der_jiff.specs.JiffTimes.{Shows, unix_nanoseconds}
 years : (y : ℕ) → day_count (pos y) 1 1 ≡ days_before_year y + 3_652_425
 years zero = day_count-early (pos 0) 9999 1 1 refl (omega arith) (omega arith) (omega arith)
 years (suc y) =
-    omega (arith, years y, day_count-next_year (pos y) (pos (suc y)) (omega (arith, signed_arith)) (omega (arith, signed_arith)))
+    omega (
+      arith,
+      years y,
+      day_count-next_year (pos y) (pos (suc y)) (omega (arith, signed_arith))
+          (omega (arith, signed_arith)),
+    )
 
 lengths : (y m : ℕ) → 1 ≤ m → m ≤ 12 → days_in_month (pos y) m ≡ days_in y m
 lengths y m a b = grind (arith, nat_tests)
@@ -32,17 +38,26 @@ months y (suc m) h = omega (arith, months y m (omega arith), lengths y (suc m) (
 days : (y m d : ℕ) → 1 ≤ m → m ≤ 12 → 1 ≤ d → day_count (pos y) m d ≡ days_before y m d + 3_652_425
 days y m d a b first =
     let back : suc (m - 1) ≡ m = omega arith in
-    let before : days_of_months (pos y) (m - 1) ≡ days_before_month y m = subst (λ n. days_of_months (pos y) (m - 1) ≡ days_before_month y n) back (months y (m - 1) (omega arith)) in
+    let before : days_of_months (pos y) (m - 1) ≡ days_before_month y m =
+    subst (λ n. days_of_months (pos y) (m - 1) ≡ days_before_month y n) back (months y (m - 1) (omega arith)) in
     omega (arith, years y, day_count-day_of_year (pos y) m d first)
 
 -- jiff has the day at the same distance from the first of January 1970
-same_day : (at : DateTime) (date : Date) → date.year ≡ pos at.year → date.month ≡ at.month → date.day ≡ at.day → epoch_day date ≡ pos (days_before at.year at.month at.day) -ℤ pos 719_528
+same_day : (at : DateTime) (date : Date) → date.year ≡ pos at.year → date.month ≡ at.month → date.day ≡ at.day
+    → epoch_day date ≡ pos (days_before at.year at.month at.day) -ℤ pos 719_528
 same_day at date year month day =
-    rw (year, month, day) (omega (arith, signed_arith, days_from_civil-day_count (pos at.year) at.month at.day, days at.year at.month at.day (omega (arith, date.month_in.0)) (omega (arith, date.month_in.1)) (omega (arith, date.day_in.0))))
+    rw (year, month, day) (omega (
+      arith,
+      signed_arith,
+      days_from_civil-day_count (pos at.year) at.month at.day,
+      days at.year at.month at.day (omega (arith, date.month_in.0)) (omega (arith, date.month_in.1))
+          (omega (arith, date.day_in.0)),
+    ))
 
 pub same_nanos : (at : DateTime) (civil : Civil) → Shows civil at 0 → civil_nanos civil ≡ unix_nanoseconds at
 same_nanos at civil same =
-    let day = same_day at civil.date same.date.0 (omega (arith, signed_arith, same.date.1)) (omega (arith, signed_arith, same.date.2)) in
+    let day = same_day at civil.date same.date.0 (omega (arith, signed_arith, same.date.1))
+    (omega (arith, signed_arith, same.date.2)) in
     omega (arith, signed_arith, civil_nanos-parts civil, day, same.time)
 
 -- what jiff has of a second of der_types
@@ -80,7 +95,8 @@ civil_of_date at =
     )
 
 -- a datetime of jiff at the same instant shows the same
-pub shown : (at : DateTime) (civil : Civil) → civil_nanos civil ≡ unix_nanoseconds at → (civil.date.year ≡ pos at.year) × (civil.time.subsec_nanosecond ≡ 0)
+pub shown : (at : DateTime) (civil : Civil) → civil_nanos civil ≡ unix_nanoseconds at
+    → (civil.date.year ≡ pos at.year) × (civil.time.subsec_nanosecond ≡ 0)
 shown at civil e =
     let one = civil_of_date at in
     let same = civil_nanos_injective civil one.0 (e ∙ sym (same_nanos at one.0 one.1)) in
@@ -89,7 +105,8 @@ shown at civil e =
     (date.0 ∙ one.1.date.0, time.3 ∙ (omega (arith, signed_arith, one.1.time.3)))
 
 -- one that is before the year 0 or has a fraction shows no second of der_types
-pub shows_none : (civil : Civil) → (civil.date.year <ℤ pos 0) ⊎ (0 < civil.time.subsec_nanosecond) → (at : DateTime) → civil_nanos civil ≡ unix_nanoseconds at → ⊥
+pub shows_none : (civil : Civil) → (civil.date.year <ℤ pos 0) ⊎ (0 < civil.time.subsec_nanosecond) → (at : DateTime)
+    → civil_nanos civil ≡ unix_nanoseconds at → ⊥
 shows_none civil (inl before) at e = omega (arith, signed_arith, before, (shown at civil e).0)
 shows_none civil (inr fraction) at e = omega (arith, fraction, (shown at civil e).1)
 

@@ -1,9 +1,10 @@
 //! Conversions between dates and times of `der_types` and of the crate `jiff`.
 //!
-//! They are functions, since the types belong to other crates. The contracts of `jiff` say which year, month, day, hour, minute, second and
-//! nanosecond each of its values shows. They also say how many nanoseconds after 1970 each of its instants is. So what is proved of an
-//! instant is that the calendars of both crates count the same days.
-ghost use Rattle.std.specs.Prelude.{◌≡◌, ◌↔◌, ◌⊎◌, ◌<◌, ◌≤◌, ◌^◌, ◌<ℤ◌, ◌++◌, pos, true, length, IsOk, OnOk, IfOk, IfErr, IfSome, IfNone};
+//! They are functions, since the types belong to other crates. The contracts of `jiff` say which year, month, day,
+//! hour, minute, second and nanosecond each of its values shows. They also say how many nanoseconds after 1970 each of
+//! its instants is. So what is proved of an instant is that the calendars of both crates count the same days.
+ghost use Rattle.std.specs.Prelude.{◌≡◌, ◌↔◌, ◌⊎◌, ◌<◌, ◌≤◌, ◌^◌, ◌<ℤ◌, ◌++◌, pos, true, length, IsOk, OnOk, IfOk};
+ghost use Rattle.std.specs.Prelude.{IfErr, IfSome, IfNone};
 ghost use Rattle.jiff.specs.Words.{IsRange, IsTimestampNanos};
 ghost use Rattle.der_types.specs.GeneralizedTimes.{scaled};
 ghost use Rattle.der_types.specs.TimeContents.{are_digits, fraction_of, is_generalized_time};
@@ -68,7 +69,8 @@ pub fn from_civil(at: civil::DateTime) -> Option<DateTime>
     whole_second(at)
 }
 
-/// Returns the same second as an instant. The error is `Range` after 22:00:00 on 30 December 9999, the last second of `jiff`'s instants.
+/// Returns the same second as an instant. The error is `Range` after 22:00:00 on 30 December 9999, the last second of
+/// `jiff`'s instants.
 pub fn to_timestamp(at: DateTime) -> Result<Timestamp, Error>
     ensures succeeds { IsOk result ↔ IsTimestampNanos (unix_nanoseconds at) }
     ensures value { IfOk result (λ instant. instant.nanosecond ≡ unix_nanoseconds at) }
@@ -177,7 +179,8 @@ fn content_with(alloc: Global, at: DateTime, nanoseconds: u32) -> Result<Vec<u8>
     Ok(content)
 }
 
-/// Returns the same time, with the fewest digits of its fraction, or `None` if the year is before 0. `OutOfMemory` if an allocation fails.
+/// Returns the same time, with the fewest digits of its fraction, or `None` if the year is before 0. `OutOfMemory` if
+/// an allocation fails.
 pub fn generalized_time_from_civil(
     alloc: Global,
     at: civil::DateTime,

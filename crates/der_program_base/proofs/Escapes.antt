@@ -1,5 +1,6 @@
 -- What is appended to a line.
-use Rattle.std.proofs.Common.{◌≡◌, ℕ, Bool, true, false, List, [], ◌∷◌, ◌++◌, ◌<◌, ◌/◌, ◌%◌, Option, Some, None, append-nil, append_assoc, refl, sym, ap, ◌∙◌, IfSome, map, lit<, arith}
+use Rattle.std.proofs.Common.{◌≡◌, ℕ, Bool, true, false, List, [], ◌∷◌, ◌++◌, ◌<◌, ◌/◌, ◌%◌, Option, Some, None}
+use Rattle.std.proofs.Common.{append-nil, append_assoc, refl, sym, ap, ◌∙◌, IfSome, map, lit<, arith}
 use Rattle.std.specs.Prelude.{encode_utf8}
 use Rattle.std.proofs.lemmas.Grind.{flat_map-append}
 use Rattle.std.specs.List.{flat_map, concat, FoldsTo}
@@ -15,7 +16,8 @@ use Rattle.std.proofs.lemmas.Bool.{and_parts}
 use Rattle.std.proofs.lemmas.Str.{IsUtf8-from_ascii}
 use Rattle.std.proofs.lemmas.Str.Ascii.{IsAscii-nil, IsAscii-cons}
 use Rattle.der_program_base.proofs.OneLine.{not_disruptive, is_visible, literal_line}
-use Rattle.der_program_base.specs.Line.{is_disruptive, IsOneLine, escaped_character, escaped, nothing_special, shown, shown_character, hexadecimal_digit, two_digits}
+use Rattle.der_program_base.specs.Line.{is_disruptive, IsOneLine, escaped_character, escaped, nothing_special, shown}
+use Rattle.der_program_base.specs.Line.{shown_character, hexadecimal_digit, two_digits}
 
 -- ---- one more
 
@@ -51,7 +53,11 @@ AppendsText old text new = IsUtf8 text × (new ≡ old ++ shown text)
 
 appends_all : (old : List ℕ) (parts : List (List ℕ)) (new : List ℕ) → FoldsTo AppendsText old parts new
     → AppendsText old (concat parts) new
-appends_all old [] new h = (IsUtf8-nil, sym h ∙ sym (ap (λ l. old ++ flat_map (escaped_character nothing_special) l) chars-nil ∙ append-nil old))
+appends_all old [] new h = (
+  IsUtf8-nil,
+  sym h ∙ sym (ap (λ l. old ++ flat_map (escaped_character nothing_special) l) chars-nil
+      ∙ append-nil old),
+)
 appends_all old (part ∷ parts) new (line, first, rest) =
     let others = appends_all line parts new rest in (
       IsUtf8-append part (concat parts) first.0 others.0,
@@ -91,7 +97,8 @@ module _ (special : ℕ → Bool) (c : ℕ) (old new : List ℕ) where
   pub special_pushed : (between : List ℕ) → special c ≡ true → between ≡ old ++ shown_character 92
       → new ≡ between ++ shown_character c → new ≡ old ++ escaped_character special c
   special_pushed between is first second =
-      rw is (second ∙ ap (λ l. l ++ shown_character c) (first ∙ ap (λ l. old ++ l) (shown_ascii 92 (lit< tt) refl)) ∙ append_assoc old (92 ∷ []) (shown_character c))
+      rw is (second ∙ ap (λ l. l ++ shown_character c) (first ∙ ap (λ l. old ++ l) (shown_ascii 92 (lit< tt) refl))
+      ∙ append_assoc old (92 ∷ []) (shown_character c))
 
   -- and without
   pub plain_pushed : special c ≡ false → new ≡ old ++ shown_character c → new ≡ old ++ escaped_character special c
@@ -105,7 +112,8 @@ map_same (x ∷ xs) = ap (λ l. x ∷ l) (map_same xs)
 
 pub each_pushed : (written : ℕ → List ℕ) (text old new characters : List ℕ) → map (λ c. c) characters ≡ chars text
     → new ≡ old ++ flat_map written characters → new ≡ old ++ flat_map written (chars text)
-each_pushed written text old new characters all e = e ∙ ap (λ l. old ++ flat_map written l) (sym (map_same characters) ∙ all)
+each_pushed written text old new characters all e =
+    e ∙ ap (λ l. old ++ flat_map written l) (sym (map_same characters) ∙ all)
 
 pub all_pushed : (special : ℕ → Bool) (text old new characters : List ℕ) → map (λ c. c) characters ≡ chars text
     → new ≡ old ++ flat_map (escaped_character special) characters → new ≡ old ++ escaped special text

@@ -13,6 +13,7 @@ trimmed_is line result h = trim_ascii_is line result _ refl h
 -- what is left of a line that has the front
 pub labelled : (line front rest : List ℕ) (result : Option (Bor (List ℕ))) → line ≡ front ++ rest
     → MatchOption result ((other : List ℕ) → rest ≢ other ++ dashes) (λ label. rest ≡ label.now ++ dashes)
-    → MatchOption result ((label : List ℕ) → line ≡ front ++ (label ++ dashes) → ⊥) (λ label. line ≡ front ++ (label.now ++ dashes))
+    → MatchOption result ((label : List ℕ) → line ≡ front ++ (label ++ dashes)
+    → ⊥) (λ label. line ≡ front ++ (label.now ++ dashes))
 labelled line front rest None is h = λ label e. h label (append_cancel_left front rest (label ++ dashes) (sym is ∙ e))
 labelled line front rest (Some label) is h = is ∙ ap (λ l. front ++ l) h

@@ -1,6 +1,7 @@
 -- Texts on one line.
 use mathlib.Core.Bool.{true≢false}
-use Rattle.std.proofs.Common.{◌≡◌, ℕ, ◌<◌, Bool, true, false, cond, not, ◌&&◌, List, [], ◌∷◌, ◌++◌, append-nil, sym, subst, arith, refl}
+use Rattle.std.proofs.Common.{◌≡◌, ℕ, ◌<◌, Bool, true, false, cond, not, ◌&&◌, List, [], ◌∷◌, ◌++◌, append-nil, sym}
+use Rattle.std.proofs.Common.{subst, arith, refl}
 use Rattle.std.specs.Prelude.{encode_utf8, nat_lt}
 use Rattle.std.specs.Char.{is_control}
 use Rattle.std.specs.List.{list_all}
@@ -15,7 +16,8 @@ pub joined_line : (front back : List ℕ) → IsOneLine front → IsOneLine back
 joined_line front back = NoCharPasses-append is_disruptive front back
 
 -- what `push` of a String leaves
-pub pushed_line : (is_pushed : Bool) (old : List ℕ) (c : ℕ) → is_disruptive c ≡ false → IsOneLine old → IsOneLine (cond is_pushed (old ++ encode_utf8 c) old)
+pub pushed_line : (is_pushed : Bool) (old : List ℕ) (c : ℕ) → is_disruptive c ≡ false → IsOneLine old
+    → IsOneLine (cond is_pushed (old ++ encode_utf8 c) old)
 pushed_line true old c visible h = joined_line old (encode_utf8 c) h (one_character c visible)
 pushed_line false old c visible h = h
 
@@ -31,7 +33,8 @@ abbrev pub is_visible : ℕ → Bool
 is_visible byte = nat_lt byte 128 && not (is_control byte)
 
 one_byte : (byte : ℕ) → byte < 128 → is_control byte ≡ false → IsOneLine (byte ∷ [])
-one_byte byte small visible = subst IsOneLine (encode_ascii byte small) (one_character byte (not_disruptive byte small visible))
+one_byte byte small visible =
+    subst IsOneLine (encode_ascii byte small) (one_character byte (not_disruptive byte small visible))
 
 both_true : (p q : Bool) → p && q ≡ true → (p ≡ true) × (q ≡ true)
 both_true true q h = (refl, h)

@@ -1,5 +1,7 @@
 -- Lines that are read up to a boundary, and blocks that are read one after another.
-use Rattle.std.proofs.Common.{◌≡◌, ℕ, suc, ◌+◌, ◌-◌, ◌<◌, ◌≤◌, Bool, true, false, cond, List, [], ◌∷◌, ◌++◌, length, take, drop, get_or, map, Err, Result, refl, sym, ap, ◌∙◌, subst, arith, append_assoc, length-append, length-drop, take_all}
+use Rattle.std.proofs.Common.{◌≡◌, ℕ, suc, ◌+◌, ◌-◌, ◌<◌, ◌≤◌, Bool, true, false, cond, List, [], ◌∷◌, ◌++◌, length}
+use Rattle.std.proofs.Common.{take, drop, get_or, map, Err, Result, refl, sym, ap, ◌∙◌, subst, arith, append_assoc}
+use Rattle.std.proofs.Common.{length-append, length-drop, take_all}
 use Rattle.std.specs.Borrow.{Bor}
 use Rattle.std.specs.List.{list_any, fold, drop-map}
 use Rattle.std.specs.Prelude.{count_by}
@@ -11,7 +13,9 @@ use Rattle.base64.specs.GeneralPurpose.{decode_of}
 use Rattle.der_program_base.specs.declared.blocks.Block.{Block}
 use Rattle.der_program_base.specs.declared.blocks.BlockFault.TheVariants.{NoBegin, NoEnd, Headers}
 use Rattle.der_program_base.specs.Lines.{texts, is_filled, IsBegin, IsEnd, IsOther, AreOther}
-use Rattle.der_program_base.specs.Sections.{Section, lines_in, all_lines, IsSection, NextBegins, MayPrecede, AreSections, HasSections, has_colon, base64_in, or_no_base64, bytes_in, block_in, items_of, value_of}
+use Rattle.der_program_base.specs.Sections.{Section, lines_in, all_lines, IsSection, NextBegins, MayPrecede}
+use Rattle.der_program_base.specs.Sections.{AreSections, HasSections, has_colon, base64_in, or_no_base64, bytes_in}
+use Rattle.der_program_base.specs.Sections.{block_in, items_of, value_of}
 use Rattle.der_program_base.specs.Boundaries.{IsBoundary, IsFirstBlock, IsBody, ended, not_ended}
 use Rattle.der_program_base.specs.declared.blocks.Boundary.{Boundary}
 use Rattle.der_program_base.proofs.Escapes.{flat_map_push}
@@ -45,20 +49,25 @@ texts_more lines i d h = ap texts (take_more lines i d h)
 
 pub others_more : (lines : List (Bor (List ℕ))) (i : ℕ) (d : Bor (List ℕ)) → i < length lines
     → AreOther (texts (take i lines)) → IsOther (get_or lines i d).now → AreOther (texts (take (i + 1) lines))
-others_more lines i d h before here = subst AreOther (sym (texts_more lines i d h)) (others_push (texts (take i lines)) (get_or lines i d).now before here)
+others_more lines i d h before here =
+    subst AreOther (sym (texts_more lines i d h)) (others_push (texts (take i lines)) (get_or lines i d).now before
+    here)
 
 rest_of : (lines : List (Bor (List ℕ))) (i : ℕ) → texts (take (length lines - i) (drop i lines)) ≡ texts (drop i lines)
 rest_of lines i = ap texts (take_all (length lines - i) (drop i lines) (omega (arith, length-drop i lines)))
 
 split_line : (lines : List (Bor (List ℕ))) (i : ℕ) (d : Bor (List ℕ)) → i < length lines
-    → texts lines ≡ texts (take i lines) ++ ((get_or lines i d).now ∷ texts (take (length lines - (i + 1)) (drop (i + 1) lines)))
+    → texts lines ≡ texts (take i lines)
+    ++ ((get_or lines i d).now ∷ texts (take (length lines - (i + 1)) (drop (i + 1) lines)))
 split_line lines i d h =
     ap texts (sym (take-append-drop i lines)) ∙ map-append (λ line. line.now) (take i lines) (drop i lines)
-    ∙ ap (λ l. texts (take i lines) ++ l) (ap texts (drop_more lines i d h) ∙ ap (λ l. (get_or lines i d).now ∷ l) (sym (rest_of lines (i + 1))))
+    ∙ ap (λ l. texts (take i lines) ++ l) (ap texts (drop_more lines i d h)
+    ∙ ap (λ l. (get_or lines i d).now ∷ l) (sym (rest_of lines (i + 1))))
 
 pub found_line : (lines : List (Bor (List ℕ))) (i : ℕ) (d : Bor (List ℕ)) (boundary : Boundary) → i < length lines
     → AreOther (texts (take i lines)) → IsBoundary (get_or lines i d).now boundary
-    → (line : List ℕ) × AreOther (texts (take i lines)) × IsBoundary line boundary × (texts lines ≡ texts (take i lines) ++ (line ∷ texts (take (length lines - (i + 1)) (drop (i + 1) lines))))
+    → (line : List ℕ) × AreOther (texts (take i lines)) × IsBoundary line boundary
+    × (texts lines ≡ texts (take i lines) ++ (line ∷ texts (take (length lines - (i + 1)) (drop (i + 1) lines))))
 found_line lines i d boundary h others is = ((get_or lines i d).now, others, is, split_line lines i d h)
 
 -- ---- the lines after others
@@ -82,7 +91,8 @@ pub begins_after : (lines front : List (Bor (List ℕ))) (label line begin : Lis
     → IsBody label (texts lines) (Err NoEnd) (texts (take (length lines - length front) (drop (length front) lines)))
 begins_after lines front label line begin rest others h e =
     let left = texts_after lines front (line ∷ rest) e in
-    not_ended (texts front) others (subst NextBegins (sym left) (begin, h)) (e ∙ ap (λ l. texts front ++ l) (sym left)) refl
+    not_ended (texts front) others (subst NextBegins (sym left) (begin, h)) (e ∙ ap (λ l. texts front ++ l) (sym left))
+    refl
 
 -- ---- the bytes of a block
 
@@ -99,11 +109,13 @@ no_headers body text outcome h e d = rw h (sym (ap or_no_base64 (ap (decode_of s
 -- ---- one block
 
 some_lines : (section : Section) → 0 < length (lines_in section)
-some_lines (Section.whole outside begin label body end end_label) = omega (arith, length-append outside (begin ∷ (body ++ (end ∷ []))))
+some_lines (Section.whole outside begin label body end end_label) =
+    omega (arith, length-append outside (begin ∷ (body ++ (end ∷ []))))
 some_lines (Section.cut outside begin label body) = omega (arith, length-append outside (begin ∷ body))
 some_lines (Section.stray outside end label) = omega (arith, length-append outside (end ∷ []))
 
-module _ {lines rest : List (List ℕ)} (outside : List (List ℕ)) (block : Block) (others : AreOther outside) (skipped : block.skipped ≡ count_by is_filled outside) where
+module _ {lines rest : List (List ℕ)} (outside : List (List ℕ)) (block : Block) (others : AreOther outside)
+    (skipped : block.skipped ≡ count_by is_filled outside) where
   pub stray_first : (end label : List ℕ) → IsEnd end label → lines ≡ outside ++ (end ∷ rest)
       → block.label.items ≡ label → items_of block.bytes ≡ Err NoBegin → IsFirstBlock lines block rest
   stray_first end label h is same bytes = record {
@@ -144,7 +156,8 @@ sections_push : (sections : List Section) (section : Section) (rest : List (List
     → AreSections sections (lines_in section ++ rest) → IsSection section → MayPrecede section rest
     → AreSections (sections ++ (section ∷ [])) rest
 sections_push [] section rest h is next = (is, next, tt)
-sections_push (s ∷ ss) section rest h is next = (h.0, subst (MayPrecede s) (sym (all_push ss section rest)) h.1, sections_push ss section rest h.2 is next)
+sections_push (s ∷ ss) section rest h is next =
+    (h.0, subst (MayPrecede s) (sym (all_push ss section rest)) h.1, sections_push ss section rest h.2 is next)
 
 -- the blocks of the lines before `start` were read
 pub record ReadsOn (lines : List (Bor (List ℕ))) (blocks : List Block) (start : ℕ) : Type 0 where
@@ -157,7 +170,9 @@ pub record ReadsOn (lines : List (Bor (List ℕ))) (blocks : List Block) (start 
 pub reads_none : (lines : List (Bor (List ℕ))) → ReadsOn lines [] 0
 reads_none lines = record { within = omega arith; sections = []; are = refl; is = refl; sections_are = tt }
 
-module _ (lines : List (Bor (List ℕ))) (start : ℕ) (block : Block) (rest : List (Bor (List ℕ))) (first : IsFirstBlock (texts (take (length lines - start) (drop start lines))) block (texts rest)) (within : start ≤ length lines) where
+module _ (lines : List (Bor (List ℕ))) (start : ℕ) (block : Block) (rest : List (Bor (List ℕ)))
+    (first : IsFirstBlock (texts (take (length lines - start) (drop start lines))) block (texts rest))
+    (within : start ≤ length lines) where
   left_is : texts (drop start lines) ≡ lines_in first.section ++ texts rest
   left_is = sym (rest_of lines start) ∙ first.is
 
@@ -171,7 +186,8 @@ module _ (lines : List (Bor (List ℕ))) (start : ℕ) (block : Block) (rest : L
 
   left_after : texts (drop (length lines - length rest) lines) ≡ texts rest
   left_after =
-      let more : length lines - length rest ≡ start + length (lines_in first.section) = omega (arith, counted, within) in
+      let more : length lines - length rest ≡ start + length (lines_in first.section) =
+      omega (arith, counted, within) in
       ap (λ n. texts (drop n lines)) more
       ∙ sym (drop-map (λ line. line.now) (start + length (lines_in first.section)) lines)
       ∙ sym (drop-drop (length (lines_in first.section)) start (texts lines))
@@ -186,12 +202,22 @@ module _ (lines : List (Bor (List ℕ))) (start : ℕ) (block : Block) (rest : L
     are = map-append value_of blocks (block ∷ []) ∙ ap (λ l. l ++ (value_of block ∷ [])) h.are
         ∙ ap (λ v. map block_in h.sections ++ (v ∷ [])) first.block_is
         ∙ sym (map-append block_in h.sections (first.section ∷ []));
-    is = rw left_after (h.is ∙ ap (λ l. all_lines h.sections ++ l) left_is ∙ sym (all_push h.sections first.section (texts rest)));
-    sections_are = rw left_after (sections_push h.sections first.section (texts rest) (subst (AreSections h.sections) left_is h.sections_are) first.is_section first.may_precede);
+    is = rw left_after (h.is ∙ ap (λ l. all_lines h.sections ++ l) left_is
+        ∙ sym (all_push h.sections first.section (texts rest)));
+    sections_are =
+        rw left_after
+        (sections_push h.sections first.section (texts rest) (subst (AreSections h.sections) left_is h.sections_are)
+        first.is_section first.may_precede);
   }
 
 -- all were read
 pub reads_all : (lines : List (Bor (List ℕ))) (blocks : List Block) (start : ℕ) (h : ReadsOn lines blocks start)
     → AreOther (texts (take (length lines - start) (drop start lines)))
     → HasSections (texts lines) h.sections (texts (take (length lines - start) (drop start lines)))
-reads_all lines blocks start h others = record { is = rw (rest_of lines start) h.is; sections_are = rw (rest_of lines start) h.sections_are; after_is = others }
+reads_all lines blocks start h others =
+    record {
+      is = rw (rest_of lines start) h.is;
+      sections_are = rw (rest_of lines start) h.sections_are;
+      after_is =
+          others;
+    }

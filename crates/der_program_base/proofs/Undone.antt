@@ -1,6 +1,7 @@
 -- Escapes can be undone.
 use mathlib.Core.Bool.{true≢false}
-use Rattle.std.proofs.Common.{◌≡◌, ℕ, ◌+◌, ◌<◌, ◌/◌, ◌%◌, lit<, length, lt-ltb, le-ltb, inl, inr, Bool, true, false, List, [], ◌∷◌, ◌++◌, append-nil, refl, sym, ap, ◌∙◌, subst, arith}
+use Rattle.std.proofs.Common.{◌≡◌, ℕ, ◌+◌, ◌<◌, ◌/◌, ◌%◌, lit<, length, lt-ltb, le-ltb, inl, inr, Bool, true, false}
+use Rattle.std.proofs.Common.{List, [], ◌∷◌, ◌++◌, append-nil, refl, sym, ap, ◌∙◌, subst, arith}
 use lib.Utf8.{encode, next}
 use Rattle.std.specs.Prelude.{encode_utf8}
 use Rattle.std.proofs.lemmas.Bool.{cases_lt}
@@ -13,7 +14,9 @@ use Rattle.std.specs.Prelude.{if◌then◌else◌}
 use Rattle.std.proofs.Common.{get_or}
 use Rattle.std.proofs.lemmas.Str.{IsUtf8-from_is_utf8}
 use Rattle.der_program_base.specs.Texts.{marked_bytes, text_or_bytes}
-use Rattle.der_program_base.specs.Line.{hexadecimal, is_disruptive, IsEscaping, hexadecimal_digit, two_digits, escaped_byte, escaped_character, escaped, is_special_in_names, is_special_in_quotes}
+use Rattle.der_program_base.specs.Line.{hexadecimal, is_disruptive, IsEscaping, hexadecimal_digit, two_digits}
+use Rattle.der_program_base.specs.Line.{escaped_byte, escaped_character, escaped, is_special_in_names}
+use Rattle.der_program_base.specs.Line.{is_special_in_quotes}
 
 -- ---- digits
 
@@ -74,7 +77,12 @@ first_byte c h = elim (cases_lt c 128) [
   | inl one ↦ (c, [], rw (lt-ltb c 128 one) refl, omega arith)
   | inr more ↦ elim (cases_lt c 2048) [
     | inl two ↦ (192 + c / 64, next c ∷ [], rw (le-ltb c 128 more, lt-ltb c 2048 two) refl, omega arith)
-    | inr three ↦ (224 + c / 4096, next (c / 64) ∷ next c ∷ [], rw (le-ltb c 128 more, le-ltb c 2048 three, lt-ltb c 65536 h) refl, omega arith)
+    | inr three ↦ (
+      224 + c / 4096,
+      next (c / 64) ∷ next c ∷ [],
+      rw (le-ltb c 128 more, le-ltb c 2048 three, lt-ltb c 65536 h) refl,
+      omega arith,
+    )
   ]
 ]
 
@@ -111,7 +119,8 @@ module _ (special : ℕ → Bool) (h : IsEscaping special) where
       → 92 ∷ encode_utf8 c ++ x ≡ flat_map escaped_byte (encode_utf8 d) ++ y → ⊥
   marked_no_bytes c d x y is hid e =
       let (b, bs, some, small) = first_byte d (disruptive_below d hid) in
-      let all : 92 ∷ c ∷ x ≡ 92 ∷ hexadecimal_digit (b / 16) ∷ hexadecimal_digit (b % 16) ∷ (flat_map escaped_byte bs ++ y) =
+      let all : 92 ∷ c ∷ x ≡ 92 ∷ hexadecimal_digit (b / 16) ∷ hexadecimal_digit (b % 16)
+      ∷ (flat_map escaped_byte bs ++ y) =
       ap (λ l. 92 ∷ l ++ x) (sym (encode_ascii c (h.ascii c is))) ∙ e ∙ rw some refl in
       let same : c ≡ hexadecimal_digit (b / 16) = cc in
       true≢false (sym is ∙ ap special same ∙ h.no_digit (b / 16) (omega arith))
@@ -121,7 +130,8 @@ module _ (special : ℕ → Bool) (h : IsEscaping special) where
   one_step c d x y (plain s e) (plain t f) k = encode_same c d x y (rw (e, f) at k)
   one_step c d x y (plain s e) (marked t f) k = absurd (plain_no_escape c x (encode_utf8 d ++ y) s (rw (e, f) at k))
   one_step c d x y (plain s e) (hidden u f) k = absurd (plain_no_bytes c d x y s (rw (e, f) at k))
-  one_step c d x y (marked s e) (plain t f) k = absurd (plain_no_escape d y (encode_utf8 c ++ x) t (sym (rw (e, f) at k)))
+  one_step c d x y (marked s e) (plain t f) k =
+      absurd (plain_no_escape d y (encode_utf8 c ++ x) t (sym (rw (e, f) at k)))
   one_step c d x y (marked s e) (marked t f) k =
       let all : 92 ∷ encode_utf8 c ++ x ≡ 92 ∷ encode_utf8 d ++ y = rw (e, f) at k in
       let rest : encode_utf8 c ++ x ≡ encode_utf8 d ++ y = cc in
@@ -130,9 +140,13 @@ module _ (special : ℕ → Bool) (h : IsEscaping special) where
   one_step c d x y (hidden s e) (plain t f) k = absurd (plain_no_bytes d c y x t (sym (rw (e, f) at k)))
   one_step c d x y (hidden s e) (marked t f) k = absurd (marked_no_bytes d c y x t s (sym (rw (e, f) at k)))
   one_step c d x y (hidden s e) (hidden u f) k =
-      let all : flat_map escaped_byte (encode_utf8 c) ++ x ≡ flat_map escaped_byte (encode_utf8 d) ++ y = rw (e, f) at k in
-      let same = beginning_same c d (begins (encode_utf8 c) (encode_utf8 d) x y all) in
-      (same, same_front (flat_map escaped_byte (encode_utf8 d)) x y (ap (λ n. flat_map escaped_byte (encode_utf8 n) ++ x) (sym same) ∙ all))
+      let all : flat_map escaped_byte (encode_utf8 c) ++ x ≡ flat_map escaped_byte (encode_utf8 d) ++ y =
+      rw (e, f) at k in
+      let same = beginning_same c d (begins (encode_utf8 c) (encode_utf8 d) x y all) in (
+        same,
+        same_front (flat_map escaped_byte (encode_utf8 d)) x y
+            (ap (λ n. flat_map escaped_byte (encode_utf8 n) ++ x) (sym same) ∙ all),
+      )
 
   -- ---- texts
 
@@ -162,12 +176,14 @@ module _ (special : ℕ → Bool) (h : IsEscaping special) where
       ∙ encodes-chars other v
 
   -- no text begins with a special character
-  starts_with_no : (mark : ℕ) → mark < 92 → special mark ≡ true → (text rest : List ℕ) → escaped special text ≡ mark ∷ rest → ⊥
+  starts_with_no : (mark : ℕ) → mark < 92 → special mark ≡ true → (text rest : List ℕ)
+      → escaped special text ≡ mark ∷ rest → ⊥
   starts_with_no mark small is text rest e = go (chars text) e
     where
       first : (c : ℕ) (x : List ℕ) → Form c → escaped_character special c ++ x ≡ mark ∷ rest → ⊥
       first c x (plain s f) k =
-          let all : encode_utf8 c ++ x ≡ encode_utf8 mark ++ rest = rw f at k ∙ ap (λ l. l ++ rest) (sym (encode_ascii mark (omega (arith, small)))) in
+          let all : encode_utf8 c ++ x ≡ encode_utf8 mark ++ rest =
+          rw f at k ∙ ap (λ l. l ++ rest) (sym (encode_ascii mark (omega (arith, small)))) in
           true≢false (sym is ∙ ap special (sym (encode_same c mark x rest all).0) ∙ s)
       first c x (marked s f) k =
           let all : 92 ∷ encode_utf8 c ++ x ≡ mark ∷ rest = rw f at k in
@@ -221,13 +237,17 @@ unfolding is_special_in_names
 mark_special = refl
 
 by_forms : (bytes other : List ℕ) (p q : Bool) → is_utf8 bytes ≡ p → is_utf8 other ≡ q
-    → (if p then escaped is_special_in_names bytes else marked_bytes bytes) ≡ (if q then escaped is_special_in_names other else marked_bytes other)
+    → (if p then escaped is_special_in_names bytes else marked_bytes bytes)
+    ≡ (if q then escaped is_special_in_names other else marked_bytes other)
     → bytes ≡ other
 by_forms bytes other true true h k e =
     same_text is_special_in_names names_escape bytes other (IsUtf8-from_is_utf8 bytes h) (IsUtf8-from_is_utf8 other k) e
-by_forms bytes other true false h k e = absurd (starts_with_no is_special_in_names names_escape 35 (lit< tt) mark_special bytes (hexadecimal other) e)
-by_forms bytes other false true h k e = absurd (starts_with_no is_special_in_names names_escape 35 (lit< tt) mark_special other (hexadecimal bytes) (sym e))
-by_forms bytes other false false h k e = let digits : hexadecimal bytes ≡ hexadecimal other = cc in same_hexadecimal bytes other digits
+by_forms bytes other true false h k e =
+    absurd (starts_with_no is_special_in_names names_escape 35 (lit< tt) mark_special bytes (hexadecimal other) e)
+by_forms bytes other false true h k e =
+    absurd (starts_with_no is_special_in_names names_escape 35 (lit< tt) mark_special other (hexadecimal bytes) (sym e))
+by_forms bytes other false false h k e = let digits : hexadecimal bytes ≡ hexadecimal other = cc in
+    same_hexadecimal bytes other digits
 
 pub same_text_or_bytes : (bytes other : List ℕ) → text_or_bytes bytes ≡ text_or_bytes other → bytes ≡ other
 same_text_or_bytes bytes other e = by_forms bytes other (is_utf8 bytes) (is_utf8 other) refl refl e

@@ -9,7 +9,8 @@ use Rattle.der_program_base.specs.declared.blocks.BlockFault.TheVariants.{NoEnd,
 use Rattle.der_program_base.specs.declared.blocks.Boundary.{Boundary}
 use Rattle.der_program_base.specs.declared.blocks.Boundary.TheVariants.{Begin, End}
 use Rattle.der_program_base.specs.Lines.{IsBegin, IsEnd, IsOther, AreOther, texts}
-use Rattle.der_program_base.specs.Sections.{Section, lines_in, IsSection, MayPrecede, NextBegins, bytes_in, block_in, value_of}
+use Rattle.der_program_base.specs.Sections.{Section, lines_in, IsSection, MayPrecede, NextBegins, bytes_in, block_in}
+use Rattle.der_program_base.specs.Sections.{value_of}
 
 -- the line is this boundary
 abbrev pub IsBoundary : List ℕ → Boundary → Type 0
@@ -35,7 +36,8 @@ pub record IsFirstBlock (lines : List (List ℕ)) (block : Block) (rest : List (
   pub block_is : value_of block ≡ block_in section
 
 -- What comes of the lines after the begin line of a block with this label, and the lines after the block.
-pub data IsBody (label : List ℕ) (lines : List (List ℕ)) (bytes : Result (List ℕ) BlockFault) (rest : List (List ℕ)) : Type 0 where
+pub data IsBody (label : List ℕ) (lines : List (List ℕ)) (bytes : Result (List ℕ) BlockFault)
+    (rest : List (List ℕ)) : Type 0 where
   ended : (body : List (List ℕ)) (end end_label : List ℕ) → AreOther body → IsEnd end end_label
       → lines ≡ body ++ (end ∷ rest) → bytes ≡ (if bytes_eq label end_label then bytes_in body else Err OtherLabel)
       → IsBody label lines bytes rest

@@ -1,5 +1,6 @@
 -- Which bytes of an input are looked at.
-use Rattle.std.specs.Prelude.{◌≡◌, ℕ, ◌<◌, Bool, true, false, ◌||◌, not, ◌==◌, List, length, map, Option, Some, None, Ok, ⊤}
+use Rattle.std.specs.Prelude.{◌≡◌, ℕ, ◌<◌, Bool, true, false, ◌||◌, not, ◌==◌, List, length, map, Option, Some, None}
+use Rattle.std.specs.Prelude.{Ok, ⊤}
 use Rattle.std.specs.Char.{is_control}
 use Rattle.std.specs.List.{Contains, list_all}
 use Rattle.std.specs.Str.{IsUtf8, chars}
@@ -59,7 +60,8 @@ AreSameContents (Other guess) (Other other) = guess ≡ other
 -- the whole input if it is DER, else the bytes of a block
 abbrev pub IsMessageIn : Contents → List ℕ → List ℕ → Type 0
 IsMessageIn Der input bytes = bytes ≡ input
-IsMessageIn (Pem blocks) input bytes = (block : Block) × Contains blocks.blocks.items block × (items_of block.bytes ≡ Ok bytes)
+IsMessageIn (Pem blocks) input bytes = (block : Block) × Contains blocks.blocks.items block
+    × (items_of block.bytes ≡ Ok bytes)
 IsMessageIn (Other guess) input bytes = ⊥
 
 -- these bytes are a message that is looked at

@@ -41,7 +41,8 @@ module _ (IsAnswer : List ℕ → List ℕ → Type 0) where
     -- why no answer was written, or not all of it
     pub data StopsLine (e : Asn1DerError) : Type 0 where
       no_memory : e ≡ OutOfMemory → new ≡ old → StopsLine e
-      no_sink : WriterFails g old e new → (answer : List ℕ) → IsAnswer line answer → AppendsBeginning (g.written old) (g.written new) (answer ++ (0x0A ∷ [])) → StopsLine e
+      no_sink : WriterFails g old e new → (answer : List ℕ) → IsAnswer line answer
+          → AppendsBeginning (g.written old) (g.written new) (answer ++ (0x0A ∷ [])) → StopsLine e
 
   -- ---- a run
 
@@ -65,7 +66,8 @@ module _ (IsAnswer : List ℕ → List ℕ → Type 0) where
     pub at_end : 0 < length is_text.last → IsAtEnd in_new
     pub written : AppendsBeginning out_old out_new text
 
-  module _ {W : Type 0} (g : Ghosts W) (in_old in_new : Option (List ℕ)) (faults_old faults_new : List Fault) (out_old out_new : W) where
+  module _ {W : Type 0} (g : Ghosts W) (in_old in_new : Option (List ℕ)) (faults_old faults_new : List Fault)
+      (out_old out_new : W) where
     -- the answers to the lines before this one were written, and its own wasn't
     abbrev pub StopsBefore : List ℕ → Type 0
     StopsBefore line = WroteWhole in_old in_new (g.written out_old) (g.written out_new) line
@@ -76,5 +78,6 @@ module _ (IsAnswer : List ℕ → List ℕ → Type 0) where
       memory : e ≡ OutOfMemory → (line : List ℕ) → IsLastLine line → StopsBefore line → Stops e
       -- the reader cut the line
       reader : ReaderFaulted faults_old faults_new in_new e → (line : List ℕ) → IsLine line → StopsBefore line → Stops e
-      writer : WriterFails g out_old e out_new → WroteBeginning in_old in_new (g.written out_old) (g.written out_new) → Stops e
+      writer : WriterFails g out_old e out_new → WroteBeginning in_old in_new (g.written out_old) (g.written out_new)
+          → Stops e
       too_long : e ≡ UnsupportedValue → IsTooLong in_old → (line : List ℕ) → IsLine line → StopsBefore line → Stops e

@@ -46,4 +46,5 @@ module _ (IsAnswer : List ℕ → List ℕ → Type 0) where
 
   -- the text of the known bytes of an input was written
   abbrev pub WritesAnswers : Option (List ℕ) → Option (List ℕ) → Option (List ℕ) → Type 0
-  WritesAnswers in_old old new = IfSome in_old (λ input. (text : List ℕ) × IsAnswersOf input text × Appends old new text)
+  WritesAnswers in_old old new =
+      IfSome in_old (λ input. (text : List ℕ) × IsAnswersOf input text × Appends old new text)

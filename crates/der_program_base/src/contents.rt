@@ -35,8 +35,8 @@ pub enum Contents {
 /// that is one element to its end is DER, whatever is in it, and so is an input that isn't text. The only error is a
 /// failed allocation.
 ///
-/// Text is UTF-8 whose only control characters are tab, line feed, form feed and carriage return. Its lines end with line
-/// feed or carriage return. Blocks may have any label, and a faulty block is a block, too (RFC 7468, 2 and 3).
+/// Text is UTF-8 whose only control characters are tab, line feed, form feed and carriage return. Its lines end with
+/// line feed or carriage return. Blocks may have any label, and a faulty block is a block, too (RFC 7468, 2 and 3).
 pub fn contents_of(alloc: Global, input: &[u8], form: Option<Form>) -> Result<Contents, AllocError>
     ensures { IfOk result (IsContentsOf form input.now) }
 {

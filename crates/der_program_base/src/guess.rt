@@ -1,7 +1,8 @@
 //! What a text without blocks of PEM seems to be.
 ghost use Rattle.std.specs.Prelude.{◌≡◌, IfOk};
 ghost use Rattle.std.specs.List.{list_any};
-ghost use Rattle.der_program_base.specs.Guess.{guess_of, has_mark, is_blank, is_hexadecimal, is_base64, is_mail_field, begins_with_hyphens, has_hyphens};
+ghost use Rattle.der_program_base.specs.Guess.{guess_of, has_mark, is_blank, is_hexadecimal, is_base64, is_mail_field};
+ghost use Rattle.der_program_base.specs.Guess.{begins_with_hyphens, has_hyphens};
 ghost use Rattle.der_program_base.specs.Lines.{texts, lines_of};
 
 use crate::blocks::decoded;

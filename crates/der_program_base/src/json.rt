@@ -10,8 +10,8 @@ use crate::line::is_disruptive;
 use serde_json::Value;
 use std::alloc::{AllocError, Global};
 
-/// Returns a value as JSON on one line. A character that ends a line, or that moves or hides others, is written as `\u` and four
-/// hexadecimal digits (RFC 8259, 7). The only error is a failed allocation.
+/// Returns a value as JSON on one line. A character that ends a line, or that moves or hides others, is written as `\u`
+/// and four hexadecimal digits (RFC 8259, 7). The only error is a failed allocation.
 pub fn json_line(alloc: Global, value: &Value) -> Result<String, AllocError>
     ensures text { IfOk result (λ line. has_float (view value.now) ≡ false
         → string_bytes line ≡ json_line (view value.now)) }

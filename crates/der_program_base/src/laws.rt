@@ -1,6 +1,7 @@
 //! Laws of the definitions that the contracts use.
 ghost use Rattle.picky_der_core.specs.Equality.{IsKept};
-ghost use Rattle.der_program_base.specs.Laws.{OneSplit, OneFirstWord, OneText, OneTextOrBytes, SpecialsEscape, OneContents, ElementIsMessage};
+ghost use Rattle.der_program_base.specs.Laws.{OneSplit, OneFirstWord, OneText, OneTextOrBytes, SpecialsEscape};
+ghost use Rattle.der_program_base.specs.Laws.{OneContents, ElementIsMessage};
 
 use crate::{BlockFault, Form, Format, Guess, Status};
 
@@ -23,7 +24,8 @@ pub fn one_first_word()
     ensures { OneFirstWord }
 {}
 
-/// Two texts that are the same after escaping are the same, and so are two lists of bytes that are the same as texts or bytes.
+/// Two texts that are the same after escaping are the same, and so are two lists of bytes that are the same as texts or
+/// bytes.
 pub fn one_text()
     ensures texts { OneText }
     ensures bytes { OneTextOrBytes }

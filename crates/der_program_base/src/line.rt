@@ -3,7 +3,8 @@ ghost use Rattle.std.specs.Prelude.{◌≡◌, ◌<◌, false, List, ℕ, [], �
 ghost use Rattle.std.specs.Char.{encode_utf8};
 ghost use Rattle.std.specs.List.{flat_map};
 ghost use Rattle.std.specs.Str.{IsUtf8};
-ghost use Rattle.der_program_base.specs.Line.{is_disruptive, IsOneLine, hexadecimal_digit, hexadecimal, two_digits, escaped_byte, shown_character, shown};
+ghost use Rattle.der_program_base.specs.Line.{is_disruptive, IsOneLine, hexadecimal_digit, hexadecimal, two_digits};
+ghost use Rattle.der_program_base.specs.Line.{escaped_byte, shown_character, shown};
 
 use std::alloc::{AllocError, Global};
 use std::fmt::{self, Display, Write};

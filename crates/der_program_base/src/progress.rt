@@ -8,8 +8,8 @@ const MEBIBYTE: u64 = 1 << 20;
 
 /// A reader that writes on a screen how many mebibytes it has read, each time that another one is full.
 ///
-/// The text begins with a carriage return, so that it stays on one line of a terminal. Dropping the reader ends that line. Nothing more is
-/// shown after the screen has failed once; reading goes on.
+/// The text begins with a carriage return, so that it stays on one line of a terminal. Dropping the reader ends that
+/// line. Nothing more is shown after the screen has failed once; reading goes on.
 pub struct Progress<R: Drop, W: Write + Drop> {
     input: R,
     // Where it is shown, or `None` if it isn't.

@@ -3,7 +3,8 @@
 //!
 //! The escapes can be undone: different texts of a message are different on a line (`laws::one_text`).
 ghost use Rattle.std.specs.Prelude.{◌≡◌, ◌++◌, OnOk, IfOk, string_bytes};
-ghost use Rattle.der_program_base.specs.Line.{escaped, escaped_character, shown, is_special_in_names, is_special_in_quotes};
+ghost use Rattle.der_program_base.specs.Line.{escaped, escaped_character, shown, is_special_in_names};
+ghost use Rattle.der_program_base.specs.Line.{is_special_in_quotes};
 ghost use Rattle.der_program_base.specs.Texts.{marked_bytes, text_or_bytes, quoted};
 
 use crate::Line;

@@ -14,5 +14,6 @@ words_no_float : (types : List MessageType) → items_have_float (items_of (map 
 words_no_float [] = refl
 words_no_float (type ∷ types) = words_no_float types
 
-pub message_no_float : (file : List ℕ) (block : Option ℕ) (size : ℕ) (types : List MessageType) → has_float (message_data file block size types) ≡ false
+pub message_no_float : (file : List ℕ) (block : Option ℕ) (size : ℕ) (types : List MessageType)
+    → has_float (message_data file block size types) ≡ false
 message_no_float file block size types = rw (block_no_float block, words_no_float types)

@@ -1,5 +1,7 @@
 -- Which bytes are strings, by the header at their front.
-use Rattle.std.proofs.Common.{◌≡◌, ◌≢◌, ℕ, ◌+◌, ◌^◌, ◌<◌, ◌≤◌, Bool, true, false, List, [], ◌∷◌, ◌++◌, length, Option, Some, None, MatchOption, String, string_bytes, refl, sym, ap, ◌∙◌, arith, length-append, append-nil}
+use Rattle.std.proofs.Common.{◌≡◌, ◌≢◌, ℕ, ◌+◌, ◌^◌, ◌<◌, ◌≤◌, Bool, true, false, List, [], ◌∷◌, ◌++◌, length, Option}
+use Rattle.std.proofs.Common.{Some, None, MatchOption, String, string_bytes, refl, sym, ap, ◌∙◌, arith, length-append}
+use Rattle.std.proofs.Common.{append-nil}
 use Rattle.std.specs.Prelude.{slice_range, option_map}
 use Rattle.std.specs.declared.alloc.Global.{Global}
 use Rattle.std.specs.Str.{IsUtf8, is_utf8}
@@ -13,8 +15,11 @@ use Rattle.der_show.proofs.HeaderLemmas.{begins_with, one_element, content_found
 use Rattle.der_read.specs.Names.{IsString, string_text, text_if, utf8_text}
 
 -- without a header they are none
-pub no_header : (bytes : List ℕ) (r : Rule) → length bytes < 2 ^ 64 → BreaksHeader bytes r → (s : List ℕ) → IsString bytes s → ⊥
-no_header bytes r small broken = λ s string. begins_with bytes r small broken bytes string.element (record { rest = []; is = sym (append-nil bytes) })
+pub no_header : (bytes : List ℕ) (r : Rule) → length bytes < 2 ^ 64 → BreaksHeader bytes r → (s : List ℕ)
+    → IsString bytes s → ⊥
+no_header bytes r small broken =
+    λ s string. begins_with bytes r small broken bytes string.element
+    (record { rest = []; is = sym (append-nil bytes) })
 
 module _ (bytes : List ℕ) (h : Header) (has : HasHeader bytes h) where
   sizes : length (tlv h.tag has.content) ≡ h.header_len + h.content_len
@@ -31,7 +36,8 @@ module _ (bytes : List ℕ) (h : Header) (has : HasHeader bytes h) where
   pub more_than_one : h.header_len + h.content_len ≢ length bytes → (s : List ℕ) → IsString bytes s → ⊥
   more_than_one other = λ s string.
       let whole : tlv h.tag has.content ++ has.rest ≡ bytes ++ [] = sym has.is ∙ sym (append-nil bytes) in
-      let one = one_element (tlv h.tag has.content) bytes has.rest [] (record { tag = h.tag; content = has.content; number = has.number; is = refl }) string.element whole in
+      let one = one_element (tlv h.tag has.content) bytes has.rest []
+      (record { tag = h.tag; content = has.content; number = has.number; is = refl }) string.element whole in
       let none : length has.rest ≡ 0 = ap length one.1 in
       absurd (other (omega (arith, all_sizes, none)))
 
@@ -41,18 +47,23 @@ module _ (bytes : List ℕ) (h : Header) (has : HasHeader bytes h) where
     none_left (b ∷ rest) e = absurd (omega arith)
 
     is_element : bytes ≡ tlv h.tag has.content
-    is_element = has.is ∙ ap (λ r. tlv h.tag has.content ++ r) (none_left has.rest (omega (arith, all_sizes, all))) ∙ append-nil (tlv h.tag has.content)
+    is_element = has.is ∙ ap (λ r. tlv h.tag has.content ++ r) (none_left has.rest (omega (arith, all_sizes, all)))
+        ∙ append-nil (tlv h.tag has.content)
 
     -- the text of the content is theirs
-    pub text_found : (r : Option (String Global)) → option_map string_bytes r ≡ string_text h.tag (slice_range bytes h.header_len (h.header_len + h.content_len)) → MatchOption r ((s : List ℕ) → IsString bytes s → ⊥) (λ s. IsString bytes (string_bytes s))
+    pub text_found : (r : Option (String Global))
+        → option_map string_bytes r ≡ string_text h.tag (slice_range bytes h.header_len (h.header_len + h.content_len))
+        → MatchOption r ((s : List ℕ) → IsString bytes s → ⊥) (λ s. IsString bytes (string_bytes s))
     text_found (Some s) e = record {
       element = record { tag = h.tag; content = has.content; number = has.number; is = is_element };
       has = sym (e ∙ ap (string_text h.tag) (content_found bytes h has));
     }
     text_found None e = λ s string.
-        let same = tlv-same string.element.tag h.tag string.element.content has.content (sym string.element.is ∙ is_element) in
+        let same = tlv-same string.element.tag h.tag string.element.content has.content (sym string.element.is
+        ∙ is_element) in
         let none : None ≡ string_text h.tag has.content = e ∙ ap (string_text h.tag) (content_found bytes h has) in
-        let some : string_text h.tag has.content ≡ Some s = ap (λ t. string_text t has.content) (sym same.0) ∙ ap (string_text string.element.tag) (sym same.1) ∙ string.has in
+        let some : string_text h.tag has.content ≡ Some s = ap (λ t. string_text t has.content) (sym same.0)
+        ∙ ap (string_text string.element.tag) (sym same.1) ∙ string.has in
         let bad : None ≡ Some s = none ∙ some in
         cc
 

@@ -54,7 +54,12 @@ name_of attribute.EmailAddress = codes "emailAddress"
 
 -- the name with this object identifier; none has it, if there is none
 abbrev pub IsNameOf : List ℕ → Option AttributeName → Type 0
-IsNameOf content found = MatchOption found ((name : AttributeName) → identifier_of name ≢ content) (λ name. identifier_of name ≡ content)
+IsNameOf content found = MatchOption found ((name : AttributeName) → identifier_of name ≢ content)
+    (λ name. identifier_of name ≡ content)
 
 abbrev pub all_names : List AttributeName
-all_names = attribute.CommonName ∷ attribute.Surname ∷ attribute.SerialNumber ∷ attribute.CountryName ∷ attribute.LocalityName ∷ attribute.StateOrProvinceName ∷ attribute.StreetAddress ∷ attribute.OrganizationName ∷ attribute.OrganizationalUnitName ∷ attribute.Title ∷ attribute.Name ∷ attribute.GivenName ∷ attribute.Initials ∷ attribute.GenerationQualifier ∷ attribute.DnQualifier ∷ attribute.Pseudonym ∷ attribute.DomainComponent ∷ attribute.UserId ∷ attribute.EmailAddress ∷ []
+all_names = attribute.CommonName ∷ attribute.Surname ∷ attribute.SerialNumber ∷ attribute.CountryName
+    ∷ attribute.LocalityName ∷ attribute.StateOrProvinceName ∷ attribute.StreetAddress ∷ attribute.OrganizationName
+    ∷ attribute.OrganizationalUnitName ∷ attribute.Title ∷ attribute.Name ∷ attribute.GivenName ∷ attribute.Initials
+    ∷ attribute.GenerationQualifier ∷ attribute.DnQualifier ∷ attribute.Pseudonym ∷ attribute.DomainComponent
+    ∷ attribute.UserId ∷ attribute.EmailAddress ∷ []

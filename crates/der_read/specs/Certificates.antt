@@ -1,5 +1,6 @@
 -- What is printed of a certificate.
-use Rattle.std.specs.Prelude.{◌≡◌, ℕ, ◌-◌, ◌<◌, Bool, List, [], ◌∷◌, ◌++◌, length, Option, None, Some, if◌then◌else◌, codes, decimal, string_bytes}
+use Rattle.std.specs.Prelude.{◌≡◌, ℕ, ◌-◌, ◌<◌, Bool, List, [], ◌∷◌, ◌++◌, length, Option, None, Some, if◌then◌else◌}
+use Rattle.std.specs.Prelude.{codes, decimal, string_bytes}
 use Rattle.hex.specs.Hex.{encode_lower}
 use Rattle.serde_json.specs.Data.{Data, boolean, number, unsigned, string, object, member, no_members}
 use Rattle.der_program_base.specs.Json.{json_line}
@@ -69,7 +70,10 @@ abbrev pub key_text : Summary → List ℕ
 key_text s = string_bytes s.key_algorithm ++ (codes "; " ++ (decimal s.extensions ++ codes " extensions"))
 
 abbrev pub summary_text : Summary → Bool → List ℕ
-summary_text s is_same = codes "ok " ++ (string_bytes s.subject ++ (codes "; " ++ (validity_text s ++ (codes "; " ++ (key_text s ++ (codes "; " ++ sameness_text is_same))))))
+summary_text s is_same =
+    codes "ok "
+    ++ (string_bytes s.subject
+    ++ (codes "; " ++ (validity_text s ++ (codes "; " ++ (key_text s ++ (codes "; " ++ sameness_text is_same))))))
 
 abbrev pub summary_data : List ℕ → Option ℕ → Summary → Bool → Data
 summary_data file block s is_same =
@@ -81,7 +85,8 @@ summary_data file block s is_same =
     (member (codes "keyAlgorithm") (string (string_bytes s.key_algorithm))
     (member (codes "notAfter") (string (string_bytes s.not_after))
     (member (codes "notBefore") (string (string_bytes s.not_before))
-    (member (codes "sameBytes") (boolean is_same) (member (codes "serialNumber") (string (string_bytes s.serial_number)) (member (codes "subject") (string (string_bytes s.subject)) no_members))))))))))
+    (member (codes "sameBytes") (boolean is_same) (member (codes "serialNumber") (string (string_bytes s.serial_number))
+    (member (codes "subject") (string (string_bytes s.subject)) no_members))))))))))
 
 abbrev pub summary_line : Format → List ℕ → Option ℕ → Summary → Bool → List ℕ
 summary_line Text file block s is_same = place_text file block ++ summary_text s is_same
@@ -89,23 +94,30 @@ summary_line Json file block s is_same = json_line (summary_data file block s is
 
 -- so many of so many bytes are a certificate
 abbrev pub left_over_text : ℕ → ℕ → List ℕ
-left_over_text taken size = codes "refused at " ++ (decimal taken ++ (codes ": " ++ (decimal (size - taken) ++ codes " bytes after the certificate")))
+left_over_text taken size =
+    codes "refused at "
+    ++ (decimal taken ++ (codes ": " ++ (decimal (size - taken) ++ codes " bytes after the certificate")))
 
 -- ---- what is printed
 
 -- the line on what came of reading these bytes
 abbrev pub IsOutcomeLine : Format → List ℕ → Option ℕ → List ℕ → Outcome → List ℕ → Type 0
-IsOutcomeLine format file block bytes (outcome.Read r) line = (s : Summary) × IsSummary r.certificate.tbs_certificate s × (line ≡ summary_line format file block s r.is_same)
+IsOutcomeLine format file block bytes (outcome.Read r) line = (s : Summary) × IsSummary r.certificate.tbs_certificate s
+    × (line ≡ summary_line format file block s r.is_same)
 IsOutcomeLine format file block bytes (outcome.Refused refusal) line =
-    (reason : Explanation) × IsExplanationOf bytes refusal reason × (line ≡ refusal_line format file block (number (unsigned reason.offset)) (codes "no certificate: " ++ explanation_text reason))
-IsOutcomeLine format file block bytes (outcome.LeftOver taken) line = line ≡ refusal_line format file block (number (unsigned taken)) (left_over_text taken (length bytes))
+    (reason : Explanation) × IsExplanationOf bytes refusal reason
+    × (line ≡ refusal_line format file block (number (unsigned reason.offset))
+    (codes "no certificate: " ++ explanation_text reason))
+IsOutcomeLine format file block bytes (outcome.LeftOver taken) line =
+    line ≡ refusal_line format file block (number (unsigned taken)) (left_over_text taken (length bytes))
 
 abbrev pub outcome_status : Outcome → Status
 outcome_status (outcome.Read r) = status.Fine
 outcome_status o = status.Refused
 
 -- the line on what came of reading these bytes, with the byte 0A at its end, and the status
-pub record IsCertificatePrinted (format : Format) (file : List ℕ) (block : Option ℕ) (bytes : List ℕ) (p : Printed) : Type 0 where
+pub record IsCertificatePrinted (format : Format) (file : List ℕ) (block : Option ℕ) (bytes : List ℕ)
+    (p : Printed) : Type 0 where
   pub outcome : Outcome
   pub is : IsOutcome bytes outcome
   pub line : List ℕ

@@ -11,5 +11,7 @@ IsMessage type bytes = IsMessageOf (known.ghosts.description type) bytes
 -- of these types, in this order, those of which the bytes are a message
 pub data AreFitting (bytes : List ℕ) : List MessageType → List MessageType → Type 0 where
   none : AreFitting bytes [] []
-  fits : (type : MessageType) (types fitting : List MessageType) → IsMessage type bytes → AreFitting bytes types fitting → AreFitting bytes (type ∷ types) (type ∷ fitting)
-  differs : (type : MessageType) (types fitting : List MessageType) → (IsMessage type bytes → ⊥) → AreFitting bytes types fitting → AreFitting bytes (type ∷ types) fitting
+  fits : (type : MessageType) (types fitting : List MessageType) → IsMessage type bytes → AreFitting bytes types fitting
+      → AreFitting bytes (type ∷ types) (type ∷ fitting)
+  differs : (type : MessageType) (types fitting : List MessageType) → (IsMessage type bytes → ⊥)
+      → AreFitting bytes types fitting → AreFitting bytes (type ∷ types) fitting

@@ -1,5 +1,6 @@
 -- Names as text (RFC 4514, 2).
-use Rattle.std.specs.Prelude.{String, string_bytes, ◌≡◌, ◌==◌, ℕ, Bool, List, [], ◌∷◌, ◌++◌, map, Option, None, Some, if◌then◌else◌, codes, is_err}
+use Rattle.std.specs.Prelude.{String, string_bytes, ◌≡◌, ◌==◌, ℕ, Bool, List, [], ◌∷◌, ◌++◌, map, Option, None, Some}
+use Rattle.std.specs.Prelude.{if◌then◌else◌, codes, is_err}
 use Rattle.std.specs.declared.alloc.Global.{Global}
 use Rattle.std.specs.List.{AllZip, flat_map, list_all, list_any}
 use Rattle.std.specs.Str.{is_utf8, encode_utf8_all}
@@ -31,7 +32,8 @@ has_wide_arc id = list_any is_err (map fitted (arcs_of (content_of id)))
 
 -- the arcs with dots between them, or the bytes of the content if an arc has more than 64 bits
 abbrev pub dotted_text : ObjectIdentifier → List ℕ
-dotted_text id = if has_wide_arc id then marked_bytes (content_of id) else dotted_or_marked (map fitted (arcs_of (content_of id)))
+dotted_text id = if has_wide_arc id then marked_bytes (content_of id) else dotted_or_marked
+    (map fitted (arcs_of (content_of id)))
 
 abbrev pub name_or_dotted : Option AttributeName → ObjectIdentifier → List ℕ
 name_or_dotted (Some name) id = name_of name
@@ -54,7 +56,8 @@ abbrev pub ascii_text : List ℕ → Option (List ℕ)
 ascii_text content = text_if (list_all is_ia5 content) content
 
 abbrev pub universal_text : List ℕ → Option (List ℕ)
-universal_text content = text_if (is_string_content Four is_universal content) (encode_utf8_all (characters Four content))
+universal_text content =
+    text_if (is_string_content Four is_universal content) (encode_utf8_all (characters Four content))
 
 abbrev pub bmp_text : List ℕ → Option (List ℕ)
 bmp_text content = text_if (is_string_content Two is_bmp content) (encode_utf8_all (characters Two content))
@@ -63,8 +66,8 @@ bmp_text content = text_if (is_string_content Two is_bmp content) (encode_utf8_a
 abbrev pub narrow_strings : List ℕ
 narrow_strings = 0x12 ∷ 0x13 ∷ 0x14 ∷ 0x16 ∷ 0x1A ∷ []
 
--- The text of a string with this tag and content, if it is one that names have (X.520): those above in ASCII, UTF8String, UniversalString
--- and BMPString.
+-- The text of a string with this tag and content, if it is one that names have (X.520): those above in ASCII,
+-- UTF8String, UniversalString and BMPString.
 abbrev pub string_text : ℕ → List ℕ → Option (List ℕ)
 string_text tag content =
     if tag == 0x0C then utf8_text content

@@ -14,11 +14,13 @@ use Rattle.der_read.specs.declared.outcome.Outcome.TheVariants as outcome
 
 -- the certificate whose encoding the bytes are
 abbrev pub IsCertificate : List ℕ → Certificate → Type 0
-IsCertificate bytes c = IsWhole certificate_written.ghosts.meaning certificate_read.ghosts.shape certificate_compared.ghosts.eq bytes c
+IsCertificate bytes c = IsWhole certificate_written.ghosts.meaning certificate_read.ghosts.shape
+    certificate_compared.ghosts.eq bytes c
 
 -- they are none's, as was found at this position
 abbrev pub IsNoCertificate : List ℕ → DecodeError → Type 0
-IsNoCertificate bytes r = IsNoEncoding certificate_written.ghosts.meaning certificate_read.ghosts.shape bytes r.error r.position
+IsNoCertificate bytes r = IsNoEncoding certificate_written.ghosts.meaning certificate_read.ghosts.shape bytes r.error
+    r.position
 
 -- ---- the outcomes
 
@@ -30,7 +32,8 @@ pub record IsReading (bytes : List ℕ) (r : Reading) : Type 0 where
 -- the bytes are no certificate, and begin with none
 pub record IsRefused (bytes : List ℕ) (r : DecodeError) : Type 0 where
   pub refused : IsNoCertificate bytes r
-  pub none : (c : Certificate) → ReadsFrom certificate_written.ghosts.meaning certificate_read.ghosts.shape bytes (length bytes) c → ⊥
+  pub none : (c : Certificate) → ReadsFrom certificate_written.ghosts.meaning certificate_read.ghosts.shape bytes
+      (length bytes) c → ⊥
   pub memory : r.error ≢ OutOfMemory
 
 -- so many of the bytes are a certificate, and others follow it

@@ -56,12 +56,16 @@ offset_data v = null
 abbrev pub message_data : List ℕ → Option ℕ → ℕ → List MessageType → Data
 message_data file block size types =
     object
-    (member (codes "block") (block_data block) (member (codes "file") (string file) (member (codes "length") (number (unsigned size)) (member (codes "types") (words_data types) no_members))))
+    (member (codes "block") (block_data block)
+    (member (codes "file") (string file)
+    (member (codes "length") (number (unsigned size)) (member (codes "types") (words_data types) no_members))))
 
 -- the object of a refusal, with the words of its text
 abbrev pub refusal_data : List ℕ → Option ℕ → Data → List ℕ → Data
 refusal_data file block offset refused =
-    object (member (codes "block") (block_data block) (member (codes "file") (string file) (member (codes "offset") offset (member (codes "refused") (string refused) no_members))))
+    object (member (codes "block") (block_data block)
+    (member (codes "file") (string file)
+    (member (codes "offset") offset (member (codes "refused") (string refused) no_members))))
 
 -- the line of a refusal
 abbrev pub refusal_line : Format → List ℕ → Option ℕ → Data → List ℕ → List ℕ
@@ -81,7 +85,8 @@ verdict_line format file block size (verdict.Message types) = message_line forma
 verdict_line format file block size v = refusal_line format file block (offset_data v) (refusal_text v)
 
 -- the line on what came of reading these bytes, with the byte 0A at its end, and the status
-pub record IsReadMessage (format : Format) (file : List ℕ) (block : Option ℕ) (wanted : Option MessageType) (label : Option (List ℕ)) (bytes : List ℕ) (p : Printed) : Type 0 where
+pub record IsReadMessage (format : Format) (file : List ℕ) (block : Option ℕ) (wanted : Option MessageType)
+    (label : Option (List ℕ)) (bytes : List ℕ) (p : Printed) : Type 0 where
   pub verdict : Verdict
   pub is : IsVerdict wanted label bytes verdict
   pub text : string_bytes p.text ≡ verdict_line format file block (length bytes) verdict ++ (0x0A ∷ [])

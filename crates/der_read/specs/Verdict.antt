@@ -59,7 +59,8 @@ IsLabelled label bytes v = IsOfLabel label bytes v
 
 abbrev pub IsOfAny : List ℕ → Verdict → Type 0
 IsOfAny bytes (verdict.Message types) = (types.items ≢ []) × AreFitting bytes tried_types types.items
-IsOfAny bytes verdict.UnknownType = AreFitting bytes tried_types [] × ((elements : List Element) × IsListed bytes elements)
+IsOfAny bytes verdict.UnknownType = AreFitting bytes tried_types []
+    × ((elements : List Element) × IsListed bytes elements)
 IsOfAny bytes (verdict.NotDer reason) = AreFitting bytes tried_types [] × IsNotDer bytes reason
 IsOfAny bytes (verdict.Other named reason) = ⊥
 IsOfAny bytes (verdict.UnknownLabel label) = ⊥

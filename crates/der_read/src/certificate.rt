@@ -2,7 +2,10 @@
 ghost use Rattle.std.specs.Prelude.{◌≡◌, IfOk, string_bytes};
 ghost use Rattle.serde_json.specs.View.{view};
 ghost use Rattle.der_types.specs.DateTimes.{date_time_text};
-ghost use Rattle.der_read.specs.Certificates.{algorithm_text, extension_count, key_text, validity_text, IsCertificatePrinted, IsOutcomeLine, IsSummary, IsTimeText, left_over_text, outcome_status, sameness_text, summary_data, summary_line, summary_text};
+ghost use Rattle.der_read.specs.Certificates.{algorithm_text, extension_count, key_text, validity_text};
+ghost use Rattle.der_read.specs.Certificates.{IsCertificatePrinted, IsOutcomeLine, IsSummary, IsTimeText};
+ghost use Rattle.der_read.specs.Certificates.{left_over_text, outcome_status, sameness_text, summary_data};
+ghost use Rattle.der_read.specs.Certificates.{summary_line, summary_text};
 
 use crate::explanation::explanation_of;
 use crate::names::{dotted_text, name_text};
@@ -27,8 +30,9 @@ struct Summary {
     extensions: usize,
 }
 
-/// Reads bytes as a certificate and returns the line on it: its subject, the times, the algorithm of the key, the number of extensions, and
-/// whether it is written as the same bytes. In JSON it also has the issuer and the serial number.
+/// Reads bytes as a certificate and returns the line on it: its subject, the times, the algorithm of the key, the
+/// number of extensions, and whether it is written as the same bytes. In JSON it also has the issuer and the serial
+/// number.
 ///
 /// The line begins with the file and, for a block of PEM, its number. For other bytes it says why they are refused.
 pub fn certificate_line(

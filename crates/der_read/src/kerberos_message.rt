@@ -4,8 +4,10 @@ ghost use Rattle.picky_der_core.specs.Shape.{Shape};
 ghost use Rattle.picky_der_de.specs.declared.alternatives.OneOf.TheVariants.{This, Other};
 ghost use Rattle.picky_der_de.specs.declared.choice4.Choice4.TheVariants.{First, Second, Third, Fourth, Later};
 ghost use Rattle.picky_der_de.specs.ChoiceFacts.{choice_facts};
-ghost use Rattle.der_read.specs.declared.kerberos_message.KerberosMessage.TheVariants.{AsReq, AsRep, TgsReq, TgsRep, ApReq};
-ghost use Rattle.der_read.specs.declared.kerberos_message.KerberosMessage.TheVariants.{ApRep, KrbSafe, KrbPriv, KrbCred};
+ghost use Rattle.der_read.specs.declared.kerberos_message.KerberosMessage.TheVariants.{AsReq, AsRep, TgsReq, TgsRep};
+ghost use Rattle.der_read.specs.declared.kerberos_message.KerberosMessage.TheVariants.{ApReq};
+ghost use Rattle.der_read.specs.declared.kerberos_message.KerberosMessage.TheVariants.{ApRep, KrbSafe, KrbPriv};
+ghost use Rattle.der_read.specs.declared.kerberos_message.KerberosMessage.TheVariants.{KrbCred};
 ghost use Rattle.der_read.specs.declared.kerberos_message.KerberosMessage.TheVariants.{KrbError};
 
 use der_kerberos::{

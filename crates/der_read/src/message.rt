@@ -27,7 +27,8 @@ fn type_with_word(types: &[MessageType], word: &str) -> Option<MessageType>
     types.iter().copied().find(|named| named.word() == word)
 }
 
-/// Returns the type of the message in a block of PEM with this label (RFC 7468, 4 to 13), or `None` if the label is that of no type.
+/// Returns the type of the message in a block of PEM with this label (RFC 7468, 4 to 13), or `None` if the label is
+/// that of no type.
 pub fn type_of_label(label: &[u8]) -> Option<MessageType>
     ensures { MatchOption result ((type : MessageType) → Contains (labels_of type) label.now → ⊥)
         (λ type. Contains (labels_of type) label.now) }
@@ -43,7 +44,8 @@ fn type_with_label(types: &[MessageType], label: &[u8]) -> Option<MessageType>
     types.iter().copied().find(|named| named.has_label(label))
 }
 
-/// Returns the types of which bytes are exactly one message, in the order in which types are tried. The only error is a failed allocation.
+/// Returns the types of which bytes are exactly one message, in the order in which types are tried. The only error is a
+/// failed allocation.
 pub fn types_of(alloc: Global, bytes: &[u8]) -> Result<Vec<MessageType>, AllocError>
     ensures { IfOk result (λ types. AreFitting bytes.now tried_types types.items) }
 {

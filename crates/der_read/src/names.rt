@@ -3,7 +3,8 @@ ghost use Rattle.std.specs.Prelude.{◌≡◌, ℕ, List, ◌++◌, map, IfOk, O
 ghost use Rattle.der_program_base.specs.Line.{escaped, is_special_in_names, shown};
 ghost use Rattle.der_program_base.specs.Texts.{marked_bytes};
 ghost use Rattle.std.specs.List.{AllZip};
-ghost use Rattle.der_read.specs.Names.{dotted_text, has_wide_arc, joined, IsTypeText, IsValueText, IsAttributeText, IsTextOfAttribute, IsStepText, IsStepsText, IsNameText};
+ghost use Rattle.der_read.specs.Names.{dotted_text, has_wide_arc, joined, IsTypeText, IsValueText, IsAttributeText};
+ghost use Rattle.der_read.specs.Names.{IsTextOfAttribute, IsStepText, IsStepsText, IsNameText};
 
 use crate::attribute_name::AttributeName;
 use crate::strings::text_of;
@@ -12,10 +13,12 @@ use der_types::ObjectIdentifier;
 use der_x509::{Attribute, Name, RelativeName};
 use std::alloc::{AllocError, Global};
 
-/// Returns the text of a name: its steps from the root down, with `, ` between them, and ` + ` between the attributes of one step.
+/// Returns the text of a name: its steps from the root down, with `, ` between them, and ` + ` between the attributes
+/// of one step.
 ///
-/// The type of an attribute is printed as its name (RFC 4514, 3), or else as its object identifier. A value that is a string is printed as
-/// its text, and any other as the bytes of its element. Special characters in it get a backslash before them.
+/// The type of an attribute is printed as its name (RFC 4514, 3), or else as its object identifier. A value that is a
+/// string is printed as its text, and any other as the bytes of its element. Special characters in it get a backslash
+/// before them.
 pub fn name_text(alloc: Global, name: &Name) -> Result<String, AllocError>
     ensures { IfOk result (λ text. IsNameText name.now (string_bytes text)) }
 {
@@ -94,7 +97,8 @@ fn type_text(alloc: Global, identifier: &ObjectIdentifier) -> Result<String, All
     }
 }
 
-// The arcs of an object identifier, with dots between them, or the bytes of its content if an arc has more than 64 bits.
+// The arcs of an object identifier, with dots between them, or the bytes of its content if an arc has more than 64
+// bits.
 pub(crate) fn dotted_text(
     alloc: Global,
     identifier: &ObjectIdentifier,
@@ -122,7 +126,8 @@ fn marked_bytes(alloc: Global, bytes: &[u8]) -> Result<String, AllocError>
     Ok(line.into_string())
 }
 
-// The text of a string with backslashes before special characters, and any other element as `#` and its bytes in hexadecimal.
+// The text of a string with backslashes before special characters, and any other element as `#` and its bytes in
+// hexadecimal.
 fn value_text(alloc: Global, element: &[u8]) -> Result<String, AllocError>
     ensures { IfOk result (λ text. IsValueText element.now (string_bytes text)) }
 {

@@ -31,8 +31,8 @@ pub enum Outcome {
 
 /// Reads bytes as a certificate, and writes the certificate again. The only error is a failed allocation.
 ///
-/// It is proved that what was read is written as the same bytes. It is tested here nevertheless, and the program prints the result of that
-/// test.
+/// It is proved that what was read is written as the same bytes. It is tested here nevertheless, and the program prints
+/// the result of that test.
 pub fn examine(alloc: Global, bytes: &[u8]) -> Result<Outcome, AllocError>
     ensures { IfOk result (IsOutcome bytes.now) }
 {

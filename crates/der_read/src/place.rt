@@ -1,4 +1,5 @@
-//! Where a message is: in which file, and in which block of PEM if it is in one. The only error of each function is a failed allocation.
+//! Where a message is: in which file, and in which block of PEM if it is in one. The only error of each function is a
+//! failed allocation.
 ghost use Rattle.std.specs.Prelude.{◌≡◌, IfOk, string_bytes};
 ghost use Rattle.serde_json.specs.View.{view};
 ghost use Rattle.der_read.specs.Place.{place_name, place_text, block_data};

@@ -3,15 +3,16 @@ ghost use Rattle.std.specs.Prelude.{◌≡◌, [], ◌∷◌, ◌++◌, false, I
 ghost use Rattle.std.specs.Option.{option_copied};
 ghost use Rattle.serde_json.specs.View.{view};
 ghost use Rattle.serde_json.specs.Written.{has_float};
-ghost use Rattle.der_read.specs.Printed.{or_words, words_data, message_data, message_line, offset_data, refusal_data, refusal_line, refusal_text, verdict_line, IsReadMessage};
+ghost use Rattle.der_read.specs.Printed.{or_words, words_data, message_data, message_line, offset_data, refusal_data};
+ghost use Rattle.der_read.specs.Printed.{refusal_line, refusal_text, verdict_line, IsReadMessage};
 
 use crate::{MessageType, Verdict, block_value, place_text, verdict_of};
 use der_program_base::{Format, Printed, json_line, text_or_bytes};
 use serde_json::{Value, json};
 use std::alloc::{AllocError, Global};
 
-/// Reads bytes as a message of the type that is asked for, and returns the line on it. Without a type they are read as one of the type that
-/// has the label of their block of PEM, and without a label as one of each type.
+/// Reads bytes as a message of the type that is asked for, and returns the line on it. Without a type they are read as
+/// one of the type that has the label of their block of PEM, and without a label as one of each type.
 ///
 /// The line begins with the file and, for a block of PEM, its number.
 pub fn read_message(

@@ -36,8 +36,8 @@ impl Verdict {
     }
 }
 
-/// Reads bytes as a message of the type that is asked for. Without it they are read as one of the type that has the label of their block of
-/// PEM, and without a label as one of each type.
+/// Reads bytes as a message of the type that is asked for. Without it they are read as one of the type that has the
+/// label of their block of PEM, and without a label as one of each type.
 pub fn verdict_of(
     alloc: Global,
     wanted: Option<MessageType>,

@@ -101,7 +101,8 @@ fn read_a_byte_a_call<T: Deserialize + Debug>(
     }
 }
 
-// How many bytes were consumed, the bytes that the value is written as, and the value. Or an error in how these bytes are read.
+// How many bytes were consumed, the bytes that the value is written as, and the value. Or an error in how these bytes
+// are read.
 fn shown<T: Deserialize + Debug>(
     alloc: Global,
     trial: Trial,

@@ -18,7 +18,8 @@ pub(crate) struct Calls<'a> {
     pub(crate) names: &'a str,
 }
 
-/// What the calls return. Each result has how many bytes are consumed by then, and for a reader how many were read in all.
+/// What the calls return. Each result has how many bytes are consumed by then, and for a reader how many were read in
+/// all.
 pub(crate) fn answer(alloc: Global, calls: &Calls<'_>) -> Result<String, AllocError> {
     match calls.device {
         None => {

@@ -1,7 +1,7 @@
 //! Calls with allocations that may fail.
 //!
-//! This program makes none fail: `tools/refuse-growths` makes one allocation of a run fail, and another one in the next run. Calls that
-//! meet no failure do what the row says. The call that meets it has to return `OutOfMemory`.
+//! This program makes none fail: `tools/refuse-growths` makes one allocation of a run fail, and another one in the next
+//! run. Calls that meet no failure do what the row says. The call that meets it has to return `OutOfMemory`.
 
 use crate::reads::{by_from_bytes, by_from_reader};
 use picky_asn1_der::Asn1DerError::OutOfMemory;
@@ -44,8 +44,8 @@ pub(crate) fn spend(alloc: Global, times: &str) -> Result<String, AllocError> {
     answer(alloc, outcome)
 }
 
-/// Reads the value at the front of the bytes by each call that reads, and writes it by each call that writes. If there is no value, each
-/// call that reads has to fail with the same error.
+/// Reads the value at the front of the bytes by each call that reads, and writes it by each call that writes. If there
+/// is no value, each call that reads has to fail with the same error.
 pub(crate) fn read<T: Deserialize>(alloc: Global, bytes: &[u8]) -> Result<String, AllocError> {
     let mut room = vec![in alloc; OLD; 2]?;
     answer(alloc, read_and_written::<T>(alloc, bytes, &mut room))
@@ -105,8 +105,8 @@ pub(crate) fn is<T: PartialEq + Drop>(
     }
 }
 
-// The value, and how many bytes were consumed; or why the bytes are refused, unless an allocation failed. A deserializer whose allocation
-// failed returns the error again, and consumes nothing.
+// The value, and how many bytes were consumed; or why the bytes are refused, unless an allocation failed. A
+// deserializer whose allocation failed returns the error again, and consumes nothing.
 fn deserialized<T: Deserialize>(
     alloc: Global,
     bytes: &[u8],
@@ -170,8 +170,8 @@ pub(crate) struct Wanted<'a> {
 }
 
 impl Wanted<'_> {
-    /// Whether this call returned that result and left the bytes. If an allocation failed, it may leave a beginning of them, and the bytes
-    /// after that are unchanged.
+    /// Whether this call returned that result and left the bytes. If an allocation failed, it may leave a beginning of
+    /// them, and the bytes after that are unchanged.
     pub(crate) fn was_left(
         &self,
         call: &'static str,

@@ -14,9 +14,11 @@ const LONGEST_READ_AGAIN: usize = 4096;
 pub(crate) enum Wrong {
     /// The prefix of this length isn't reported as cut short.
     Front(usize),
-    /// With this limit it isn't read, or it is read although it is longer, or it consumes more or fewer bytes than its encoding.
+    /// With this limit it isn't read, or it is read although it is longer, or it consumes more or fewer bytes than its
+    /// encoding.
     Limit(usize),
-    /// With this byte at this place a value is read that is written differently, or the result changes when more bytes follow.
+    /// With this byte at this place a value is read that is written differently, or the result changes when more bytes
+    /// follow.
     Change(usize, u8),
     /// An allocation failed.
     Memory,
@@ -219,8 +221,8 @@ fn outcome_at_once<T: Deserialize>(alloc: Global, bytes: &[u8]) -> Outcome {
     }
 }
 
-// The errors may differ. A slice with too few bytes is refused at the length that needs them. A reader returns what comes before its end
-// first.
+// The errors may differ. A slice with too few bytes is refused at the length that needs them. A reader returns what
+// comes before its end first.
 fn agree(from_slice: Outcome, from_reader: Outcome) -> bool {
     (from_slice == Outcome::Value) == (from_reader == Outcome::Value)
         && from_slice != Outcome::Wrong

@@ -7,8 +7,8 @@ use picky_asn1_der::ser::Number;
 use picky_asn1_der::{Deserializer, de};
 use std::alloc::{AllocError, Global};
 
-/// The result of a call. A call that opens a sequence is followed by the calls of the sequence, in braces and separated by `; `. If the
-/// last of them isn't `end`, the sequence is dropped.
+/// The result of a call. A call that opens a sequence is followed by the calls of the sequence, in braces and separated
+/// by `; `. If the last of them isn't `end`, the sequence is dropped.
 pub(crate) fn answer<R: ReadExt>(
     alloc: Global,
     de: &mut Deserializer<R>,
@@ -25,7 +25,8 @@ fn opening(name: &str) -> Option<(&str, &str)> {
     name.strip_suffix("}")?.split_once(" {")
 }
 
-// What the calls of the opened sequence return, and its end. No function may take a sequence by value, so it is ended where it is.
+// What the calls of the opened sequence return, and its end. No function may take a sequence by value, so it is ended
+// where it is.
 fn answer_sequence<R: ReadExt>(
     alloc: Global,
     de: &mut Deserializer<R>,

@@ -9,7 +9,8 @@ pub(crate) fn bytes_in(alloc: Global, text: &str) -> Option<Vec<u8>> {
     bytes_of(alloc, digits.as_str()).ok()
 }
 
-/// The text with each word `N*PART` replaced by N times `PART`, as `82 3*00` by `82 000000`. Words are separated by spaces.
+/// The text with each word `N*PART` replaced by N times `PART`, as `82 3*00` by `82 000000`. Words are separated by
+/// spaces.
 pub(crate) fn expanded(alloc: Global, text: &str) -> Result<String, AllocError> {
     let mut whole = String::new(alloc);
     for (place, word) in text.split(" ").enumerate() {

@@ -8,8 +8,8 @@ use std::alloc::{AllocError, Global};
 
 /// The result of the call with this name. A call with a type gets `u8`, and names and lengths don't matter.
 ///
-/// Each family of calls has a function of its own, and a call that isn't in it goes to the next family. A proof about all calls in one
-/// `match` takes many times as long.
+/// Each family of calls has a function of its own, and a call that isn't in it goes to the next family. A proof about
+/// all calls in one `match` takes many times as long.
 pub(crate) fn answer<R: ReadExt>(
     alloc: Global,
     de: &mut Deserializer<R>,

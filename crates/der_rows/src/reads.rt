@@ -28,7 +28,8 @@ pub(crate) fn by_from_reader<T: Deserialize>(alloc: Global, bytes: &[u8]) -> Res
     from_reader(alloc, &mut reader)
 }
 
-/// What `from_reader_with_max_len` returns with this limit, over a reader that returns one byte per call, and how many bytes that returned.
+/// What `from_reader_with_max_len` returns with this limit, over a reader that returns one byte per call, and how many
+/// bytes that returned.
 #[inline(never)]
 pub(crate) fn below_limit<T: Deserialize>(
     alloc: Global,

@@ -40,8 +40,8 @@ use std::alloc::{AllocError, Global};
 /// | `grow tool "LINE", .. as "ANSWER", ..` | `whole`, if this is what `der_tool` prints for these lines |
 /// | `spend TIMES` | `whole`, after this many allocations, each of which was freed again |
 ///
-/// In the rows `grow ..`, `copy ..` and `spend ..` each allocation may fail. The result is `OutOfMemory of CALL` if one failed, and the
-/// call returned that error and left what it should. It is `wrong CALL` if a call did anything else.
+/// In the rows `grow ..`, `copy ..` and `spend ..` each allocation may fail. The result is `OutOfMemory of CALL` if one
+/// failed, and the call returned that error and left what it should. It is `wrong CALL` if a call did anything else.
 ///
 /// A part that repeats N times in bytes and lines may be written as `N*PART`.
 pub(crate) fn output_of(alloc: Global, row: &str) -> Result<String, AllocError> {

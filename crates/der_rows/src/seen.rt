@@ -7,7 +7,8 @@ ghost use Rattle.picky_der_de.specs.Facts.{number_facts};
 use picky_asn1_der::misc::{ReadExt, WriteExt};
 use picky_asn1_der::{Deserialize, Deserializer, Result, Serialize, Serializer};
 
-/// A number, and the tag, as a byte, that was seen before it was read. Only numbers are compared, since a tree has no more.
+/// A number, and the tag, as a byte, that was seen before it was read. Only numbers are compared, since a tree has no
+/// more.
 #[derive(Debug, Drop)]
 pub(crate) struct Seen {
     tag: u8,

@@ -34,7 +34,8 @@ pub(crate) enum Sweep {
 }
 
 impl Sweep {
-    /// The sweep that `sweep slices`, `sweep vectors`, `sweep readers failing with KIND` or `sweep writers failing with KIND` names.
+    /// The sweep that `sweep slices`, `sweep vectors`, `sweep readers failing with KIND` or `sweep writers failing with
+    /// KIND` names.
     pub(crate) fn named(words: &str) -> Option<Sweep> {
         match words.split_once(" failing with ") {
             None if words == "sweep slices" => Some(Sweep::Slice),
@@ -161,8 +162,8 @@ fn write_failing<T: Serialize>(
     }
 }
 
-// Only the error, if the next call returns it too, each call before this one transferred a byte, and no later one did. Otherwise also what
-// differs.
+// Only the error, if the next call returns it too, each call before this one transferred a byte, and no later one did.
+// Otherwise also what differs.
 fn failed(
     alloc: Global,
     error: Asn1DerError,

@@ -13,8 +13,8 @@ use picky_asn1_der::asn1::{
 };
 use std::alloc::{AllocError, Global};
 
-/// The result of a row that names one of these values, which is written in this way. A value that allocates is made in a function of its
-/// own.
+/// The result of a row that names one of these values, which is written in this way. A value that allocates is made in
+/// a function of its own.
 pub(crate) fn answer(alloc: Global, how: Writing, name: &str) -> Result<String, AllocError> {
     match name {
         "None::<u8>" => written(alloc, how, &None::<u8>),

@@ -9,8 +9,8 @@ use picky_asn1_der::misc::{Watched, WriteExt};
 use picky_asn1_der::{Serializer, ser};
 use std::alloc::{AllocError, Global};
 
-/// The results of the calls, separated by `, `, and the bytes that reach a writer. The writer accepts one byte per call and fails at the
-/// call with this number. Calls are counted from 1, and with 0 none fails.
+/// The results of the calls, separated by `, `, and the bytes that reach a writer. The writer accepts one byte per call
+/// and fails at the call with this number. Calls are counted from 1, and with 0 none fails.
 pub(crate) fn answer(
     alloc: Global,
     failing: usize,
@@ -263,7 +263,8 @@ fn ended(
     format!(in alloc; "{added:?}; {end:?}")
 }
 
-// What the calls of the opened sequence return, and its end. No function may take a sequence by value, so it is ended where it is.
+// What the calls of the opened sequence return, and its end. No function may take a sequence by value, so it is ended
+// where it is.
 fn answer_sequence<W: WriteExt>(
     alloc: Global,
     ser: &mut Serializer<W>,

@@ -1,5 +1,6 @@
 -- Which contents there are, by the tag.
-use Rattle.std.specs.Prelude.{◌≡◌, ℕ, Bool, ◌||◌, List, [], ◌∷◌, length, nat_lt, ◌==◌, if◌then◌else◌, Option, Some, None}
+use Rattle.std.specs.Prelude.{◌≡◌, ℕ, Bool, ◌||◌, List, [], ◌∷◌, length, nat_lt, ◌==◌, if◌then◌else◌, Option, Some}
+use Rattle.std.specs.Prelude.{None}
 use Rattle.std.specs.Str.{is_utf8}
 use Rattle.picky_der_core.specs.Integer.{is_integer}
 use Rattle.picky_der_core.specs.Shape.{contains}
@@ -15,13 +16,15 @@ use Rattle.der_show.specs.Members.{IsSetContent, IsNoSetContent}
 
 -- ---- which encodings are primitive, and which constructed
 
--- BOOLEAN, INTEGER, NULL, OBJECT IDENTIFIER, REAL, ENUMERATED, RELATIVE-OID and TIME, with the bit of a constructed encoding
+-- BOOLEAN, INTEGER, NULL, OBJECT IDENTIFIER, REAL, ENUMERATED, RELATIVE-OID and TIME, with the bit of a constructed
+-- encoding
 abbrev pub primitive_alone : List ℕ
 primitive_alone = 0x21 ∷ 0x22 ∷ 0x25 ∷ 0x26 ∷ 0x29 ∷ 0x2A ∷ 0x2D ∷ 0x2E ∷ []
 
 -- the string types, and the times, which are strings, with that bit
 abbrev pub strings_in_parts : List ℕ
-strings_in_parts = 0x23 ∷ 0x24 ∷ 0x27 ∷ 0x2C ∷ 0x32 ∷ 0x33 ∷ 0x34 ∷ 0x35 ∷ 0x36 ∷ 0x37 ∷ 0x38 ∷ 0x39 ∷ 0x3A ∷ 0x3B ∷ 0x3C ∷ 0x3E ∷ []
+strings_in_parts = 0x23 ∷ 0x24 ∷ 0x27 ∷ 0x2C ∷ 0x32 ∷ 0x33 ∷ 0x34 ∷ 0x35 ∷ 0x36 ∷ 0x37 ∷ 0x38 ∷ 0x39 ∷ 0x3A ∷ 0x3B
+    ∷ 0x3C ∷ 0x3E ∷ []
 
 -- EXTERNAL, EMBEDDED PDV, SEQUENCE, SET and CHARACTER STRING, without it
 abbrev pub constructed_rule : ℕ → Option Rule

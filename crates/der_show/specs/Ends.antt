@@ -21,5 +21,6 @@ next_offset h offset = if is_constructed h.tag then offset + h.header_len else o
 
 abbrev pub next_ends : Header → ℕ → List ℕ → List ℕ
 next_ends h offset ends =
-    if is_constructed h.tag then without_reached (offset + h.header_len) ((offset + h.header_len + h.content_len) ∷ ends)
+    if is_constructed h.tag then without_reached (offset + h.header_len) ((offset + h.header_len + h.content_len)
+    ∷ ends)
     else without_reached (offset + h.header_len + h.content_len) ends

@@ -28,32 +28,42 @@ complaint_at at r = entry.Complaint (record { offset = at; rule = r })
 pub data IsReached (o : ShowOptions) (bytes : List ℕ) : List ℕ → ℕ → List Entry → Type 0 where
   start : IsReached o bytes [] (min o.start (length bytes)) []
   -- at the end of the innermost
-  ended : (ends : List ℕ) (at : ℕ) (es : List Entry) → IsReached o bytes (at ∷ ends) at es → IsReached o bytes ends at es
+  ended : (ends : List ℕ) (at : ℕ) (es : List Entry) → IsReached o bytes (at ∷ ends) at es
+      → IsReached o bytes ends at es
   -- after one more that is primitive, or in one more that is constructed
-  passed : (ends : List ℕ) (at : ℕ) (es : List Entry) (h : Header) → IsReached o bytes ends at es → IsFound (ahead bytes ends at) h
+  passed : (ends : List ℕ) (at : ℕ) (es : List Entry) (h : Header) → IsReached o bytes ends at es
+      → IsFound (ahead bytes ends at) h
       → ((skipped : ℕ) → Opens o (length ends) h.tag (content_of (ahead bytes ends at) h) skipped → ⊥)
       → IsReached o bytes (next_ends h at ends) (next_offset h at) (es ++ (element_at (length ends) at h ∷ []))
   -- in one more that is a string with DER in it
-  opened : (ends : List ℕ) (at : ℕ) (es : List Entry) (h : Header) (skipped : ℕ) → IsReached o bytes ends at es → IsFound (ahead bytes ends at) h
+  opened : (ends : List ℕ) (at : ℕ) (es : List Entry) (h : Header) (skipped : ℕ) → IsReached o bytes ends at es
+      → IsFound (ahead bytes ends at) h
       → Opens o (length ends) h.tag (content_of (ahead bytes ends at) h) skipped
-      → IsReached o bytes ((at + h.header_len + h.content_len) ∷ ends) (at + h.header_len + skipped) (es ++ (element_at (length ends) at h ∷ []))
+      → IsReached o bytes ((at + h.header_len + h.content_len) ∷ ends) (at + h.header_len + skipped)
+      (es ++ (element_at (length ends) at h ∷ []))
   -- the same where one breaks a rule and has a header
-  broken : (ends : List ℕ) (at : ℕ) (es : List Entry) (r : Rule) (h : Header) → o.keeps_going ≡ true → IsReached o bytes ends at es → Breaks (ahead bytes ends at) r
-      → HasHeader (ahead bytes ends at) h → IsReached o bytes (next_ends h at ends) (next_offset h at) (es ++ (complaint_at at r ∷ element_at (length ends) at h ∷ []))
+  broken : (ends : List ℕ) (at : ℕ) (es : List Entry) (r : Rule) (h : Header) → o.keeps_going ≡ true
+      → IsReached o bytes ends at es → Breaks (ahead bytes ends at) r
+      → HasHeader (ahead bytes ends at) h
+      → IsReached o bytes (next_ends h at ends) (next_offset h at)
+      (es ++ (complaint_at at r ∷ element_at (length ends) at h ∷ []))
   -- without a header the rest of the element around it isn't looked at
-  skipped : (ends : List ℕ) (at : ℕ) (es : List Entry) (r : Rule) → o.keeps_going ≡ true → IsReached o bytes ends at es → BreaksHeader (ahead bytes ends at) r
+  skipped : (ends : List ℕ) (at : ℕ) (es : List Entry) (r : Rule) → o.keeps_going ≡ true → IsReached o bytes ends at es
+      → BreaksHeader (ahead bytes ends at) r
       → IsReached o bytes ends (innermost (length bytes) ends) (es ++ (complaint_at at r ∷ []))
 
 -- a beginning of what is listed
 pub data IsSoFar (o : ShowOptions) (bytes : List ℕ) : List Entry → Type 0 where
   reached : (ends : List ℕ) (at : ℕ) (es : List Entry) → IsReached o bytes ends at es → IsSoFar o bytes es
   -- and the rule that the next breaks
-  complained : (ends : List ℕ) (at : ℕ) (es : List Entry) (r : Rule) → IsReached o bytes ends at es → Breaks (ahead bytes ends at) r → IsSoFar o bytes (es ++ (complaint_at at r ∷ []))
+  complained : (ends : List ℕ) (at : ℕ) (es : List Entry) (r : Rule) → IsReached o bytes ends at es
+      → Breaks (ahead bytes ends at) r → IsSoFar o bytes (es ++ (complaint_at at r ∷ []))
 
 -- all that is listed
 pub data IsListing (o : ShowOptions) (bytes : List ℕ) : List Entry → Type 0 where
   whole : (at : ℕ) (es : List Entry) → IsReached o bytes [] at es → length bytes ≤ at → IsListing o bytes es
-  stopped : (ends : List ℕ) (at : ℕ) (es : List Entry) (r : Rule) → o.keeps_going ≡ false → IsReached o bytes ends at es → at < innermost (length bytes) ends
+  stopped : (ends : List ℕ) (at : ℕ) (es : List Entry) (r : Rule) → o.keeps_going ≡ false → IsReached o bytes ends at es
+      → at < innermost (length bytes) ends
       → Breaks (ahead bytes ends at) r → IsListing o bytes (es ++ (complaint_at at r ∷ []))
 
 abbrev pub is_element : Entry → Bool

@@ -39,6 +39,8 @@ pub record BreaksLength (bytes : List ℕ) (r : Rule) : Type 0 where
 -- why the bytes don't begin with an element whose tag is of the short form
 pub data BreaksHeader (bytes : List ℕ) (r : Rule) : Type 0 where
   empty : bytes ≡ [] → r ≡ rule.CutHeader → BreaksHeader bytes r
-  long_tag : (tag : ℕ) (rest : List ℕ) → bytes ≡ tag ∷ rest → 30 < number_of tag → r ≡ rule.LongTag → BreaksHeader bytes r
+  long_tag : (tag : ℕ) (rest : List ℕ) → bytes ≡ tag ∷ rest → 30 < number_of tag → r ≡ rule.LongTag
+      → BreaksHeader bytes r
   no_length : (tag : ℕ) (rest : List ℕ) → bytes ≡ tag ∷ rest → BreaksLength rest r → BreaksHeader bytes r
-  past_end : (tag n : ℕ) (rest : List ℕ) → bytes ≡ tag ∷ (length_octets n ++ rest) → length rest < n → r ≡ rule.PastEnd → BreaksHeader bytes r
+  past_end : (tag n : ℕ) (rest : List ℕ) → bytes ≡ tag ∷ (length_octets n ++ rest) → length rest < n → r ≡ rule.PastEnd
+      → BreaksHeader bytes r

@@ -24,11 +24,14 @@ element_data s e type_name value =
     (member (codes "file") (string s.file.now)
     (member (codes "headerLength") (number (unsigned e.header_len))
     (member (codes "length") (number (unsigned e.content_len))
-    (member (codes "offset") (number (unsigned e.offset)) (member (codes "type") (string type_name) (member (codes "value") (value_data value) no_members)))))))))
+    (member (codes "offset") (number (unsigned e.offset))
+    (member (codes "type") (string type_name) (member (codes "value") (value_data value) no_members)))))))))
 
 -- a rule that is broken, and its clause
 abbrev pub complaint_data : Source → ℕ → List ℕ → List ℕ → Data
 complaint_data s offset rule clause =
     object
     (member (codes "block") (block_data s.block)
-    (member (codes "clause") (string clause) (member (codes "file") (string s.file.now) (member (codes "offset") (number (unsigned offset)) (member (codes "rule") (string rule) no_members)))))
+    (member (codes "clause") (string clause)
+    (member (codes "file") (string s.file.now)
+    (member (codes "offset") (number (unsigned offset)) (member (codes "rule") (string rule) no_members)))))

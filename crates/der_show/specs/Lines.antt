@@ -17,7 +17,8 @@ at_left width n = decimal n ++ spaces (width - length (decimal n))
 
 -- the offset, the depth, and the lengths of the header and of the content
 abbrev pub columns_text : Element → List ℕ
-columns_text e = at_right 6 e.offset ++ codes " d=" ++ at_left 2 e.depth ++ codes " hl=" ++ at_left 2 e.header_len ++ codes " l=" ++ at_left 6 e.content_len
+columns_text e = at_right 6 e.offset ++ codes " d=" ++ at_left 2 e.depth ++ codes " hl=" ++ at_left 2 e.header_len
+    ++ codes " l=" ++ at_left 6 e.content_len
 
 -- the form of the encoding
 abbrev pub form_text : ℕ → List ℕ

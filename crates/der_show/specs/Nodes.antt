@@ -25,8 +25,10 @@ pub record IsCanonical (tag : ℕ) (content : List ℕ) : Type 0 where
 -- each element is in DER
 abbrev pub AreCanonical : Nodes → Type 0
 AreCanonical Nodes.none = ⊤
-AreCanonical (Nodes.primitive tag content after) = IsCanonical tag content × (is_constructed tag ≡ false) × AreCanonical after
-AreCanonical (Nodes.constructed tag inside after) = IsCanonical tag (encoding inside) × (is_constructed tag ≡ true) × AreCanonical inside × AreCanonical after
+AreCanonical (Nodes.primitive tag content after) = IsCanonical tag content × (is_constructed tag ≡ false)
+    × AreCanonical after
+AreCanonical (Nodes.constructed tag inside after) = IsCanonical tag (encoding inside) × (is_constructed tag ≡ true)
+    × AreCanonical inside × AreCanonical after
 
 -- how many bytes the tag and the length take before a content of so many
 abbrev pub header_size : ℕ → ℕ
@@ -34,13 +36,20 @@ header_size n = 1 + length (length_octets n)
 
 -- what is listed of an element
 abbrev pub element : ℕ → ℕ → ℕ → ℕ → Element
-element depth offset tag n = record { offset = offset; depth = depth; tag = tag; header_len = header_size n; content_len = n }
+element depth offset tag n = record {
+  offset = offset;
+  depth = depth;
+  tag = tag;
+  header_len = header_size n;
+  content_len = n;
+}
 
 -- what is listed of elements at this depth and from this offset on: each before those in it
 unfoldable pub elements : ℕ → ℕ → Nodes → List Element
 elements depth offset Nodes.none = []
 elements depth offset (Nodes.primitive tag content after) =
-    element depth offset tag (length content) ∷ elements depth (offset + header_size (length content) + length content) after
+    element depth offset tag (length content) ∷ elements depth (offset + header_size (length content) + length content)
+    after
 elements depth offset (Nodes.constructed tag inside after) =
     element depth offset tag (length (encoding inside))
     ∷ (elements (depth + 1) (offset + header_size (length (encoding inside))) inside

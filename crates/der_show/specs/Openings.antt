@@ -21,8 +21,8 @@ pub record IsOneInDer (bytes : List ℕ) : Type 0 where
   pub one : IsElement bytes
   pub in_der : AreElements bytes
 
--- A string at this depth is listed together with the element that it holds, which is after so many bytes of its content. At a greater
--- depth none is, so that no byte is looked at more often than that.
+-- A string at this depth is listed together with the element that it holds, which is after so many bytes of its
+-- content. At a greater depth none is, so that no byte is looked at more often than that.
 pub record Opens (o : ShowOptions) (depth tag : ℕ) (content : List ℕ) (skipped : ℕ) : Type 0 where
   pub asked : o.is_flat ≡ false
   pub shallow : depth < 64

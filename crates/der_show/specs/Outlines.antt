@@ -1,5 +1,6 @@
 -- What comes of going over bytes.
-use Rattle.std.specs.Prelude.{◌≡◌, ℕ, ◌+◌, ◌<◌, ◌≤◌, true, false, List, [], ◌∷◌, ◌++◌, length, Some, MatchOption, slice_range}
+use Rattle.std.specs.Prelude.{◌≡◌, ℕ, ◌+◌, ◌<◌, ◌≤◌, true, false, List, [], ◌∷◌, ◌++◌, length, Some, MatchOption}
+use Rattle.std.specs.Prelude.{slice_range}
 use Rattle.picky_der_core.specs.Tag.{is_constructed}
 use Rattle.picky_der_core.specs.Element.{tlv}
 use Rattle.der_show.specs.declared.element.Element.{Element}
@@ -18,7 +19,8 @@ use Rattle.der_show.specs.Nodes.{Nodes, encoding, IsCanonical, AreCanonical, hea
 pub data Breaks (bytes : List ℕ) (r : Rule) : Type 0 where
   header : BreaksHeader bytes r → Breaks bytes r
   form : (tag : ℕ) (content rest : List ℕ) → bytes ≡ tlv tag content ++ rest → form_rule tag ≡ Some r → Breaks bytes r
-  content : (tag : ℕ) (content rest : List ℕ) → bytes ≡ tlv tag content ++ rest → BreaksContent tag content r → Breaks bytes r
+  content : (tag : ℕ) (content rest : List ℕ) → bytes ≡ tlv tag content ++ rest → BreaksContent tag content r
+      → Breaks bytes r
 
 -- the bytes begin with an element in DER, whose header this is
 pub record IsFound (bytes : List ℕ) (h : Header) : Type 0 where
@@ -49,22 +51,32 @@ AreElements bytes = (es : List Element) × IsListed bytes es
 
 -- what is listed of an element with this header
 abbrev pub listed_at : ℕ → ℕ → Header → Element
-listed_at depth offset h = record { offset = offset; depth = depth; tag = h.tag; header_len = h.header_len; content_len = h.content_len }
+listed_at depth offset h = record {
+  offset = offset;
+  depth = depth;
+  tag = h.tag;
+  header_len = h.header_len;
+  content_len = h.content_len;
+}
 
 -- The elements before an offset, each in DER but for what isn't before it, and the ends of those that it is in.
 pub data IsBefore (bytes : List ℕ) : List ℕ → ℕ → List Element → Type 0 where
   none : IsBefore bytes [] 0 []
   -- after one more that is primitive
-  after : (ends : List ℕ) (at : ℕ) (es : List Element) (h : Header) → IsBefore bytes ends at es → IsFound (slice_range bytes at (innermost (length bytes) ends)) h
-      → is_constructed h.tag ≡ false → IsBefore bytes ends (at + h.header_len + h.content_len) (es ++ (listed_at (length ends) at h ∷ []))
+  after : (ends : List ℕ) (at : ℕ) (es : List Element) (h : Header) → IsBefore bytes ends at es
+      → IsFound (slice_range bytes at (innermost (length bytes) ends)) h
+      → is_constructed h.tag ≡ false
+      → IsBefore bytes ends (at + h.header_len + h.content_len) (es ++ (listed_at (length ends) at h ∷ []))
   -- in one more that is constructed
-  inside : (ends : List ℕ) (at : ℕ) (es : List Element) (h : Header) → IsBefore bytes ends at es → IsFound (slice_range bytes at (innermost (length bytes) ends)) h
-      → is_constructed h.tag ≡ true → IsBefore bytes ((at + h.header_len + h.content_len) ∷ ends) (at + h.header_len) (es ++ (listed_at (length ends) at h ∷ []))
+  inside : (ends : List ℕ) (at : ℕ) (es : List Element) (h : Header) → IsBefore bytes ends at es
+      → IsFound (slice_range bytes at (innermost (length bytes) ends)) h
+      → is_constructed h.tag ≡ true → IsBefore bytes ((at + h.header_len + h.content_len) ∷ ends) (at + h.header_len)
+      (es ++ (listed_at (length ends) at h ∷ []))
   -- at the end of the innermost
   ended : (ends : List ℕ) (at : ℕ) (es : List Element) → IsBefore bytes (at ∷ ends) at es → IsBefore bytes ends at es
 
--- The bytes aren't elements in DER. The one at the offset, with the bytes up to the end of the one around it, breaks the rule, and these
--- are the elements before it.
+-- The bytes aren't elements in DER. The one at the offset, with the bytes up to the end of the one around it, breaks
+-- the rule, and these are the elements before it.
 pub record IsRefused (bytes : List ℕ) (es : List Element) (c : Complaint) : Type 0 where
   pub none : (nodes : Nodes) → AreCanonical nodes → bytes ≡ encoding nodes → ⊥
   pub ends : List ℕ

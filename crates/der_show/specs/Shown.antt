@@ -50,8 +50,10 @@ pub record IsColouredLine (e : Entry) (line : List ℕ) : Type 0 where
 
 -- a line of JSON: the object of the element, with its type and its value in words, or that of the rule in words
 pub data IsJsonLine (s : Source) : Entry → List ℕ → Type 0 where
-  element : (e : Element) (type_name : List ℕ) (value : Option (List ℕ)) (line : List ℕ) → line ≡ json_line (element_data s e type_name value) → IsJsonLine s (entry.Element e) line
-  complaint : (c : Complaint) (rule clause : List ℕ) (line : List ℕ) → line ≡ json_line (complaint_data s c.offset rule clause) → IsJsonLine s (entry.Complaint c) line
+  element : (e : Element) (type_name : List ℕ) (value : Option (List ℕ)) (line : List ℕ)
+      → line ≡ json_line (element_data s e type_name value) → IsJsonLine s (entry.Element e) line
+  complaint : (c : Complaint) (rule clause : List ℕ) (line : List ℕ)
+      → line ≡ json_line (complaint_data s c.offset rule clause) → IsJsonLine s (entry.Complaint c) line
 
 abbrev pub IsLineOf : LineForm → Entry → List ℕ → Type 0
 IsLineOf line_form.Text e line = IsTextLine e line
@@ -93,12 +95,14 @@ pub record IsPlain (o : ShowOptions) : Type 0 where
 -- the elements of the bytes, or those before one that isn't in DER and the rule that it breaks
 pub data AreOfOutline (bytes : List ℕ) (es : List Entry) : Type 0 where
   listed : (elements : List Element) → IsListed bytes elements → es ≡ map entry.Element elements → AreOfOutline bytes es
-  refused : (elements : List Element) (c : Complaint) → IsRefused bytes elements c → es ≡ map entry.Element elements ++ (entry.Complaint c ∷ []) → AreOfOutline bytes es
+  refused : (elements : List Element) (c : Complaint) → IsRefused bytes elements c
+      → es ≡ map entry.Element elements ++ (entry.Complaint c ∷ []) → AreOfOutline bytes es
 
 -- ---- what was written
 
 -- the text of all that is listed
-pub record Shows (form : LineForm) (o : ShowOptions) (bytes : List ℕ) (shown : Shown) (old new : Option (List ℕ)) : Type 0 where
+pub record Shows (form : LineForm) (o : ShowOptions) (bytes : List ℕ) (shown : Shown) (old new : Option (List ℕ)) : Type
+    0 where
   pub entries : List Entry
   pub listing : IsListing o bytes entries
   pub is_der : shown.is_der ≡ list_all is_element entries
@@ -123,10 +127,11 @@ module _ {W : Type 0} (g : Ghosts W) where
     pub written : AppendsBeginning (g.written old) (g.written new) text
 
   -- a beginning of the text of a beginning of the listing
-  pub record Stops (form : LineForm) (o : ShowOptions) (bytes : List ℕ) (old : W) (e : Asn1DerError) (new : W) : Type 0 where
-    pub failure : IsFailure old e new
-    pub entries : List Entry
-    pub so_far : IsSoFar o bytes entries
-    pub text : List ℕ
-    pub is_text : IsTextOf form entries text
-    pub written : AppendsBeginning (g.written old) (g.written new) text
+  pub record Stops (form : LineForm) (o : ShowOptions) (bytes : List ℕ) (old : W) (e : Asn1DerError) (new : W) : Type 0
+    where
+      pub failure : IsFailure old e new
+      pub entries : List Entry
+      pub so_far : IsSoFar o bytes entries
+      pub text : List ℕ
+      pub is_text : IsTextOf form entries text
+      pub written : AppendsBeginning (g.written old) (g.written new) text

@@ -48,7 +48,8 @@ offset_after end at (step.Stopped r) = end
 -- the ends of the elements around it
 abbrev pub ends_after : ℕ → ℕ → List ℕ → Step → List ℕ
 ends_after end at ends (step.Element h None) = next_ends h at ends
-ends_after end at ends (step.Element h (Some skipped)) = without_reached (at + h.header_len + skipped) ((at + h.header_len + h.content_len) ∷ ends)
+ends_after end at ends (step.Element h (Some skipped)) =
+    without_reached (at + h.header_len + skipped) ((at + h.header_len + h.content_len) ∷ ends)
 ends_after end at ends (step.Broken r h) = next_ends h at ends
 ends_after end at ends (step.Skipped r) = without_reached end ends
 ends_after end at ends (step.Stopped r) = without_reached end ends

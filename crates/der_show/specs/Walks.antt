@@ -26,10 +26,12 @@ pub record IsAtEnd (len : ℕ) (p : Place) : Type 0 where
   pub depth : p.depth ≡ 0
   pub offset : p.offset ≡ len
 
--- A walk from the first byte on has come to an offset in elements with these ends, and these are the elements that it went over.
+-- A walk from the first byte on has come to an offset in elements with these ends, and these are the elements that it
+-- went over.
 pub data IsWalked (bytes : List ℕ) : List ℕ → ℕ → List Element → Type 0 where
   start : IsWalked bytes [] 0 []
-  step : (ends : List ℕ) (at : ℕ) (es : List Element) (h : Header) → IsWalked bytes ends at es → at < length bytes → IsFound (ahead bytes ends at) h
+  step : (ends : List ℕ) (at : ℕ) (es : List Element) (h : Header) → IsWalked bytes ends at es → at < length bytes
+      → IsFound (ahead bytes ends at) h
       → IsWalked bytes (next_ends h at ends) (next_offset h at) (es ++ (listed_at (length ends) at h ∷ []))
 
 -- ---- what is next
@@ -44,24 +46,29 @@ pub record AreKept (old : Place) (olds : List ℕ) (new : Place) (news : List �
   pub ends : news ≡ olds
 
 -- the element with this header is at the old place, and the new place is that of the next one
-pub record GoesOver (bytes : List ℕ) (old : Place) (olds : List ℕ) (new : Place) (news : List ℕ) (h : Header) : Type 0 where
-  pub inside : IsInside (length bytes) old olds
-  pub found : IsFound (ahead_of bytes old olds) h
-  pub offset : new.offset ≡ next_offset h old.offset
-  pub ends : open_ends new news ≡ next_ends h old.offset (open_ends old olds)
-  pub size : length news ≡ length olds
+pub record GoesOver (bytes : List ℕ) (old : Place) (olds : List ℕ) (new : Place) (news : List ℕ) (h : Header) : Type 0
+  where
+    pub inside : IsInside (length bytes) old olds
+    pub found : IsFound (ahead_of bytes old olds) h
+    pub offset : new.offset ≡ next_offset h old.offset
+    pub ends : open_ends new news ≡ next_ends h old.offset (open_ends old olds)
+    pub size : length news ≡ length olds
 
 pub data IsNext (bytes : List ℕ) (old : Place) (olds : List ℕ) (new : Place) (news : List ℕ) (n : Next) : Type 0 where
-  element : (h : Header) → GoesOver bytes old olds new news h → n ≡ next.Element (listed_at old.depth old.offset h) → IsNext bytes old olds new news n
-  broken : (r : Rule) → IsInside (length bytes) old olds → Breaks (ahead_of bytes old olds) r → AreKept old olds new news → n ≡ next.Broken r → IsNext bytes old olds new news n
+  element : (h : Header) → GoesOver bytes old olds new news h → n ≡ next.Element (listed_at old.depth old.offset h)
+      → IsNext bytes old olds new news n
+  broken : (r : Rule) → IsInside (length bytes) old olds → Breaks (ahead_of bytes old olds) r
+      → AreKept old olds new news → n ≡ next.Broken r → IsNext bytes old olds new news n
   end : IsAtEnd (length bytes) old → AreKept old olds new news → n ≡ next.End → IsNext bytes old olds new news n
   -- an element with elements in it is at the place, and all ends are taken
-  no_room : (h : Header) → IsFound (ahead_of bytes old olds) h → is_constructed h.tag ≡ true → old.depth ≡ length olds → AreKept old olds new news → n ≡ next.NoRoom
+  no_room : (h : Header) → IsFound (ahead_of bytes old olds) h → is_constructed h.tag ≡ true → old.depth ≡ length olds
+      → AreKept old olds new news → n ≡ next.NoRoom
       → IsNext bytes old olds new news n
-  no_place : (IsAtEnd (length bytes) old → ⊥) → (IsInside (length bytes) old olds → ⊥) → AreKept old olds new news → n ≡ next.NoPlace → IsNext bytes old olds new news n
+  no_place : (IsAtEnd (length bytes) old → ⊥) → (IsInside (length bytes) old olds → ⊥) → AreKept old olds new news
+      → n ≡ next.NoPlace → IsNext bytes old olds new news n
 
--- What is next in a walk from the first byte on, which went over these elements: one more of them; the first rule that the bytes break; or
--- nothing, and these are all. Without room or a place there were too few ends.
+-- What is next in a walk from the first byte on, which went over these elements: one more of them; the first rule that
+-- the bytes break; or nothing, and these are all. Without room or a place there were too few ends.
 abbrev pub ComesNext : List ℕ → Place → List ℕ → Place → List ℕ → List Element → Next → Type 0
 ComesNext bytes old olds new news es (next.Element e) = IsWalked bytes (open_ends new news) new.offset (es ++ (e ∷ []))
 ComesNext bytes old olds new news es (next.Broken r) = IsRefused bytes es (record { offset = old.offset; rule = r })

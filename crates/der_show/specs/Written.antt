@@ -2,7 +2,8 @@
 use Rattle.std.specs.Prelude.{◌≡◌, ℕ, ◌^◌, ◌<◌, true, false, List, length, None, ⊤}
 use Rattle.std.specs.List.{list_all}
 use Rattle.picky_der_core.specs.declared.asn1.wrapper.Wrapper.{Wrapper}
-use Rattle.picky_der_core.specs.declared.asn1.wrapper.Wrapper.TheVariants.{OctetContainer, BitContainer, Explicit, Implicit, Application, ImplicitList}
+use Rattle.picky_der_core.specs.declared.asn1.wrapper.Wrapper.TheVariants.{OctetContainer, BitContainer, Explicit}
+use Rattle.picky_der_core.specs.declared.asn1.wrapper.Wrapper.TheVariants.{Implicit, Application, ImplicitList}
 use Rattle.picky_der_core.specs.Tag.{is_constructed}
 use Rattle.picky_der_core.specs.Primitive.{Primitive, primitive_content}
 use Rattle.picky_der_core.specs.Tree.{Tree, Trees}
@@ -28,7 +29,8 @@ abbrev pub IsCheckedPrimitive : Primitive → Type 0
 IsCheckedPrimitive (Primitive.bytes tag s) = IsElementInDer tag s
 IsCheckedPrimitive _ = ⊤
 
--- of a tree in a tag that takes the place of its own: its content, if it is primitive, is elements, as that of a list is
+-- of a tree in a tag that takes the place of its own: its content, if it is primitive, is elements, as that of a list
+-- is
 abbrev pub IsCheckedInside : Tree → Type 0 → Type 0
 IsCheckedInside (Tree.primitive p) P = AreElements (primitive_content p)
 IsCheckedInside _ P = P
@@ -40,7 +42,8 @@ IsCheckedIn BitContainer t P = ⊤
 IsCheckedIn (Explicit n) t P = P
 IsCheckedIn (Implicit n) t P = ⊤
 IsCheckedIn (Application n) t P = P
-IsCheckedIn (ImplicitList tag) t P = (form_rule tag ≡ None) × (tag ≡ 0x31 → IsSetContent (implicit_content t)) × IsCheckedInside t P
+IsCheckedIn (ImplicitList tag) t P = (form_rule tag ≡ None) × (tag ≡ 0x31 → IsSetContent (implicit_content t))
+    × IsCheckedInside t P
 
 -- Each content in it that is written under its tag is one that DER has under this tag, and each raw part is in DER.
 abbrev mutual
@@ -67,5 +70,6 @@ NeverRefused = (t : Tree) → IsReadable t → IsChecked t → (o : Outline) →
 -- nor does a listing of it have one, whatever strings it opens, if it begins with the first byte
 abbrev pub NeverComplains : Type 0
 NeverComplains =
-    (t : Tree) → IsReadable t → IsChecked t → length (der t) < 2 ^ 64 → (o : ShowOptions) → o.start ≡ 0 → o.keeps_going ≡ false → (es : List Entry)
+    (t : Tree) → IsReadable t → IsChecked t → length (der t) < 2 ^ 64 → (o : ShowOptions) → o.start ≡ 0
+    → o.keeps_going ≡ false → (es : List Entry)
     → IsListing o (der t) es → list_all is_element es ≡ true

@@ -1,6 +1,7 @@
 //! The contents of elements.
 ghost use Rattle.std.specs.Prelude.{◌≡◌, ◌%◌, ◌^◌, ◌==◌, ◌<◌, MatchOption, if◌then◌else◌, Some, None};
-ghost use Rattle.der_show.specs.Contents.{IsContent, BreaksContent, unless, boolean_rule, integer_rule, bit_string_rule, null_rule, primitive_rule, string_rule};
+ghost use Rattle.der_show.specs.Contents.{IsContent, BreaksContent, unless, boolean_rule, integer_rule};
+ghost use Rattle.der_show.specs.Contents.{bit_string_rule, null_rule, primitive_rule, string_rule};
 
 use crate::strings::{is_bmp, is_universal};
 use crate::{Rule, are_in_set_order};
@@ -10,8 +11,8 @@ use picky_der_core::integer::is_integer;
 
 /// Returns the rule that the content of an element with this tag breaks, or `None`.
 ///
-/// It checks the contents of the universal types that DER restricts, except REAL and TIME. For strings it checks whether the bytes are
-/// characters, but not which characters the type has.
+/// It checks the contents of the universal types that DER restricts, except REAL and TIME. For strings it checks
+/// whether the bytes are characters, but not which characters the type has.
 pub fn content_rule(tag: Tag, content: &[u8]) -> Option<Rule>
     ensures { MatchOption result (IsContent tag content.now) (BreaksContent tag content.now) }
 {

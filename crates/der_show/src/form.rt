@@ -5,12 +5,12 @@ ghost use Rattle.der_show.specs.Contents.{form_rule, constructed_rule};
 use crate::Rule;
 use picky_der_core::asn1::Tag;
 
-// The tags of types with a primitive encoding only, with the bit of a constructed one: BOOLEAN, INTEGER, NULL, OBJECT IDENTIFIER, REAL,
-// ENUMERATED, RELATIVE-OID and TIME.
+// The tags of types with a primitive encoding only, with the bit of a constructed one: BOOLEAN, INTEGER, NULL, OBJECT
+// IDENTIFIER, REAL, ENUMERATED, RELATIVE-OID and TIME.
 const PRIMITIVE_ALONE: [u8; 8] = [0x21, 0x22, 0x25, 0x26, 0x29, 0x2A, 0x2D, 0x2E];
 
-// The tags of the string types, with that bit: BIT STRING, OCTET STRING, ObjectDescriptor, UTF8String, the types from NumericString to
-// UniversalString, and BMPString. They include the times.
+// The tags of the string types, with that bit: BIT STRING, OCTET STRING, ObjectDescriptor, UTF8String, the types from
+// NumericString to UniversalString, and BMPString. They include the times.
 const STRINGS_IN_PARTS: [u8; 16] = [
     0x23, 0x24, 0x27, 0x2C, 0x32, 0x33, 0x34, 0x35, 0x36, 0x37, 0x38, 0x39, 0x3A, 0x3B, 0x3C, 0x3E,
 ];

@@ -21,7 +21,8 @@ pub struct Header {
 
 /// Returns the header of the element at the front of these bytes, which end where the element around it ends.
 ///
-/// The error is the rule that the bytes break: `CutHeader`, `LongTag`, `IndefiniteLength`, `WideLength`, `LongLength` or `PastEnd`.
+/// The error is the rule that the bytes break: `CutHeader`, `LongTag`, `IndefiniteLength`, `WideLength`, `LongLength`
+/// or `PastEnd`.
 pub fn header_of(bytes: &[u8]) -> Result<Header, Rule>
     ensures ok { IfOk result (HasHeader bytes.now) }
     ensures err { IfErr result (BreaksHeader bytes.now) }

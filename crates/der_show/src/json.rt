@@ -17,7 +17,8 @@ pub(crate) fn json_of_element(
     type_name: &str,
     value: Option<String>,
 ) -> Result<String, AllocError>
-    ensures { IfOk result (λ text. string_bytes text ≡ json_line (element_data source.now element.now type_name.now (option_map string_bytes value))) }
+    ensures { IfOk result (λ text. string_bytes text
+        ≡ json_line (element_data source.now element.now type_name.now (option_map string_bytes value))) }
 {
     let data = element_value(alloc, source, element, type_name, value)?;
     json_line(alloc, &data)
@@ -30,7 +31,8 @@ fn element_value(
     type_name: &str,
     value: Option<String>,
 ) -> Result<Value, AllocError>
-    ensures { IfOk result (λ object. view object ≡ element_data source.now element.now type_name.now (option_map string_bytes value)) }
+    ensures { IfOk result (λ object. view object
+        ≡ element_data source.now element.now type_name.now (option_map string_bytes value)) }
 {
     let file = source.file;
     let block = block_value(source.block);

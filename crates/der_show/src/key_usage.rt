@@ -24,7 +24,8 @@ static NAMES: [&str; 9] = [
     "decipherOnly",
 ];
 
-// Returns the index of the BIT STRING in the extension keyUsage whose identifier is at the front of these bytes, or `None` if none is.
+// Returns the index of the BIT STRING in the extension keyUsage whose identifier is at the front of these bytes, or
+// `None` if none is.
 pub(crate) fn bits_after_header(ahead: &[u8]) -> Option<usize> {
     let after = ahead.strip_prefix(KEY_USAGE)?;
     let (value, skipped) = match after.strip_prefix(CRITICAL) {

@@ -41,13 +41,14 @@ pub fn show<W: WriteExt>(
     show_as(alloc, bytes, options, &LineForm::Text, output)
 }
 
-/// Writes the listing of bytes: a line for each element, and for each rule that is broken. Each line ends with the byte 0A.
+/// Writes the listing of bytes: a line for each element, and for each rule that is broken. Each line ends with the byte
+/// 0A.
 ///
-/// Without `keeps_going`, the first rule that is broken ends the listing. With it, the listing goes on in or after the element that breaks
-/// the rule, or after the element around it if it has no header.
+/// Without `keeps_going`, the first rule that is broken ends the listing. With it, the listing goes on in or after the
+/// element that breaks the rule, or after the element around it if it has no header.
 ///
-/// The error is `OutOfMemory` if an allocation failed, or that of the writer. Then a beginning of the lines was written. Memory is needed
-/// for one line, and for the ends of the elements around an offset.
+/// The error is `OutOfMemory` if an allocation failed, or that of the writer. Then a beginning of the lines was
+/// written. Memory is needed for one line, and for the ends of the elements around an offset.
 pub fn show_as<W: WriteExt>(
     alloc: Global,
     bytes: &[u8],

@@ -16,7 +16,8 @@ enum Order {
     Encodings,
 }
 
-/// Returns whether the elements at the front of the content of a SET are in the order of their tags or in the order of their encodings.
+/// Returns whether the elements at the front of the content of a SET are in the order of their tags or in the order of
+/// their encodings.
 ///
 /// The type isn't known, so it can be a SET or a SET OF. If a header can't be read, only the elements before it count.
 pub fn are_in_set_order(content: &[u8]) -> bool

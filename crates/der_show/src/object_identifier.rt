@@ -6,8 +6,8 @@ use der_types::ObjectIdentifier;
 use der_types::names::name_of;
 use std::alloc::AllocError;
 
-/// Appends an object identifier. A common one gets its name, as in `rsaEncryption (1.2.840.113549.1.1.1)`. One with an arc above 64 bits is
-/// appended as the bytes of its content.
+/// Appends an object identifier. A common one gets its name, as in `rsaEncryption (1.2.840.113549.1.1.1)`. One with an
+/// arc above 64 bits is appended as the bytes of its content.
 ///
 /// The only error is a failed allocation.
 pub fn push_object_identifier(

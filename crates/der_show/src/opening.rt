@@ -10,7 +10,8 @@ use std::alloc::{AllocError, Global};
 // Strings at a depth below this one are opened.
 const DEEPEST: usize = 64;
 
-// Returns how many bytes of the content of a string are before the element in it, or `None` if it isn't listed together with one.
+// Returns how many bytes of the content of a string are before the element in it, or `None` if it isn't listed together
+// with one.
 pub(crate) fn opening_of(
     alloc: Global,
     options: &ShowOptions,
@@ -18,7 +19,8 @@ pub(crate) fn opening_of(
     tag: Tag,
     content: &[u8],
 ) -> Result<Option<usize>, AllocError>
-    ensures { IfOk result (λ opening. MatchOption opening ((skipped : ℕ) → Opens options.now depth tag content.now skipped → ⊥)
+    ensures { IfOk result
+        (λ opening. MatchOption opening ((skipped : ℕ) → Opens options.now depth tag content.now skipped → ⊥)
         (λ skipped. Opens options.now depth tag content.now skipped)) }
 {
     if options.is_flat || depth >= DEEPEST {

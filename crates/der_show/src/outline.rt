@@ -25,7 +25,8 @@ pub struct Outline {
     pub complaint: Option<Complaint>,
 }
 
-/// Goes over the elements of bytes, at any depth, up to the first one that breaks a rule. The only error is a failed allocation.
+/// Goes over the elements of bytes, at any depth, up to the first one that breaks a rule. The only error is a failed
+/// allocation.
 pub fn outline_of(alloc: Global, bytes: &[u8]) -> Result<Outline, AllocError>
     ensures { IfOk result (IsOutline bytes.now) }
 {
@@ -59,8 +60,8 @@ pub fn outline_of(alloc: Global, bytes: &[u8]) -> Result<Outline, AllocError>
     })
 }
 
-/// Returns the first rule that the elements of bytes break, at any depth, or `None` if the bytes are elements in DER and nothing else. The only
-/// error is a failed allocation.
+/// Returns the first rule that the elements of bytes break, at any depth, or `None` if the bytes are elements in DER
+/// and nothing else. The only error is a failed allocation.
 pub fn complaint_of(alloc: Global, bytes: &[u8]) -> Result<Option<Complaint>, AllocError>
     ensures { IfOk result (λ it. MatchOption it (AreElements bytes.now) (IsComplaint bytes.now)) }
 {
@@ -104,7 +105,8 @@ pub fn front_of(bytes: &[u8]) -> Front
     }
 }
 
-// Returns the offset of the next element: in this element if it is constructed, else after it. Elements that end there are closed.
+// Returns the offset of the next element: in this element if it is constructed, else after it. Elements that end there
+// are closed.
 pub(crate) fn go_on(ends: &mut Ends, offset: usize, header: Header) -> Result<usize, AllocError>
     requires { offset + header.header_len + header.content_len < 2 ^ 64 }
     ensures offset { IfOk result (λ next. next ≡ next_offset header offset) }

@@ -1,6 +1,8 @@
 //! Why bytes were refused as a value of a type.
 ghost use Rattle.std.specs.Prelude.{◌≡◌, IfOk};
-ghost use Rattle.der_show.specs.Reasons.{IsReason, refused_at, has_more, misplaced_before, ends_at, offset_before, last_before, previous_of, parent_of, encoding_of, is_below, may_be_set, is_misplaced};
+ghost use Rattle.der_show.specs.Reasons.{IsReason, refused_at, has_more, misplaced_before, ends_at, offset_before};
+ghost use Rattle.der_show.specs.Reasons.{last_before, previous_of, parent_of, encoding_of, is_below, may_be_set};
+ghost use Rattle.der_show.specs.Reasons.{is_misplaced};
 
 use crate::{Element, Rule, outline_of};
 use picky_der_core::Asn1DerError;
@@ -27,8 +29,8 @@ pub enum Cause {
     NotDer(Rule),
     /// They are elements in DER, but reading them as a value of the type gave this error.
     Refused(Asn1DerError),
-    /// The same, and the element after which reading stopped is less than the one before it. If they are members of a SET OF, they are
-    /// out of order (X.690, 11.6).
+    /// The same, and the element after which reading stopped is less than the one before it. If they are members of a
+    /// SET OF, they are out of order (X.690, 11.6).
     RefusedOrder(Asn1DerError),
     /// They are elements in DER, and reading them as a value stopped after the first of them, though others follow it.
     BytesAfter,
@@ -36,9 +38,10 @@ pub enum Cause {
 
 /// Returns why bytes were refused with this error. The only error is a failed allocation.
 ///
-/// If the bytes aren't DER, it is the first rule that they break, with the offset of the element that breaks it. If they are, and reading
-/// stopped after the first element, though bytes follow it, the offset is that of these bytes. Else it is that of the member of a SET OF
-/// that ends there and is out of order, or of the last element that begins before the position at which reading stopped, or 0.
+/// If the bytes aren't DER, it is the first rule that they break, with the offset of the element that breaks it. If
+/// they are, and reading stopped after the first element, though bytes follow it, the offset is that of these bytes.
+/// Else it is that of the member of a SET OF that ends there and is out of order, or of the last element that begins
+/// before the position at which reading stopped, or 0.
 pub fn reason_of(alloc: Global, bytes: &[u8], refusal: DecodeError) -> Result<Reason, AllocError>
     ensures { IfOk result (IsReason bytes.now refusal) }
 {
@@ -178,7 +181,8 @@ fn encoding_of<'a>(bytes: &'a [u8], element: &Element) -> &'a [u8]
     &rest[..size.min(rest.len())]
 }
 
-// What is wrong with bytes that are DER and were refused with this error, or `None` for errors that aren't about the bytes.
+// What is wrong with bytes that are DER and were refused with this error, or `None` for errors that aren't about the
+// bytes.
 fn words_of(error: Asn1DerError) -> Option<&'static str> {
     match error {
         Asn1DerError::InvalidData => Some("another element or value than the type has"),

@@ -11,7 +11,8 @@ use std::alloc::{AllocError, Global};
 // What is next in a listing.
 #[derive(Debug, Clone, Copy)]
 pub(crate) enum Step {
-    // An element in DER. If it is listed together with an element in it, that one is after so many bytes of its content.
+    // An element in DER. If it is listed together with an element in it, that one is after so many bytes of its
+    // content.
     Element(Header, Option<usize>),
     // An element that breaks this rule, after which the listing goes on.
     Broken(Rule, Header),
@@ -63,7 +64,8 @@ pub(crate) fn step_at(
     }
 }
 
-// Returns the offset that a step comes to. `end` is where the element around it ends. Elements that end at the offset are closed.
+// Returns the offset that a step comes to. `end` is where the element around it ends. Elements that end at the offset
+// are closed.
 pub(crate) fn move_past(
     ends: &mut Ends,
     offset: usize,

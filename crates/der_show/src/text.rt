@@ -6,8 +6,8 @@ use der_program_base::{Line, push_quoted};
 use picky_der_core::asn1::Tag;
 use std::alloc::{AllocError, Global};
 
-// Appends the text of an element with this universal tag in quotes, with a space before it. Bytes that are no text are appended in
-// hexadecimal, and so is the content of a type that isn't a string type.
+// Appends the text of an element with this universal tag in quotes, with a space before it. Bytes that are no text are
+// appended in hexadecimal, and so is the content of a type that isn't a string type.
 pub(crate) fn push_string(
     alloc: Global,
     line: &mut Line,
@@ -64,7 +64,8 @@ fn push_utf8(
     push_cut(line, &shown)
 }
 
-// A text with a byte for each character: those of ASCII and the others of Latin-1, as most programs write a TeletexString.
+// A text with a byte for each character: those of ASCII and the others of Latin-1, as most programs write a
+// TeletexString.
 fn push_latin1(
     alloc: Global,
     line: &mut Line,

@@ -21,7 +21,8 @@ pub(crate) struct ValueForm {
     pub(crate) is_key_usage: bool,
 }
 
-// Appends the value of a primitive element with a space before it. Nothing is appended for NULL, or for an empty content that is no text.
+// Appends the value of a primitive element with a space before it. Nothing is appended for NULL, or for an empty
+// content that is no text.
 pub(crate) fn push_value(
     alloc: Global,
     line: &mut Line,
@@ -64,7 +65,8 @@ fn push_integer(line: &mut Line, form: ValueForm, content: &[u8]) -> Result<(), 
     push_hexadecimal(line, form, content)
 }
 
-// The bits: each if there are few, as `'101'B`, and else as bytes and how many of the last bits are unused. Bits with names get them.
+// The bits: each if there are few, as `'101'B`, and else as bytes and how many of the last bits are unused. Bits with
+// names get them.
 fn push_bits(line: &mut Line, form: ValueForm, content: &[u8]) -> Result<(), AllocError> {
     let [unused, bytes @ ..] = content else {
         return Ok(());

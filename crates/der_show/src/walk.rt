@@ -32,10 +32,11 @@ pub enum Next {
     NoPlace,
 }
 
-/// Goes over the element at a place, and returns it and the place of the next one: in this element if it is constructed, else after it.
+/// Goes over the element at a place, and returns it and the place of the next one: in this element if it is
+/// constructed, else after it.
 ///
-/// The first `depth` of the ends are where the elements around the place end, the innermost one last. If what is returned isn't an element,
-/// the place is the same one, and the ends are as they were.
+/// The first `depth` of the ends are where the elements around the place end, the innermost one last. If what is
+/// returned isn't an element, the place is the same one, and the ends are as they were.
 pub fn next_element(bytes: &[u8], at: Place, ends: &mut [usize]) -> (Next, Place)
     ensures next { IsNext bytes.now at ends.old result.1 ends.new result.0 }
     ensures walk { (elements : List Element) → IsWalked bytes.now (open_ends at ends.old) at.offset elements
@@ -85,7 +86,8 @@ fn end_around(len: usize, at: Place, ends: &[usize]) -> Option<usize>
     }
 }
 
-// Returns the place after the header of an element at a place if it is constructed, else after the element. Ends that are reached are left out.
+// Returns the place after the header of an element at a place if it is constructed, else after the element. Ends that
+// are reached are left out.
 fn go_past(at: Place, header: Header, ends: &mut [usize]) -> Place
     requires fits { at.offset + header.header_len + header.content_len < 2 ^ 64 }
     requires depth { at.depth ≤ length ends.old }

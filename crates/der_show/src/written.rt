@@ -25,7 +25,8 @@ pub fn never_refused()
     ensures { NeverRefused }
 {}
 
-/// Nor does `show` list a broken rule, whatever strings it opens, if it lists from the first byte on and ends at the first broken rule.
+/// Nor does `show` list a broken rule, whatever strings it opens, if it lists from the first byte on and ends at the
+/// first broken rule.
 #[tactic(auto, using(crate::proofs::ShowingLemmas::never_complains))]
 pub fn never_complains()
     ensures { NeverComplains }

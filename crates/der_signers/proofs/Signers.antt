@@ -11,25 +11,31 @@ use Rattle.der_cms.specs.contracts.signed_data.SignedDataSerialize.TheImpl as si
 use Rattle.der_signers.specs.Attributes.{set_of}
 use Rattle.der_signers.specs.Report.{AreWritable, IsWritableSigner}
 use Rattle.der_signers.specs.Outcome.{IsSignedData}
-use Rattle.der_signers.proofs.Writable.{IsShort, short-writable, list_short, implicit_list_short, first, rest, maybe_first, maybe_rest, items_short, some_mapped}
+use Rattle.der_signers.proofs.Writable.{IsShort, short-writable, list_short, implicit_list_short, first, rest}
+use Rattle.der_signers.proofs.Writable.{maybe_first, maybe_rest, items_short, some_mapped}
 
 -- those of a signer
 signer_writable : (s : SignerInfo) → IsShort (signer.ghosts.meaning s) → IsWritableSigner s
 signer_writable s h =
     let members = list_short ListKind.sequence _ h in
     let attributes = maybe_first _ s.signed_attrs _ (rest _ _ (rest _ _ (rest _ _ members))) in
-    some_mapped _ _ _ (λ a short. short-writable (set_of a.0.value.0.items) (implicit_list_short 0xA0 ListKind.set _ short)) s.signed_attrs attributes
+    some_mapped _ _ _
+    (λ a short. short-writable (set_of a.0.value.0.items) (implicit_list_short 0xA0 ListKind.set _ short))
+    s.signed_attrs attributes
 
 -- those of each signer
-signers_writable : (d : SignedData) → IsShort (signed_data.ghosts.meaning d) → All IsWritableSigner d.signer_infos.0.items
+signers_writable : (d : SignedData) → IsShort (signed_data.ghosts.meaning d)
+    → All IsWritableSigner d.signer_infos.0.items
 signers_writable d h k x inside =
     let members = list_short ListKind.sequence _ h in
     let after_content = rest _ _ (rest _ _ (rest _ _ members)) in
     let signers = first _ _ (maybe_rest _ d.crls _ (maybe_rest _ d.certificates _ after_content)) in
-    signer_writable (get_or d.signer_infos.0.items k x) (items_short signer.ghosts.meaning d.signer_infos.0.items (list_short ListKind.set _ signers) k x inside)
+    signer_writable (get_or d.signer_infos.0.items k x)
+    (items_short signer.ghosts.meaning d.signer_infos.0.items (list_short ListKind.set _ signers) k x inside)
 
 -- the type of the content
-content_type_writable : (d : SignedData) → IsShort (signed_data.ghosts.meaning d) → IsWritable (identifier.ghosts.meaning d.encap_content_info.e_content_type)
+content_type_writable : (d : SignedData) → IsShort (signed_data.ghosts.meaning d)
+    → IsWritable (identifier.ghosts.meaning d.encap_content_info.e_content_type)
 content_type_writable d h =
     let members = list_short ListKind.sequence _ h in
     let content = first _ _ (rest _ _ (rest _ _ members)) in
@@ -38,5 +44,6 @@ content_type_writable d h =
 pub read_writable : (bytes : List ℕ) (d : SignedData) → IsSignedData bytes d → length bytes < 2 ^ 64 → AreWritable d
 read_writable bytes d whole small =
     let size : length bytes ≡ _ = ap length whole.is.encoding in
-    let short : IsShort (signed_data.ghosts.meaning d) = record { readable = whole.is.readable; short = omega (arith, size, small) } in
+    let short : IsShort (signed_data.ghosts.meaning d) =
+    record { readable = whole.is.readable; short = omega (arith, size, small) } in
     record { signers = signers_writable d short; content_type = content_type_writable d short }

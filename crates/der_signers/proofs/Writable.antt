@@ -1,5 +1,6 @@
 -- Parts of what was read can be written.
-use Rattle.std.proofs.Common.{◌≡◌, true, ℕ, zero, suc, ◌^◌, ◌<◌, ◌≤◌, List, [], ◌∷◌, length, map, Option, Some, None, refl, ap, ◌∙◌, arith, length-append}
+use Rattle.std.proofs.Common.{◌≡◌, true, ℕ, zero, suc, ◌^◌, ◌<◌, ◌≤◌, List, [], ◌∷◌, length, map, Option, Some, None}
+use Rattle.std.proofs.Common.{refl, ap, ◌∙◌, arith, length-append}
 use Rattle.std.specs.Prelude.{All, IfSome, option_map, ⊤}
 use Rattle.std.specs.List.{concat}
 use Rattle.picky_der_core.specs.declared.asn1.wrapper.Wrapper.TheVariants.{ImplicitList}
@@ -8,7 +9,8 @@ use Rattle.picky_der_core.specs.ElementLaws.{length-tlv}
 use Rattle.picky_der_core.specs.Primitive.{Primitive}
 use Rattle.picky_der_core.specs.Tree.{ListKind, Tree, Trees, trees}
 use Rattle.picky_der_core.specs.Encoding.{list_content, list_tag, tree_bytes, encodings, der, content}
-use Rattle.picky_der_core.specs.EncodingLaws.{der-plain, der-primitive, der-wrapped_present, implicit_content-plain, length-list_content}
+use Rattle.picky_der_core.specs.EncodingLaws.{der-plain, der-primitive, der-wrapped_present, implicit_content-plain}
+use Rattle.picky_der_core.specs.EncodingLaws.{length-list_content}
 use Rattle.picky_der_core.specs.Readable.{IsReadable, AreReadable, IsWritable}
 use Rattle.picky_der_core.specs.ReadableLaws.{readable-writable}
 use Rattle.picky_der_ser.specs.Meaning.{maybe_more}
@@ -46,15 +48,29 @@ members_short (Trees.more t ts) r small =
 pub list_short : (kind : ListKind) (ts : Trees) → IsShort (Tree.list kind ts) → AreShort ts
 list_short kind ts h =
     let size = ap length (der-plain (Tree.list kind ts) refl) in
-    members_short ts h.readable.1 (omega (arith, h.short, size, tlv_longer (list_tag kind) (list_content kind (encodings ts)), length-list_content kind (encodings ts)))
+    members_short ts h.readable.1
+    (omega (
+      arith,
+      h.short,
+      size,
+      tlv_longer (list_tag kind) (list_content kind (encodings ts)),
+      length-list_content kind (encodings ts),
+    ))
 
 -- a list under a tag in place of its own
-pub implicit_list_short : (tag : ℕ) (kind : ListKind) (ts : Trees) → IsShort (Tree.wrapped (ImplicitList tag) (Tree.list kind ts)) → IsShort (Tree.list kind ts)
+pub implicit_list_short : (tag : ℕ) (kind : ListKind) (ts : Trees)
+    → IsShort (Tree.wrapped (ImplicitList tag) (Tree.list kind ts)) → IsShort (Tree.list kind ts)
 implicit_list_short tag kind ts h =
     let list = Tree.list kind ts in
-    let outer = ap length (der-wrapped_present (ImplicitList tag) list refl ∙ ap (tlv tag) (implicit_content-plain list refl)) in
+    let outer =
+    ap length (der-wrapped_present (ImplicitList tag) list refl
+    ∙ ap (tlv tag) (implicit_content-plain list refl)) in
     let own = ap length (der-plain list refl) in
-    record { readable = h.readable.2; short = omega (arith, h.short, outer, own, same_length tag (list_tag kind) (content list)) }
+    record {
+      readable = h.readable.2;
+      short =
+          omega (arith, h.short, outer, own, same_length tag (list_tag kind) (content list));
+    }
 
 pub first : (t : Tree) (ts : Trees) → AreShort (Trees.more t ts) → IsShort t
 unfolding AreShort
@@ -66,7 +82,8 @@ rest t ts h = h.1
 
 module _ {A : Type 0} (meaning : A → Tree) where
   -- a member that may be missing
-  pub maybe_first : (o : Option A) (ts : Trees) → AreShort (maybe_more meaning o ts) → IfSome o (λ x. IsShort (meaning x))
+  pub maybe_first : (o : Option A) (ts : Trees) → AreShort (maybe_more meaning o ts)
+      → IfSome o (λ x. IsShort (meaning x))
   maybe_first None ts h = tt
   maybe_first (Some x) ts h = first (meaning x) ts h
 
@@ -80,7 +97,8 @@ module _ {A : Type 0} (meaning : A → Tree) where
   items_short (x ∷ xs) h zero d low = first (meaning x) (trees (map meaning xs)) h
   items_short (x ∷ xs) h (suc k) d low = items_short xs (rest (meaning x) (trees (map meaning xs)) h) k d (omega arith)
 
-pub some_mapped : {A B : Type 0} (f : A → B) (P : A → Type 0) (Q : B → Type 0) → ((x : A) → P x → Q (f x)) → (o : Option A) → IfSome o P → IfSome (option_map f o) Q
+pub some_mapped : {A B : Type 0} (f : A → B) (P : A → Type 0) (Q : B → Type 0) → ((x : A) → P x → Q (f x))
+    → (o : Option A) → IfSome o P → IfSome (option_map f o) Q
 some_mapped f P Q step None h = tt
 some_mapped f P Q step (Some x) h = step x h
 

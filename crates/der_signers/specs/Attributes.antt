@@ -1,5 +1,6 @@
 -- The signed attributes of a signer (RFC 5652, 5.3, 11.1 and 11.2).
-use Rattle.std.specs.Prelude.{◌≡◌, ℕ, Bool, true, ◌&&◌, if◌then◌else◌, ◌⊎◌, List, [], ◌∷◌, Option, None, Some, option_map, map, nat_eq, All, count_by, MatchBool}
+use Rattle.std.specs.Prelude.{◌≡◌, ℕ, Bool, true, ◌&&◌, if◌then◌else◌, ◌⊎◌, List, [], ◌∷◌, Option, None, Some}
+use Rattle.std.specs.Prelude.{option_map, map, nat_eq, All, count_by, MatchBool}
 use Rattle.std.specs.Cmp.Lexicographic.{pointwise}
 use Rattle.std.specs.List.{list_any}
 use Rattle.picky_der_core.specs.Primitive.{Primitive}
@@ -12,7 +13,8 @@ use Rattle.der_cms.specs.contracts.cryptographic_message_syntax2004.AttributeSer
 use Rattle.der_signers.specs.declared.comparison.TypeComparison.{TypeComparison}
 use Rattle.der_signers.specs.declared.comparison.TypeComparison.TheVariants as type
 use Rattle.der_signers.specs.declared.comparison.RequiredAttributes.{RequiredAttributes}
-use Rattle.der_signers.specs.declared.comparison.RequiredAttributes.TheVariants.{Complete, Incomplete, Missing, NotNeeded}
+use Rattle.der_signers.specs.declared.comparison.RequiredAttributes.TheVariants.{Complete, Incomplete, Missing}
+use Rattle.der_signers.specs.declared.comparison.RequiredAttributes.TheVariants.{NotNeeded}
 use Rattle.der_signers.specs.Digest.{content_of}
 
 -- the signed attributes, if there are any
@@ -70,12 +72,14 @@ IsTypeDecided has c = ((c ≡ type.Same) × has) ⊎ ((c ≡ type.Different) × 
 abbrev pub IsTypeComparison : Option (List Attribute) → List ℕ → TypeComparison → Type 0
 IsTypeComparison None element c = c ≡ type.Absent
 IsTypeComparison (Some attributes) element c =
-    MatchBool (has_kind content_type_identifier attributes) (IsTypeDecided (HasOnlyValue content_type_identifier element attributes) c) (c ≡ type.Absent)
+    MatchBool (has_kind content_type_identifier attributes)
+    (IsTypeDecided (HasOnlyValue content_type_identifier element attributes) c) (c ≡ type.Absent)
 
 -- ---- the attributes that must be there (5.3)
 
 abbrev pub completeness : List Attribute → RequiredAttributes
-completeness attributes = if has_kind content_type_identifier attributes && has_kind message_digest_identifier attributes then Complete else Incomplete
+completeness attributes = if has_kind content_type_identifier attributes && has_kind message_digest_identifier
+    attributes then Complete else Incomplete
 
 -- for a content of type `id-data`, or of another one
 abbrev pub required_attributes : Option (List Attribute) → Bool → RequiredAttributes

@@ -5,7 +5,8 @@ use Rattle.der_signers.specs.declared.comparison.DigestComparison.TheVariants as
 use Rattle.der_signers.specs.declared.comparison.TypeComparison.{TypeComparison}
 use Rattle.der_signers.specs.declared.comparison.TypeComparison.TheVariants as type
 use Rattle.der_signers.specs.declared.comparison.RequiredAttributes.{RequiredAttributes}
-use Rattle.der_signers.specs.declared.comparison.RequiredAttributes.TheVariants.{Complete, Incomplete, Missing, NotNeeded}
+use Rattle.der_signers.specs.declared.comparison.RequiredAttributes.TheVariants.{Complete, Incomplete, Missing}
+use Rattle.der_signers.specs.declared.comparison.RequiredAttributes.TheVariants.{NotNeeded}
 use Rattle.der_signers.specs.declared.comparison.ContentComparison.{ContentComparison}
 use Rattle.der_signers.specs.declared.comparison.ContentComparison.TheVariants as content
 

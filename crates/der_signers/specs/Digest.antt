@@ -7,7 +7,8 @@ use Rattle.sha2.specs.Sha512.{sha384, sha512, sha512_224, sha512_256}
 use Rattle.der_types.specs.declared.object_identifier.ObjectIdentifier.{ObjectIdentifier}
 use Rattle.der_types.specs.contracts.generated.object_identifier.ObjectIdentifierContents.TheImpl as identifier
 use Rattle.der_signers.specs.declared.digest.DigestAlgorithm.{DigestAlgorithm}
-use Rattle.der_signers.specs.declared.digest.DigestAlgorithm.TheVariants.{Md5, Sha1, Sha224, Sha256, Sha384, Sha512, Sha512To224, Sha512To256}
+use Rattle.der_signers.specs.declared.digest.DigestAlgorithm.TheVariants.{Md5, Sha1, Sha224, Sha256, Sha384, Sha512}
+use Rattle.der_signers.specs.declared.digest.DigestAlgorithm.TheVariants.{Sha512To224, Sha512To256}
 
 -- the digest of a message, as the contracts of the crates `md5`, `sha1` and `sha2` say it
 abbrev pub digest_of : DigestAlgorithm → List ℕ → List ℕ
@@ -48,4 +49,5 @@ content_of = identifier.ghosts.content
 
 -- it is the algorithm with this object identifier; none has it, if there is none
 abbrev pub IsAlgorithmOf : ObjectIdentifier → Option DigestAlgorithm → Type 0
-IsAlgorithmOf id found = MatchOption found ((a : DigestAlgorithm) → content_of id ≢ identifier_of a) (λ a. content_of id ≡ identifier_of a)
+IsAlgorithmOf id found = MatchOption found ((a : DigestAlgorithm) → content_of id ≢ identifier_of a)
+    (λ a. content_of id ≡ identifier_of a)

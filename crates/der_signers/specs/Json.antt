@@ -26,7 +26,8 @@ certificate_data name digest signature =
     object
     (member (codes "digestAlgorithm") (string digest)
     (member (codes "issuer") (string (string_bytes name.issuer))
-    (member (codes "serialNumber") (string (encode_lower name.serial_number.items)) (member (codes "signatureAlgorithm") (string signature) no_members))))
+    (member (codes "serialNumber") (string (encode_lower name.serial_number.items))
+    (member (codes "signatureAlgorithm") (string signature) no_members))))
 
 -- the issuer and the serial number or the key identifier, and the names of the algorithms
 abbrev pub who_data : Who → List ℕ → List ℕ → Data
@@ -34,7 +35,8 @@ who_data (Certificate name) digest signature = certificate_data name digest sign
 who_data (KeyIdentifier identifier) digest signature =
     object
     (member (codes "digestAlgorithm") (string digest)
-    (member (codes "signatureAlgorithm") (string signature) (member (codes "subjectKeyIdentifier") (string (encode_lower identifier.items)) no_members)))
+    (member (codes "signatureAlgorithm") (string signature)
+    (member (codes "subjectKeyIdentifier") (string (encode_lower identifier.items)) no_members)))
 
 abbrev pub content_data : Option ContentComparison → Data
 content_data (Some comparison) = string (content_word comparison)
@@ -55,7 +57,8 @@ comparisons_data content r =
     (member (codes "content") (content_data content)
     (member (codes "contentType") (string (type_word r.content_type))
     (member (codes "digestAlgorithms") (string (listed_word r.is_listed))
-    (member (codes "hint") (hint_data r.message_digest) (member (codes "messageDigest") (string (digest_word r.message_digest)) no_members))))))
+    (member (codes "hint") (hint_data r.message_digest)
+    (member (codes "messageDigest") (string (digest_word r.message_digest)) no_members))))))
 
 abbrev pub digest_data : Option (List ℕ) → Data
 digest_data (Some digest) = string (encode_lower digest)
@@ -63,8 +66,10 @@ digest_data None = null
 
 -- the digest of what is signed: of the signed attributes, or of the content
 abbrev pub digests_data : Signed → Option (List ℕ) → Data
-digests_data signed.Attributes digest = object (member (codes "content") null (member (codes "signedAttributes") (digest_data digest) no_members))
-digests_data signed.Content digest = object (member (codes "content") (digest_data digest) (member (codes "signedAttributes") null no_members))
+digests_data signed.Attributes digest =
+    object (member (codes "content") null (member (codes "signedAttributes") (digest_data digest) no_members))
+digests_data signed.Content digest =
+    object (member (codes "content") (digest_data digest) (member (codes "signedAttributes") null no_members))
 
 -- the signer with this index, counted from 0
 abbrev pub signer_data : List ℕ → Option ℕ → Option ContentComparison → ℕ → Report → Data
@@ -87,7 +92,8 @@ no_signers_data file block m =
     (member (codes "certificates") (number (unsigned m.certificates))
     (member (codes "content") (content_data m.content)
     (member (codes "file") (string file)
-    (member (codes "lists") (number (unsigned m.lists)) (member (codes "signers") (number (unsigned 0)) (member (codes "verified") (boolean false) no_members)))))))
+    (member (codes "lists") (number (unsigned m.lists))
+    (member (codes "signers") (number (unsigned 0)) (member (codes "verified") (boolean false) no_members)))))))
 
 -- one that is refused
 abbrev pub refused_data : List ℕ → Option ℕ → Reason → Data
@@ -96,4 +102,5 @@ refused_data file block reason =
     (member (codes "block") (number_data block)
     (member (codes "file") (string file)
     (member (codes "offset") (number_data reason.offset)
-    (member (codes "refused") (string (string_bytes reason.text)) (member (codes "verified") (boolean false) no_members)))))
+    (member (codes "refused") (string (string_bytes reason.text))
+    (member (codes "verified") (boolean false) no_members)))))

@@ -13,7 +13,8 @@ use Rattle.der_signers.specs.Report.{IsReport}
 -- ---- the message's own content and the one that was given, as their digests are computed
 
 abbrev pub own_content : Request → SignedData → Option (List ℕ)
-own_content request d = option_map (taken request.line_ends) (option_map (λ c. c.0.0.items) d.encap_content_info.e_content)
+own_content request d =
+    option_map (taken request.line_ends) (option_map (λ c. c.0.0.items) d.encap_content_info.e_content)
 
 abbrev pub given_content : Request → Option (List ℕ)
 given_content request = option_map (taken request.line_ends) (option_map (λ c. c.items) request.content)

@@ -8,7 +8,8 @@ use Rattle.der_cms.specs.declared.cryptographic_message_syntax2004.ContentInfo.{
 use Rattle.der_cms.specs.declared.signed_data.SignedData.{SignedData}
 use Rattle.der_cms.specs.contracts.cryptographic_message_syntax2004.ContentInfoSerialize.TheImpl as content_info_written
 use Rattle.der_cms.specs.contracts.cryptographic_message_syntax2004.ContentInfoDeserialize.TheImpl as content_info_read
-use Rattle.der_cms.specs.contracts.cryptographic_message_syntax2004.ContentInfoPartialEq.TheImpl as content_info_compared
+use Rattle.der_cms.specs.contracts.cryptographic_message_syntax2004.ContentInfoPartialEq.TheImpl as
+    content_info_compared
 use Rattle.der_cms.specs.contracts.signed_data.SignedDataSerialize.TheImpl as signed_data_written
 use Rattle.der_cms.specs.contracts.signed_data.SignedDataDeserialize.TheImpl as signed_data_read
 use Rattle.der_cms.specs.contracts.signed_data.SignedDataPartialEq.TheImpl as signed_data_compared
@@ -25,11 +26,13 @@ use Rattle.der_signers.specs.Message.{own_content, given_content, IsMessageOf}
 
 -- the message whose encoding the bytes are
 abbrev pub IsContentInfo : List ℕ → ContentInfo → Type 0
-IsContentInfo bytes m = IsWhole content_info_written.ghosts.meaning content_info_read.ghosts.shape content_info_compared.ghosts.eq bytes m
+IsContentInfo bytes m = IsWhole content_info_written.ghosts.meaning content_info_read.ghosts.shape
+    content_info_compared.ghosts.eq bytes m
 
 -- they are none's, as was found at this position
 abbrev pub IsNoContentInfo : List ℕ → DecodeError → Type 0
-IsNoContentInfo bytes r = IsNoEncoding content_info_written.ghosts.meaning content_info_read.ghosts.shape bytes r.error r.position
+IsNoContentInfo bytes r = IsNoEncoding content_info_written.ghosts.meaning content_info_read.ghosts.shape bytes r.error
+    r.position
 
 -- the content of a message
 abbrev pub content_bytes : ContentInfo → List ℕ
@@ -37,10 +40,12 @@ content_bytes m = m.content.0.0.items
 
 -- the signed data whose encoding the bytes are
 abbrev pub IsSignedData : List ℕ → SignedData → Type 0
-IsSignedData bytes d = IsWhole signed_data_written.ghosts.meaning signed_data_read.ghosts.shape signed_data_compared.ghosts.eq bytes d
+IsSignedData bytes d = IsWhole signed_data_written.ghosts.meaning signed_data_read.ghosts.shape
+    signed_data_compared.ghosts.eq bytes d
 
 abbrev pub IsNoSignedData : List ℕ → DecodeError → ℕ → Type 0
-IsNoSignedData bytes r position = IsNoEncoding signed_data_written.ghosts.meaning signed_data_read.ghosts.shape bytes r.error position
+IsNoSignedData bytes r position = IsNoEncoding signed_data_written.ghosts.meaning signed_data_read.ghosts.shape bytes
+    r.error position
 
 -- the content of `id-signedData`, 1.2.840.113549.1.7.2
 abbrev pub signed_data_identifier : List ℕ
@@ -69,7 +74,8 @@ pub record HasOtherContent (bytes : List ℕ) (kind : ObjectIdentifier) : Type 0
   pub same : message.content_type ≡ kind
   pub other : content_of kind ≢ signed_data_identifier
 
--- The bytes are a message whose content is none of signed data, though it has its type. The content is at the end of the message, and the position counts from the front.
+-- The bytes are a message whose content is none of signed data, though it has its type. The content is at the end of
+-- the message, and the position counts from the front.
 pub record HasNoSignedData (bytes : List ℕ) (r : DecodeError) : Type 0 where
   pub message : ContentInfo
   pub whole : IsContentInfo bytes message

@@ -28,7 +28,8 @@ signer_text Json file block content index r = json_line (signer_data file block 
 
 -- of each signer, in their order
 abbrev pub signers_text : Format → List ℕ → Option ℕ → Message → List ℕ
-signers_text format file block m = flat_map (λ numbered. signer_text format file block m.content numbered.0 numbered.1) (enumerate_from 0 m.reports.items)
+signers_text format file block m = flat_map (λ numbered. signer_text format file block m.content numbered.0 numbered.1)
+    (enumerate_from 0 m.reports.items)
 
 abbrev pub no_signers_text : Format → List ℕ → Option ℕ → Message → List ℕ
 no_signers_text Text file block m = no_signers_line file block m
@@ -36,7 +37,8 @@ no_signers_text Json file block m = json_line (no_signers_data file block m) ++ 
 
 -- of each signer, or a line that says that there is none
 abbrev pub message_text : Format → List ℕ → Option ℕ → Message → List ℕ
-message_text format file block m = lines_or_none m.reports.items (signers_text format file block m) (no_signers_text format file block m)
+message_text format file block m =
+    lines_or_none m.reports.items (signers_text format file block m) (no_signers_text format file block m)
   where
     lines_or_none : List Report → List ℕ → List ℕ → List ℕ
     lines_or_none [] lines none = none
@@ -50,7 +52,8 @@ refusal_text Json file block reason = json_line (refused_data file block reason)
 -- ---- the whole
 
 -- the line of bytes that are refused
-pub record IsRefusedText (format : Format) (file : List ℕ) (block : Option ℕ) (bytes : List ℕ) (why : Refusal) (text : List ℕ) : Type 0 where
+pub record IsRefusedText (format : Format) (file : List ℕ) (block : Option ℕ) (bytes : List ℕ) (why : Refusal)
+    (text : List ℕ) : Type 0 where
   pub reason : Reason
   pub is_reason : IsReason bytes why reason
   pub is : text ≡ refusal_text format file block reason
@@ -61,7 +64,8 @@ IsText format file block bytes (outcome.Read m) text = text ≡ message_text for
 IsText format file block bytes (outcome.Refused r) text = IsRefusedText format file block bytes r text
 
 -- the lines and the status for what comes of reading these bytes
-pub record IsPrinted (file : List ℕ) (block : Option ℕ) (bytes : List ℕ) (request : Request) (format : Format) (printed : Printed) : Type 0 where
+pub record IsPrinted (file : List ℕ) (block : Option ℕ) (bytes : List ℕ) (request : Request) (format : Format)
+    (printed : Printed) : Type 0 where
   pub outcome : Outcome
   pub is_outcome : IsOutcome bytes request outcome
   pub text : IsText format file block bytes outcome (string_bytes printed.text)

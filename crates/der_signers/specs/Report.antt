@@ -1,5 +1,6 @@
 -- What is found of a signer (RFC 5652, 5.3 and 5.4).
-use Rattle.std.specs.Prelude.{◌≡◌, ℕ, Bool, ◌||◌, if◌then◌else◌, ◌⊎◌, List, [], ◌∷◌, Option, None, Some, IfSome, All, option_map, nat_eq, string_bytes}
+use Rattle.std.specs.Prelude.{◌≡◌, ℕ, Bool, ◌||◌, if◌then◌else◌, ◌⊎◌, List, [], ◌∷◌, Option, None, Some, IfSome, All}
+use Rattle.std.specs.Prelude.{option_map, nat_eq, string_bytes}
 use Rattle.std.specs.Cmp.Lexicographic.{pointwise}
 use Rattle.std.specs.List.{list_any}
 use Rattle.picky_der_core.specs.Encoding.{der}
@@ -11,12 +12,15 @@ use Rattle.der_cms.specs.declared.signed_data.SignedData.{SignedData}
 use Rattle.der_cms.specs.declared.signed_data.SignerInfo.{SignerInfo}
 use Rattle.der_signers.specs.declared.digest.DigestAlgorithm.{DigestAlgorithm}
 use Rattle.der_signers.specs.declared.comparison.DigestComparison.{DigestComparison}
-use Rattle.der_signers.specs.declared.comparison.DigestComparison.TheVariants.{Same, OtherLineEnds, Different, NoAttributes, UnknownAlgorithm, NoContent}
+use Rattle.der_signers.specs.declared.comparison.DigestComparison.TheVariants.{Same, OtherLineEnds, Different}
+use Rattle.der_signers.specs.declared.comparison.DigestComparison.TheVariants.{NoAttributes, UnknownAlgorithm}
+use Rattle.der_signers.specs.declared.comparison.DigestComparison.TheVariants.{NoContent}
 use Rattle.der_signers.specs.declared.report.Report.{Report}
 use Rattle.der_signers.specs.declared.report.Signed.{Signed}
 use Rattle.der_signers.specs.declared.report.Signed.TheVariants as signed
 use Rattle.der_signers.specs.Algorithm.{algorithm_text}
-use Rattle.der_signers.specs.Attributes.{attributes_of, HasMessageDigest, IsTypeComparison, object_identifier, required_attributes, set_of}
+use Rattle.der_signers.specs.Attributes.{attributes_of, HasMessageDigest, IsTypeComparison, object_identifier}
+use Rattle.der_signers.specs.Attributes.{required_attributes, set_of}
 use Rattle.der_signers.specs.Digest.{content_of, digest_of, IsAlgorithmOf}
 use Rattle.der_signers.specs.LineEnds.{canonical}
 use Rattle.der_signers.specs.Who.{IsWho}
@@ -37,7 +41,8 @@ pub record AreWritable (d : SignedData) : Type 0 where
 -- it is the digest of the content; else that of the content with CR LF at the end of each line; else neither
 abbrev pub IsDecided : Type 0 → Type 0 → DigestComparison → Type 0
 IsDecided has has_canonical c =
-    ((c ≡ Same) × has) ⊎ (((c ≡ OtherLineEnds) × (has → ⊥) × has_canonical) ⊎ ((c ≡ Different) × (has → ⊥) × (has_canonical → ⊥)))
+    ((c ≡ Same) × has)
+    ⊎ (((c ≡ OtherLineEnds) × (has → ⊥) × has_canonical) ⊎ ((c ≡ Different) × (has → ⊥) × (has_canonical → ⊥)))
 
 -- by the attributes, the algorithm and the content, as far as they are there
 abbrev pub IsComparison : Option (List Attribute) → Option DigestAlgorithm → Option (List ℕ) → DigestComparison → Type 0
@@ -45,7 +50,8 @@ IsComparison None algorithm content c = c ≡ NoAttributes
 IsComparison (Some attributes) None content c = c ≡ UnknownAlgorithm
 IsComparison (Some attributes) (Some algorithm) None c = c ≡ NoContent
 IsComparison (Some attributes) (Some algorithm) (Some content) c =
-    IsDecided (HasMessageDigest attributes (digest_of algorithm content)) (HasMessageDigest attributes (digest_of algorithm (canonical content))) c
+    IsDecided (HasMessageDigest attributes (digest_of algorithm content))
+    (HasMessageDigest attributes (digest_of algorithm (canonical content))) c
 
 -- ---- the type of the content (5.3 and 11.1)
 
@@ -55,7 +61,9 @@ type_encoding d = object_identifier (content_of d.encap_content_info.e_content_t
 
 -- it is `id-data`, 1.2.840.113549.1.7.1
 abbrev pub is_data : SignedData → Bool
-is_data d = pointwise nat_eq (content_of d.encap_content_info.e_content_type) (0x2A ∷ 0x86 ∷ 0x48 ∷ 0x86 ∷ 0xF7 ∷ 0x0D ∷ 0x01 ∷ 0x07 ∷ 0x01 ∷ [])
+is_data d =
+    pointwise nat_eq (content_of d.encap_content_info.e_content_type) (0x2A ∷ 0x86 ∷ 0x48 ∷ 0x86 ∷ 0xF7 ∷ 0x0D ∷ 0x01
+    ∷ 0x07 ∷ 0x01 ∷ [])
 
 -- ---- the digest algorithms that a message lists (5.1 and 5.3)
 
@@ -83,12 +91,14 @@ digest_signed attributes (Some algorithm) content = option_map (digest_of algori
 
 -- Ed25519, 1.3.101.112, and Ed448, 1.3.101.113 (RFC 8419, 2.3 and 3.1)
 abbrev pub signs_without_digest : List ℕ → Bool
-signs_without_digest content = pointwise nat_eq content (0x2B ∷ 0x65 ∷ 0x70 ∷ []) || pointwise nat_eq content (0x2B ∷ 0x65 ∷ 0x71 ∷ [])
+signs_without_digest content = pointwise nat_eq content (0x2B ∷ 0x65 ∷ 0x70 ∷ []) || pointwise nat_eq content
+    (0x2B ∷ 0x65 ∷ 0x71 ∷ [])
 
 -- the digest of what is signed, if a digest is
 abbrev pub signed_digest : SignerInfo → Option DigestAlgorithm → Option (List ℕ) → Option (List ℕ)
 signed_digest s algorithm content =
-    if signs_without_digest (content_of s.signature_algorithm.algorithm) then None else digest_signed (attributes_of s) algorithm content
+    if signs_without_digest (content_of s.signature_algorithm.algorithm) then None else digest_signed (attributes_of s)
+    algorithm content
 
 -- ---- the report on a signer of this data, for the content that is at hand
 

@@ -6,7 +6,8 @@ use Rattle.der_signers.specs.declared.comparison.DigestComparison.TheVariants as
 use Rattle.der_signers.specs.declared.comparison.TypeComparison.{TypeComparison}
 use Rattle.der_signers.specs.declared.comparison.TypeComparison.TheVariants as type
 use Rattle.der_signers.specs.declared.comparison.RequiredAttributes.{RequiredAttributes}
-use Rattle.der_signers.specs.declared.comparison.RequiredAttributes.TheVariants.{Complete, Incomplete, Missing, NotNeeded}
+use Rattle.der_signers.specs.declared.comparison.RequiredAttributes.TheVariants.{Complete, Incomplete, Missing}
+use Rattle.der_signers.specs.declared.comparison.RequiredAttributes.TheVariants.{NotNeeded}
 use Rattle.der_signers.specs.declared.comparison.ContentComparison.{ContentComparison}
 use Rattle.der_signers.specs.declared.comparison.ContentComparison.TheVariants as content
 use Rattle.der_signers.specs.declared.report.Report.{Report}
@@ -40,7 +41,8 @@ lacks NotNeeded = false
 
 -- something differs from what it must be
 abbrev pub differs : Report → Bool
-differs r = is_other_digest r.message_digest || (is_other_type r.content_type || (lacks r.attributes || not r.is_listed))
+differs r =
+    is_other_digest r.message_digest || (is_other_type r.content_type || (lacks r.attributes || not r.is_listed))
 
 abbrev pub is_same_digest : DigestComparison → Bool
 is_same_digest digest.Same = true
@@ -67,7 +69,8 @@ something_differs m = content_differs m.content || list_any differs m.reports.it
 
 -- nothing differs, and a digest was compared or none was
 abbrev pub message_status : Message → Status
-message_status m = if something_differs m then Refused else if list_any was_compared m.reports.items then Fine else NothingCompared
+message_status m = if something_differs m then Refused else if list_any was_compared m.reports.items then Fine else
+    NothingCompared
 
 abbrev pub status_of : Outcome → Status
 status_of (outcome.Read m) = message_status m

@@ -6,8 +6,8 @@ ghost use Rattle.der_signers.specs.Digest.{content_of};
 use der_types::ObjectIdentifier;
 use std::alloc::{AllocError, Global};
 
-// Algorithms of digests and signatures (RFC 3370, 5753, 5754, 8419, 8702, 9688): the content of the identifier, and the name, which is
-// OpenSSL's.
+// Algorithms of digests and signatures (RFC 3370, 5753, 5754, 8419, 8702, 9688): the content of the identifier, and the
+// name, which is OpenSSL's.
 static ALGORITHMS: [(&[u8], &str); 45] = [
     // 1.2.840.113549.2.5
     (&[0x2A, 0x86, 0x48, 0x86, 0xF7, 0x0D, 0x02, 0x05], "md5"),
@@ -215,7 +215,8 @@ static ALGORITHMS: [(&[u8], &str); 45] = [
     (&[0x2B, 0x65, 0x71], "ED448"),
 ];
 
-/// Returns the name of an algorithm, or its arcs with points between them if it has no name here. The only error is a failed allocation.
+/// Returns the name of an algorithm, or its arcs with points between them if it has no name here. The only error is a
+/// failed allocation.
 pub fn algorithm_name(alloc: Global, identifier: &ObjectIdentifier) -> Result<String, AllocError>
     ensures { IfOk result (λ name. string_bytes name ≡ algorithm_text (content_of identifier.now)) }
 {

@@ -1,6 +1,7 @@
 //! Signed attributes (RFC 5652, 5.3 and 11).
 ghost use Rattle.std.specs.Prelude.{◌≡◌, ◌≤◌, ◌↔◌, [], ◌∷◌, length, All, IsTrue, IfOk, IfErr, Some};
-ghost use Rattle.der_signers.specs.Attributes.{attributes_of, is_kind, has_kind, values_of, Agrees, HasOnlyValue, HasMessageDigest, IsTypeComparison, completeness, required_attributes};
+ghost use Rattle.der_signers.specs.Attributes.{attributes_of, is_kind, has_kind, values_of, Agrees, HasOnlyValue};
+ghost use Rattle.der_signers.specs.Attributes.{HasMessageDigest, IsTypeComparison, completeness, required_attributes};
 
 use crate::comparison::{RequiredAttributes, TypeComparison};
 use crate::encoding::encoding_of;
@@ -9,7 +10,8 @@ use picky_asn1_der::asn1::Bytes;
 use picky_asn1_der::{Asn1DerError, Result};
 use std::alloc::Global;
 
-// Whether exactly one of the attributes is a `messageDigest`, and this digest is its only value. The only error is `OutOfMemory`.
+// Whether exactly one of the attributes is a `messageDigest`, and this digest is its only value. The only error is
+// `OutOfMemory`.
 pub fn has_message_digest(alloc: Global, attributes: &[Attribute], digest: &[u8]) -> Result<bool>
     requires { length digest.now ≤ 64 }
     ensures ok { IfOk result (λ has. IsTrue has ↔ HasMessageDigest attributes.now digest.now) }

@@ -1,6 +1,7 @@
 //! Outcomes of comparisons, and the words for them.
 ghost use Rattle.std.specs.Prelude.{◌≡◌, option_map};
-ghost use Rattle.der_signers.specs.Comparison.{digest_word, hint_of, type_word, attributes_word, content_word, listed_word};
+ghost use Rattle.der_signers.specs.Comparison.{digest_word, hint_of, type_word, attributes_word, content_word};
+ghost use Rattle.der_signers.specs.Comparison.{listed_word};
 
 /// Whether the attribute `messageDigest` of a signer is the digest of the content (RFC 5652, 5.4 and 11.2).
 #[derive(Debug, Clone, Copy, PartialEq, Eq)]

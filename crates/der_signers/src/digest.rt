@@ -54,7 +54,8 @@ const SHA512_224: &[u8] = &[0x60, 0x86, 0x48, 0x01, 0x65, 0x03, 0x04, 0x02, 0x05
 const SHA512_256: &[u8] = &[0x60, 0x86, 0x48, 0x01, 0x65, 0x03, 0x04, 0x02, 0x06];
 
 impl DigestAlgorithm {
-    /// Returns the algorithm with this object identifier (RFC 3370, 2; RFC 5754, 2; RFC 8017, B.1), or `None` if it isn't one of these.
+    /// Returns the algorithm with this object identifier (RFC 3370, 2; RFC 5754, 2; RFC 8017, B.1), or `None` if it
+    /// isn't one of these.
     pub fn of(identifier: &ObjectIdentifier) -> Option<DigestAlgorithm>
         ensures { IsAlgorithmOf identifier.now result }
     {

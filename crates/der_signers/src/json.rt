@@ -3,7 +3,8 @@ ghost use Rattle.std.specs.Prelude.{◌≡◌, ◌++◌, [], ◌∷◌, false, I
 ghost use Rattle.serde_json.specs.View.{view};
 ghost use Rattle.serde_json.specs.Written.{has_float};
 ghost use Rattle.der_program_base.specs.Json.{json_line};
-ghost use Rattle.der_signers.specs.Json.{number_data, certificate_data, comparisons_data, content_data, digest_data, digests_data, hint_data, no_signers_data, refused_data, signer_data, who_data};
+ghost use Rattle.der_signers.specs.Json.{number_data, certificate_data, comparisons_data, content_data, digest_data};
+ghost use Rattle.der_signers.specs.Json.{digests_data, hint_data, no_signers_data, refused_data, signer_data, who_data};
 
 use crate::comparison::{ContentComparison, DigestComparison, listed_word};
 use crate::message::Message;

@@ -1,5 +1,5 @@
-//! The signers of messages of CMS (RFC 5652): whether the digest and the type of the content are those that a signer signed, and what exactly
-//! is signed. Signatures aren't verified.
+//! The signers of messages of CMS (RFC 5652): whether the digest and the type of the content are those that a signer
+//! signed, and what exactly is signed. Signatures aren't verified.
 #![tactic(auto)]
 
 mod algorithm;

@@ -13,7 +13,8 @@ pub enum LineEnds {
     CrLf,
 }
 
-/// Returns these bytes with CR LF at the end of each line: each LF that no CR precedes gets one. The only error is a failed allocation.
+/// Returns these bytes with CR LF at the end of each line: each LF that no CR precedes gets one. The only error is a
+/// failed allocation.
 pub fn with_cr_lf(alloc: Global, bytes: &[u8]) -> Result<Vec<u8>, AllocError>
     ensures { IfOk result (λ text. text.items ≡ canonical bytes.now) }
 {

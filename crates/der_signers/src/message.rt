@@ -2,7 +2,8 @@
 ghost use Rattle.std.specs.Prelude.{◌≡◌, IfOk, IfErr, length, option_map};
 ghost use Rattle.std.specs.Option.{option_copied};
 ghost use Rattle.der_signers.specs.LineEnds.{canonical};
-ghost use Rattle.der_signers.specs.Message.{content_comparison, same_contents, members_count, own_content, given_content, IsMessageOf};
+ghost use Rattle.der_signers.specs.Message.{content_comparison, same_contents, members_count, own_content};
+ghost use Rattle.der_signers.specs.Message.{given_content, IsMessageOf};
 ghost use Rattle.der_signers.specs.Outcome.{IsSignedData};
 ghost use Rattle.der_signers.specs.Report.{AreWritable};
 

@@ -2,7 +2,8 @@
 ghost use Rattle.std.specs.Prelude.{◌≡◌, ◌≢◌, IfOk, IfErr};
 ghost use Rattle.std.specs.List.{list_any};
 ghost use Rattle.der_signers.specs.Outcome.{IsContentInfo, IsOutcome};
-ghost use Rattle.der_signers.specs.Statuses.{status_of, message_status, something_differs, differs, was_compared, content_differs};
+ghost use Rattle.der_signers.specs.Statuses.{status_of, message_status, something_differs, differs, was_compared};
+ghost use Rattle.der_signers.specs.Statuses.{content_differs};
 
 use crate::comparison::{ContentComparison, DigestComparison, RequiredAttributes, TypeComparison};
 use crate::message::{Message, read_message};
@@ -34,8 +35,8 @@ pub enum Outcome {
 }
 
 impl Outcome {
-    /// Returns `Refused` if the message was refused or something differs, else `Fine` if the digest of a signer's content was compared,
-    /// else `NothingCompared`.
+    /// Returns `Refused` if the message was refused or something differs, else `Fine` if the digest of a signer's
+    /// content was compared, else `NothingCompared`.
     pub fn status(&self) -> Status
         ensures { result ≡ status_of self.now }
     {

@@ -1,6 +1,7 @@
 //! What is printed of a message.
 ghost use Rattle.std.specs.Prelude.{◌≡◌, IfOk, IfErr, string_bytes};
-ghost use Rattle.der_signers.specs.Printed.{message_text, signers_text, no_signers_text, refusal_text, signer_text, IsRefusedText, IsText, IsPrinted};
+ghost use Rattle.der_signers.specs.Printed.{message_text, signers_text, no_signers_text, refusal_text, signer_text};
+ghost use Rattle.der_signers.specs.Printed.{IsRefusedText, IsText, IsPrinted};
 
 use crate::comparison::ContentComparison;
 use crate::json::{no_signers_object, refusal_object, signer_object};
@@ -15,12 +16,13 @@ use picky_asn1_der::{Asn1DerError, Result};
 use std::alloc::{AllocError, Global};
 use std::result;
 
-/// Returns what is printed of the message in these bytes, which are those of a file or of a block in it: a line for each signer, or one that
-/// says that there is none, or one that says why the bytes are refused. The only error is `OutOfMemory`.
+/// Returns what is printed of the message in these bytes, which are those of a file or of a block in it: a line for
+/// each signer, or one that says that there is none, or one that says why the bytes are refused. The only error is
+/// `OutOfMemory`.
 ///
-/// The status is `Refused` if the bytes are refused or something differs: the given content, a `messageDigest`, a `contentType`, an attribute
-/// that must be there, or a digest algorithm that the message doesn't list. Else it is `Fine` if a `messageDigest` was compared, and
-/// `NothingCompared` if none was. No signature is verified.
+/// The status is `Refused` if the bytes are refused or something differs: the given content, a `messageDigest`, a
+/// `contentType`, an attribute that must be there, or a digest algorithm that the message doesn't list. Else it is
+/// `Fine` if a `messageDigest` was compared, and `NothingCompared` if none was. No signature is verified.
 pub fn signers_report(
     alloc: Global,
     file: &str,

@@ -18,8 +18,8 @@ pub struct Reason {
     pub text: String,
 }
 
-/// Returns why bytes are refused: the rule of DER that they break first, or what the type has another element for. The only error is a
-/// failed allocation.
+/// Returns why bytes are refused: the rule of DER that they break first, or what the type has another element for. The
+/// only error is a failed allocation.
 pub fn reason_of(alloc: Global, bytes: &[u8], refusal: &Refusal) -> Result<Reason, AllocError>
     ensures { IfOk result (IsReason bytes.now refusal.now) }
 {

@@ -4,7 +4,9 @@ ghost use Rattle.std.specs.List.{AllZip};
 ghost use Rattle.std.specs.Option.{option_copied};
 ghost use Rattle.der_signers.specs.Attributes.{attributes_of};
 ghost use Rattle.der_signers.specs.Digest.{content_of};
-ghost use Rattle.der_signers.specs.Report.{IsWritableSigner, AreWritable, IsComparison, type_encoding, is_data, is_listed, is_algorithm, signs_without_digest, signed_part, signed_digest, digest_signed, IsReport};
+ghost use Rattle.der_signers.specs.Report.{IsWritableSigner, AreWritable, IsComparison, type_encoding, is_data};
+ghost use Rattle.der_signers.specs.Report.{is_listed, is_algorithm, signs_without_digest, signed_part, signed_digest};
+ghost use Rattle.der_signers.specs.Report.{digest_signed, IsReport};
 
 use crate::DigestAlgorithm;
 use crate::algorithm::algorithm_name;
@@ -34,13 +36,14 @@ pub struct Report {
     pub content_type: TypeComparison,
     /// Whether it has the signed attributes that it must have.
     pub attributes: RequiredAttributes,
-    /// Whether its digest algorithm is among those that the message lists. It should be, and verifiers may refuse a message where it isn't
-    /// (RFC 5652, 5.3), as OpenSSL does.
+    /// Whether its digest algorithm is among those that the message lists. It should be, and verifiers may refuse a
+    /// message where it isn't (RFC 5652, 5.3), as OpenSSL does.
     pub is_listed: bool,
     /// What it signed.
     pub signed: Signed,
-    /// The digest of what it signed, with the signed attributes as a SET OF with the tag 31 (RFC 5652, 5.4). `None` if the digest
-    /// algorithm isn't computed here, the content is what is signed and isn't at hand, or the signature algorithm signs without a digest.
+    /// The digest of what it signed, with the signed attributes as a SET OF with the tag 31 (RFC 5652, 5.4). `None` if
+    /// the digest algorithm isn't computed here, the content is what is signed and isn't at hand, or the signature
+    /// algorithm signs without a digest.
     pub signed_digest: Option<Vec<u8>>,
 }
 

@@ -3,7 +3,9 @@ ghost use Rattle.std.specs.Prelude.{◌≡◌, ◌++◌, [], ◌∷◌, IfOk, op
 ghost use Rattle.hex.specs.Hex.{encode_lower};
 ghost use Rattle.der_program_base.specs.Line.{shown};
 ghost use Rattle.der_signers.specs.Comparison.{hint_of};
-ghost use Rattle.der_signers.specs.Text.{front_text, who_text, certificate_text, signer_text, no_signers_text, signer_words, compared_words, content_words, signed_words, signed_name, hint_words, counted, signer_line, no_signers_line, refusal_line};
+ghost use Rattle.der_signers.specs.Text.{front_text, who_text, certificate_text, signer_text, no_signers_text};
+ghost use Rattle.der_signers.specs.Text.{signer_words, compared_words, content_words, signed_words, signed_name};
+ghost use Rattle.der_signers.specs.Text.{hint_words, counted, signer_line, no_signers_line, refusal_line};
 
 use crate::comparison::{ContentComparison, DigestComparison, listed_word};
 use crate::message::Message;

@@ -18,4 +18,5 @@ abbrev pub ReadsNamed : (type : ValueType) → State → State → (description_
 ReadsNamed type old new v = Reads (description_of type).shape old new ((description_of type).meaning v)
 
 abbrev pub RefusesNamed : ValueType → State → State → Asn1DerError → Type 0
-RefusesNamed type old new e = RefusesAs (description_of type).meaning (description_of type).shape (description_of type).rule old new e
+RefusesNamed type old new e =
+    RefusesAs (description_of type).meaning (description_of type).shape (description_of type).rule old new e

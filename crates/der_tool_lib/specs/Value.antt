@@ -1,5 +1,6 @@
 -- Values that lines name, and the answers to their bytes.
-use Rattle.std.specs.Prelude.{◌≡◌, ℕ, ◌-◌, ◌^◌, Bool, true, false, List, ◌++◌, length, codes, decimal, encode_utf8, Some}
+use Rattle.std.specs.Prelude.{◌≡◌, ℕ, ◌-◌, ◌^◌, Bool, true, false, List, ◌++◌, length, codes, decimal, encode_utf8}
+use Rattle.std.specs.Prelude.{Some}
 use Rattle.hex.specs.Hex.{encode_lower}
 use Rattle.picky_der_core.specs.Primitive.{Primitive, PrimitiveShape, shape_tag}
 use Rattle.picky_der_core.specs.declared.error.Asn1DerError.{Asn1DerError}
@@ -42,7 +43,12 @@ pub record Description : Type 1 where
 
 -- that of a primitive kind
 abbrev primitive_of : {V : Type 0} → (V → Primitive) → PrimitiveShape → Description
-primitive_of {V} meaning k = record { Value = V; meaning = λ v. Tree.primitive (meaning v); shape = Shape.primitive k; rule = plain (shape_tag k) (content_error k) }
+primitive_of {V} meaning k = record {
+  Value = V;
+  meaning = λ v. Tree.primitive (meaning v);
+  shape = Shape.primitive k;
+  rule = plain (shape_tag k) (content_error k);
+}
 
 abbrev unsigned_of : ℕ → Description
 unsigned_of bits = primitive_of Primitive.unsigned (PrimitiveShape.unsigned (2 ^ bits - 1))
@@ -59,8 +65,20 @@ description_of named.Char = primitive_of (λ c. Primitive.text (encode_utf8 c)) 
 description_of named.Text = primitive_of Primitive.text PrimitiveShape.text
 description_of named.Octets = primitive_of (Primitive.bytes 0x04) (PrimitiveShape.bytes 0x04)
 description_of named.Raw = record { Value = List ℕ; meaning = Tree.raw; shape = Shape.raw; rule = element }
-description_of named.Test = record { Value = TestStruct; meaning = test_written.ghosts.meaning; shape = test_read.ghosts.shape; rule = mendable }
-description_of named.Spki = record { Value = SubjectPublicKeyInfo; meaning = spki_written.ghosts.meaning; shape = spki_read.ghosts.shape; rule = mendable }
+description_of named.Test = record {
+  Value = TestStruct;
+  meaning = test_written.ghosts.meaning;
+  shape =
+      test_read.ghosts.shape;
+  rule = mendable;
+}
+description_of named.Spki = record {
+  Value = SubjectPublicKeyInfo;
+  meaning = spki_written.ghosts.meaning;
+  shape =
+      spki_read.ghosts.shape;
+  rule = mendable;
+}
 
 -- ---- the answers
 
@@ -90,6 +108,8 @@ is_memory _ = false
 -- the answer to bytes to be read as a value of the type
 pub data AnswersRead (type : ValueType) (bytes answer : List ℕ) : Type 0 where
   read : (v : (description_of type).Value) → IsFirstValue (description_of type) bytes v
-      → answer ≡ codes "ok " ++ (decimal (length (der ((description_of type).meaning v))) ++ (codes " " ++ encode_lower (der ((description_of type).meaning v)))) → AnswersRead type bytes answer
+      → answer ≡ codes "ok " ++ (decimal (length (der ((description_of type).meaning v)))
+      ++ (codes " " ++ encode_lower (der ((description_of type).meaning v)))) → AnswersRead type bytes answer
   refused : (e : Asn1DerError) → ((v : (description_of type).Value) → IsFirstValue (description_of type) bytes v → ⊥)
-      → IsErrorBy (description_of type) bytes (description_of type).rule e → answer ≡ codes "refused " ++ word_of e → AnswersRead type bytes answer
+      → IsErrorBy (description_of type) bytes (description_of type).rule e → answer ≡ codes "refused " ++ word_of e
+      → AnswersRead type bytes answer

@@ -10,10 +10,11 @@ use picky_asn1_der::asn1::ObjectIdentifierAsn1;
 use picky_asn1_der::misc::{ReadExt, WriteExt};
 use picky_asn1_der::{Asn1RawDer, Deserialize, Deserializer, Result, Serialize, Serializer};
 
-/// An algorithm and its parameters (RFC 5280, 4.1.1.2): a SEQUENCE of an OBJECT IDENTIFIER and, if there are parameters, one element of any
-/// type.
+/// An algorithm and its parameters (RFC 5280, 4.1.1.2): a SEQUENCE of an OBJECT IDENTIFIER and, if there are
+/// parameters, one element of any type.
 ///
-/// If there are no parameters, nothing is written for them. That is different from NULL, which is an element like any other.
+/// If there are no parameters, nothing is written for them. That is different from NULL, which is an element like any
+/// other.
 #[derive(Debug, Drop, PartialEq, Eq)]
 pub struct AlgorithmIdentifier {
     /// The content of the object identifier, which isn't checked.

@@ -11,7 +11,8 @@ use picky_der_core::misc::{BufSink, Length};
 use picky_der_core::{Asn1DerError, Result};
 use std::alloc::Global;
 
-/// Returns the answer to a line. Neither the line nor the answer has the byte that ends it. The only error is `OutOfMemory`.
+/// Returns the answer to a line. Neither the line nor the answer has the byte that ends it. The only error is
+/// `OutOfMemory`.
 pub fn output_of(alloc: Global, line: &[u8]) -> Result<String>
     ensures ok { IfOk result (λ text. IsAnswerTo line.now (string_bytes text)) }
     ensures err { IfErr result (λ e. e ≡ Asn1DerError.OutOfMemory) }

@@ -26,11 +26,12 @@ impl Answers for Requested {
 
 /// Writes one line of output for each line of the input, its answer.
 ///
-/// A line ends with the byte 0A. A last line without it counts if it isn't empty. After an error, the output has the whole answers to the
-/// lines before the one that failed. If the writer failed, part of the answer to that line may follow.
+/// A line ends with the byte 0A. A last line without it counts if it isn't empty. After an error, the output has the
+/// whole answers to the lines before the one that failed. If the writer failed, part of the answer to that line may
+/// follow.
 ///
-/// `OutOfMemory` if an allocation failed, the error of the reader or the writer if it failed, and `UnsupportedValue` if the input hasn't
-/// ended after `u64::MAX` bytes.
+/// `OutOfMemory` if an allocation failed, the error of the reader or the writer if it failed, and `UnsupportedValue` if
+/// the input hasn't ended after `u64::MAX` bytes.
 pub fn run<R: ReadExt, W: WriteExt>(alloc: Global, input: &mut R, output: &mut W) -> Result<()>
     ensures text { OnOk result (WritesAnswers IsAnswerTo (R.remaining input.old) (W.written output.old)
         (W.written output.new)) }

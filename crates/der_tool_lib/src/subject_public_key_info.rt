@@ -16,7 +16,8 @@ pub struct SubjectPublicKeyInfo {
     /// What the key is for.
     pub algorithm: AlgorithmIdentifier,
 
-    /// The content of the bit string, which isn't checked: a byte that says how many of the last bits are unused, then the key.
+    /// The content of the bit string, which isn't checked: a byte that says how many of the last bits are unused, then
+    /// the key.
     pub subject_public_key: BitStringAsn1,
 }
 

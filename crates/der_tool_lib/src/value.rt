@@ -63,8 +63,8 @@ impl ValueType {
     {}
 }
 
-/// Returns the answer to a line that asks for a value of this type from these bytes. It says how many bytes were consumed and the value
-/// written again, or why the bytes are refused. The only error is `OutOfMemory`.
+/// Returns the answer to a line that asks for a value of this type from these bytes. It says how many bytes were
+/// consumed and the value written again, or why the bytes are refused. The only error is `OutOfMemory`.
 pub fn answer_read(alloc: Global, named: ValueType, bytes: &[u8]) -> Result<String>
     ensures ok { IfOk result (λ text. AnswersRead named bytes.now (string_bytes text)) }
     ensures err { IfErr result (λ e. e ≡ Asn1DerError.OutOfMemory) }

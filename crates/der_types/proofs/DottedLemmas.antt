@@ -1,5 +1,7 @@
 -- Texts of arcs: which parts they have, and what one more adds.
-use Rattle.std.proofs.Common.{◌≡◌, ◌≢◌, ℕ, suc, zero, ◌^◌, ◌<◌, ◌==◌, Bool, true, false, not, ◌&&◌, List, [], ◌∷◌, ◌++◌, length, map, get_or, refl, sym, ap, subst, ◌∙◌, inl, inr, arith, rules, ne_eqb, append-nil, Result, Ok, Err, IfErr, IsErrAnd}
+use Rattle.std.proofs.Common.{◌≡◌, ◌≢◌, ℕ, suc, zero, ◌^◌, ◌<◌, ◌==◌, Bool, true, false, not, ◌&&◌, List, [], ◌∷◌, ◌++◌}
+use Rattle.std.proofs.Common.{length, map, get_or, refl, sym, ap, subst, ◌∙◌, inl, inr, arith, rules, ne_eqb}
+use Rattle.std.proofs.Common.{append-nil, Result, Ok, Err, IfErr, IsErrAnd}
 use Rattle.std.specs.Char.{is_ascii_digit}
 use Rattle.std.specs.List.{list_all, slice_split, flat_map}
 use Rattle.std.specs.Fmt.{decimal}
@@ -11,7 +13,8 @@ use Rattle.std.proofs.lemmas.Fmt.{digits_decimal, decimal_digit, decimal_nonempt
 use Rattle.std.proofs.lemmas.List.Concat.{flat_map-append}
 use Rattle.std.proofs.lemmas.List.Splits.{slice_split_none, slice_split_at}
 use Rattle.der_types.specs.declared.oid_error.OidError.{OidError}
-use Rattle.der_types.specs.Dotted.{dotted, arc_text, dotted_or_marked, AreFitting, is_decimal, IsNoArc, part_error, parts_of, RefusesText}
+use Rattle.der_types.specs.Dotted.{dotted, arc_text, dotted_or_marked, AreFitting, is_decimal, IsNoArc, part_error}
+use Rattle.der_types.specs.Dotted.{parts_of, RefusesText}
 
 -- ---- decimal numbers
 
@@ -69,25 +72,32 @@ digit_is_no_point c h = grind (arith, nat_tests)
 no_point : (ds : List ℕ) → AreDigits ds → (k d : ℕ) → k < length ds → (get_or ds k d == 46) ≡ false
 no_point [] h k d small = absurd (omega arith)
 no_point (c ∷ cs) h zero d small = digit_is_no_point c (both (is_ascii_digit c) (list_all is_ascii_digit cs) h).0
-no_point (c ∷ cs) h (suc k) d small = no_point cs (both (is_ascii_digit c) (list_all is_ascii_digit cs) h).1 k d (omega arith)
+no_point (c ∷ cs) h (suc k) d small = no_point cs (both (is_ascii_digit c) (list_all is_ascii_digit cs) h).1 k d
+    (omega arith)
 
-pub slice_split-dotted : (arc : ℕ) (arcs : List ℕ) → AreFitting (arc ∷ arcs) → slice_split (λ b. b == 46) (dotted (arc ∷ arcs)) ≡ map decimal (arc ∷ arcs)
-slice_split-dotted arc [] h = slice_split_none (λ b. b == 46) (decimal arc) (no_point (decimal arc) (digits_decimal digits_model arc h.0))
+pub slice_split-dotted : (arc : ℕ) (arcs : List ℕ) → AreFitting (arc ∷ arcs)
+    → slice_split (λ b. b == 46) (dotted (arc ∷ arcs)) ≡ map decimal (arc ∷ arcs)
+slice_split-dotted arc [] h =
+    slice_split_none (λ b. b == 46) (decimal arc) (no_point (decimal arc) (digits_decimal digits_model arc h.0))
 slice_split-dotted arc (next ∷ arcs) h =
-    slice_split_at (λ b. b == 46) (decimal arc) 46 (dotted (next ∷ arcs)) (no_point (decimal arc) (digits_decimal digits_model arc h.0)) refl
+    slice_split_at (λ b. b == 46) (decimal arc) 46 (dotted (next ∷ arcs))
+    (no_point (decimal arc) (digits_decimal digits_model arc h.0)) refl
     ∙ ap (λ parts. decimal arc ∷ parts) (slice_split-dotted next arcs h.1)
 
 -- each part is an arc that fits
-part_is_arc : (arcs : List ℕ) (place : ℕ) (part : List ℕ) → AreFitting arcs → place < length (map decimal arcs) → part ≡ get_or (map decimal arcs) place part → (n : ℕ) × (n < 2 ^ 64) × (part ≡ decimal n)
+part_is_arc : (arcs : List ℕ) (place : ℕ) (part : List ℕ) → AreFitting arcs → place < length (map decimal arcs)
+    → part ≡ get_or (map decimal arcs) place part → (n : ℕ) × (n < 2 ^ 64) × (part ≡ decimal n)
 part_is_arc [] place part h within e = absurd (omega arith)
 part_is_arc (arc ∷ arcs) zero part h within e = (arc, h.0, e)
 part_is_arc (arc ∷ arcs) (suc place) part h within e = part_is_arc arcs place part h.1 (omega arith) e
 
-pub refuses_text : (text : List ℕ) (place : ℕ) (part : List ℕ) (e : OidError) → place < length (parts_of text) → part ≡ get_or (parts_of text) place part → IsNoArc part → e ≡ part_error part → RefusesText text e
+pub refuses_text : (text : List ℕ) (place : ℕ) (part : List ℕ) (e : OidError) → place < length (parts_of text)
+    → part ≡ get_or (parts_of text) place part → IsNoArc part → e ≡ part_error part → RefusesText text e
 refuses_text text place part e within is_part no_arc error = record {
   none = λ arc arcs fit is.
       let same : parts_of text ≡ map decimal (arc ∷ arcs) = ap parts_of is ∙ slice_split-dotted arc arcs fit in
-      let found = part_is_arc (arc ∷ arcs) place part fit (subst (λ ps. place < length ps) same within) (subst (λ ps. part ≡ get_or ps place part) same is_part) in
+      let found = part_is_arc (arc ∷ arcs) place part fit (subst (λ ps. place < length ps) same within)
+      (subst (λ ps. part ≡ get_or ps place part) same is_part) in
       no_arc found.0 found.1 found.2;
   place = place;
   part = part;
@@ -102,15 +112,19 @@ refuses_text text place part e within is_part no_arc error = record {
 abbrev pub after_points : List (Result ℕ OidError) → List ℕ
 after_points arcs = flat_map (λ arc. 46 ∷ arc_text arc) arcs
 
-pub dotted_or_marked-cons : (arc : Result ℕ OidError) (arcs : List (Result ℕ OidError)) → dotted_or_marked (arc ∷ arcs) ≡ arc_text arc ++ after_points arcs
+pub dotted_or_marked-cons : (arc : Result ℕ OidError) (arcs : List (Result ℕ OidError))
+    → dotted_or_marked (arc ∷ arcs) ≡ arc_text arc ++ after_points arcs
 dotted_or_marked-cons arc [] = sym (append-nil (arc_text arc))
 dotted_or_marked-cons arc (next ∷ arcs) = ap (λ bs. arc_text arc ++ (46 ∷ bs)) (dotted_or_marked-cons next arcs)
 
-pub after_points-append : (arcs : List (Result ℕ OidError)) (arc : Result ℕ OidError) → after_points (arcs ++ arc ∷ []) ≡ after_points arcs ++ (46 ∷ arc_text arc)
-after_points-append arcs arc = flat_map-append (λ arc. 46 ∷ arc_text arc) arcs (arc ∷ []) ∙ ap (λ bs. after_points arcs ++ bs) (append-nil (46 ∷ arc_text arc))
+pub after_points-append : (arcs : List (Result ℕ OidError)) (arc : Result ℕ OidError)
+    → after_points (arcs ++ arc ∷ []) ≡ after_points arcs ++ (46 ∷ arc_text arc)
+after_points-append arcs arc = flat_map-append (λ arc. 46 ∷ arc_text arc) arcs (arc ∷ [])
+    ∙ ap (λ bs. after_points arcs ++ bs) (append-nil (46 ∷ arc_text arc))
 
 -- ---- errors that are passed on
 
-pub error_passed_on : {T E : Type 0} {e : E} (P : E → Type 0) (r : Result T E) → IsErrAnd r (λ error. error ≡ e) → P e → IfErr r P
+pub error_passed_on : {T E : Type 0} {e : E} (P : E → Type 0) (r : Result T E) → IsErrAnd r (λ error. error ≡ e) → P e
+    → IfErr r P
 error_passed_on P (Ok v) h f = absurd h
 error_passed_on P (Err error) h f = rw h f

@@ -1,5 +1,6 @@
 -- The contents of a BIT STRING (X.690, 8.6, 11.2).
-use Rattle.std.specs.Prelude.{ℕ, ◌+◌, ◌-◌, ◌*◌, ◌/◌, ◌%◌, ◌^◌, Bool, false, ◌&&◌, ◌==◌, nat_lt, List, [], ◌∷◌, length, map, take, slice_index, if◌then◌else◌}
+use Rattle.std.specs.Prelude.{ℕ, ◌+◌, ◌-◌, ◌*◌, ◌/◌, ◌%◌, ◌^◌, Bool, false, ◌&&◌, ◌==◌, nat_lt, List, [], ◌∷◌, length}
+use Rattle.std.specs.Prelude.{map, take, slice_index, if◌then◌else◌}
 use Rattle.std.specs.List.{flat_map}
 
 -- ---- what is written of bits
@@ -21,8 +22,8 @@ bit_string_content bits = (8 * length (octets bits) - length bits) ∷ octets bi
 
 -- ---- which contents there are
 
--- how many bits of the last byte are unused, from 0 to 7 (8.6.2.2), and the bytes: 0 if there are none (8.6.2.3), and the unused
--- bits are zero (11.2.1)
+-- how many bits of the last byte are unused, from 0 to 7 (8.6.2.2), and the bytes: 0 if there are none (8.6.2.3), and
+-- the unused bits are zero (11.2.1)
 abbrev pub is_bit_string : List ℕ → Bool
 is_bit_string [] = false
 is_bit_string (u ∷ []) = u == 0
@@ -36,7 +37,8 @@ is_bit_set b k = b / 2 ^ k % 2 == 1
 abbrev pub is_named_bits : List ℕ → Bool
 is_named_bits [] = false
 is_named_bits (u ∷ []) = u == 0
-is_named_bits (u ∷ b ∷ bs) = nat_lt u 8 && (slice_index (b ∷ bs) (length bs) % 2 ^ u == 0) && is_bit_set (slice_index (b ∷ bs) (length bs)) u
+is_named_bits (u ∷ b ∷ bs) = nat_lt u 8 && (slice_index (b ∷ bs) (length bs) % 2 ^ u == 0) && is_bit_set
+    (slice_index (b ∷ bs) (length bs)) u
 
 -- ---- the bits of a content
 

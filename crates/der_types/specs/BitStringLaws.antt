@@ -1,6 +1,9 @@
 -- Each list of bits has one content, and each content is one of a list of bits.
 use Rattle.picky_der_core.specs.Element.{AreBytes}
-use Rattle.std.proofs.Common.{◌≡◌, ℕ, zero, suc, ◌+◌, ◌-◌, ◌*◌, ◌/◌, ◌%◌, ◌^◌, ◌<◌, ◌≤◌, ◌==◌, Bool, true, false, not, ◌&&◌, ◌||◌, List, [], ◌∷◌, ◌++◌, length, take, drop, replicate, nat_lt, get_or, Some, None, refl, sym, ap, subst, ◌∙◌, inl, inr, arith, min, lt-ltb, ltb-true, eqb-true, append-nil, length-append}
+use Rattle.std.proofs.Common.{◌≡◌, ℕ, zero, suc, ◌+◌, ◌-◌, ◌*◌, ◌/◌, ◌%◌, ◌^◌, ◌<◌, ◌≤◌, ◌==◌, Bool, true, false, not}
+use Rattle.std.proofs.Common.{◌&&◌, ◌||◌, List, [], ◌∷◌, ◌++◌, length, take, drop, replicate, nat_lt, get_or, Some}
+use Rattle.std.proofs.Common.{None, refl, sym, ap, subst, ◌∙◌, inl, inr, arith, min, lt-ltb, ltb-true, eqb-true}
+use Rattle.std.proofs.Common.{append-nil, length-append}
 use Rattle.std.specs.Prelude.{slice_index, slice_get}
 use Rattle.std.specs.List.{flat_map}
 use Rattle.std.proofs.lemmas.Bool.{cases_lt}
@@ -8,7 +11,8 @@ use Rattle.std.proofs.lemmas.List.{length-take-le, take_all, drop_all, get_or-ta
 use Rattle.std.proofs.lemmas.Option.{slice_get-get_or}
 use Rattle.std.proofs.lemmas.List.Concat.{get_or-flat_map}
 use Rattle.std.proofs.Math.Seq.{take-append_seam, drop-append_seam, take-append-add}
-use Rattle.der_types.specs.BitString.{weigh, octets, bit_string_content, is_bit_string, is_bit_set, is_named_bits, byte_bit, byte_bits, bits_of, unless_zeros, without_zeros}
+use Rattle.der_types.specs.BitString.{weigh, octets, bit_string_content, is_bit_string, is_bit_set, is_named_bits}
+use Rattle.der_types.specs.BitString.{byte_bit, byte_bits, bits_of, unless_zeros, without_zeros}
 
 -- ---- tests of all bytes, and of all lists of up to eight bits
 
@@ -35,8 +39,12 @@ at_each : (n : ℕ) (p : List Bool → Bool) → each n p ≡ true → (bits : L
 at_each zero p e [] h = e
 at_each zero p e (b ∷ bits) h = absurd (omega arith)
 at_each (suc n) p e [] h = absurd (omega arith)
-at_each (suc n) p e (true ∷ bits) h = at_each n (λ bits. p (true ∷ bits)) (both (each n (λ bits. p (true ∷ bits))) (each n (λ bits. p (false ∷ bits))) e).0 bits (omega arith)
-at_each (suc n) p e (false ∷ bits) h = at_each n (λ bits. p (false ∷ bits)) (both (each n (λ bits. p (true ∷ bits))) (each n (λ bits. p (false ∷ bits))) e).1 bits (omega arith)
+at_each (suc n) p e (true ∷ bits) h =
+    at_each n (λ bits. p (true ∷ bits)) (both (each n (λ bits. p (true ∷ bits))) (each n (λ bits. p (false ∷ bits)))
+    e).0 bits (omega arith)
+at_each (suc n) p e (false ∷ bits) h =
+    at_each n (λ bits. p (false ∷ bits)) (both (each n (λ bits. p (true ∷ bits))) (each n (λ bits. p (false ∷ bits)))
+    e).1 bits (omega arith)
 
 abbrev same_bit : Bool → Bool → Bool
 same_bit true c = c
@@ -61,19 +69,25 @@ same_bits-true (false ∷ bs) (false ∷ cs) e = ap (λ bs. false ∷ bs) (same_
 
 -- what up to eight bits weigh: a byte with them before zeros
 abbrev is_weighed : ℕ → List Bool → Bool
-is_weighed n bits = same_bits (byte_bits (weigh 128 bits)) (bits ++ replicate (8 - n) false) && (weigh 128 bits % 2 ^ (8 - n) == 0)
+is_weighed n bits = same_bits (byte_bits (weigh 128 bits)) (bits ++ replicate (8 - n) false) &&
+    (weigh 128 bits % 2 ^ (8 - n) == 0)
 
-weighed : (n : ℕ) → each n (is_weighed n) ≡ true → (bits : List Bool) → length bits ≡ n → (byte_bits (weigh 128 bits) ≡ bits ++ replicate (8 - n) false) × (weigh 128 bits % 2 ^ (8 - n) ≡ 0)
+weighed : (n : ℕ) → each n (is_weighed n) ≡ true → (bits : List Bool) → length bits ≡ n
+    → (byte_bits (weigh 128 bits) ≡ bits ++ replicate (8 - n) false) × (weigh 128 bits % 2 ^ (8 - n) ≡ 0)
 weighed n e bits h =
-    let parts = both (same_bits (byte_bits (weigh 128 bits)) (bits ++ replicate (8 - n) false)) (weigh 128 bits % 2 ^ (8 - n) == 0) (at_each n (is_weighed n) e bits h) in
-    (same_bits-true (byte_bits (weigh 128 bits)) (bits ++ replicate (8 - n) false) parts.0, eqb-true (weigh 128 bits % 2 ^ (8 - n)) 0 parts.1)
+    let parts = both (same_bits (byte_bits (weigh 128 bits)) (bits ++ replicate (8 - n) false))
+    (weigh 128 bits % 2 ^ (8 - n) == 0) (at_each n (is_weighed n) e bits h) in (
+      same_bits-true (byte_bits (weigh 128 bits)) (bits ++ replicate (8 - n) false) parts.0,
+      eqb-true (weigh 128 bits % 2 ^ (8 - n)) 0 parts.1,
+    )
 
 byte_weighed : (b : ℕ) → b < 256 → weigh 128 (byte_bits b) ≡ b
 byte_weighed b h = eqb-true (weigh 128 (byte_bits b)) b (at_below 256 (λ b. weigh 128 (byte_bits b) == b) refl b h)
 
 -- ---- bytes of bits
 
-pub flat_map-octets : (bits : List Bool) → flat_map byte_bits (octets bits) ≡ bits ++ replicate (8 * length (octets bits) - length bits) false
+pub flat_map-octets : (bits : List Bool)
+    → flat_map byte_bits (octets bits) ≡ bits ++ replicate (8 * length (octets bits) - length bits) false
 flat_map-octets [] = refl
 flat_map-octets (a ∷ []) = (weighed 1 refl (a ∷ []) refl).0
 flat_map-octets (a ∷ b ∷ []) = (weighed 2 refl (a ∷ b ∷ []) refl).0
@@ -85,8 +99,11 @@ flat_map-octets (a ∷ b ∷ c ∷ d ∷ e ∷ f ∷ g ∷ []) = (weighed 7 refl
 flat_map-octets (a ∷ b ∷ c ∷ d ∷ e ∷ f ∷ g ∷ h ∷ bits) =
     let first = a ∷ b ∷ c ∷ d ∷ e ∷ f ∷ g ∷ h ∷ [] in
     let one : byte_bits (weigh 128 first) ≡ first = (weighed 8 refl first refl).0 in
-    let zeros : 8 * length (octets bits) - length bits ≡ 8 * length (octets (a ∷ b ∷ c ∷ d ∷ e ∷ f ∷ g ∷ h ∷ bits)) - length (a ∷ b ∷ c ∷ d ∷ e ∷ f ∷ g ∷ h ∷ bits) = omega arith in
-    ap (λ bs. bs ++ flat_map byte_bits (octets bits)) one ∙ ap (λ bs. first ++ bs) (flat_map-octets bits) ∙ ap (λ n. first ++ (bits ++ replicate n false)) zeros
+    let zeros : 8 * length (octets bits) - length bits
+    ≡ 8 * length (octets (a ∷ b ∷ c ∷ d ∷ e ∷ f ∷ g ∷ h ∷ bits)) - length (a ∷ b ∷ c ∷ d ∷ e ∷ f ∷ g ∷ h ∷ bits) =
+    omega arith in
+    ap (λ bs. bs ++ flat_map byte_bits (octets bits)) one ∙ ap (λ bs. first ++ bs) (flat_map-octets bits)
+    ∙ ap (λ n. first ++ (bits ++ replicate n false)) zeros
 
 pub length-octets-ge : (bits : List Bool) → length bits ≤ 8 * length (octets bits)
 length-octets-ge [] = omega arith
@@ -101,8 +118,10 @@ length-octets-ge (a ∷ b ∷ c ∷ d ∷ e ∷ f ∷ g ∷ h ∷ bits) = omega 
 
 pub bits_of-content : (bits : List Bool) → bits_of (bit_string_content bits) ≡ bits
 bits_of-content bits =
-    let all : 8 * length (octets bits) - (8 * length (octets bits) - length bits) ≡ length bits = omega (arith, length-octets-ge bits) in
-    ap (λ n. take n (flat_map byte_bits (octets bits))) all ∙ ap (take (length bits)) (flat_map-octets bits) ∙ take-append_seam bits (replicate (8 * length (octets bits) - length bits) false)
+    let all : 8 * length (octets bits) - (8 * length (octets bits) - length bits) ≡ length bits =
+    omega (arith, length-octets-ge bits) in
+    ap (λ n. take n (flat_map byte_bits (octets bits))) all ∙ ap (take (length bits)) (flat_map-octets bits)
+    ∙ take-append_seam bits (replicate (8 * length (octets bits) - length bits) false)
 
 -- a byte at a time
 pub octets-step : (bits : List Bool) → 0 < length bits → octets bits ≡ weigh 128 (take 8 bits) ∷ octets (drop 8 bits)
@@ -116,7 +135,8 @@ octets-step (a ∷ b ∷ c ∷ d ∷ e ∷ f ∷ []) i = refl
 octets-step (a ∷ b ∷ c ∷ d ∷ e ∷ f ∷ g ∷ []) i = refl
 octets-step (a ∷ b ∷ c ∷ d ∷ e ∷ f ∷ g ∷ h ∷ bits) i = refl
 
-pub octets-append : (xs ys : List Bool) → 0 < length (xs ++ ys) → length xs ≡ min 8 (length (xs ++ ys)) → octets (xs ++ ys) ≡ weigh 128 xs ∷ octets ys
+pub octets-append : (xs ys : List Bool) → 0 < length (xs ++ ys) → length xs ≡ min 8 (length (xs ++ ys))
+    → octets (xs ++ ys) ≡ weigh 128 xs ∷ octets ys
 octets-append xs ys some e =
     let sum = length-append xs ys in
     elim (cases_lt (length xs) 8) [
@@ -125,12 +145,15 @@ octets-append xs ys some e =
           let all : xs ++ ys ≡ xs = ap (λ zs. xs ++ zs) none ∙ append-nil xs in
           let front : take 8 xs ≡ xs = take_all 8 xs (omega arith) in
           let after : drop 8 xs ≡ [] = drop_all 8 xs (omega arith) in
-          octets-step (xs ++ ys) some ∙ ap (λ zs. weigh 128 (take 8 zs) ∷ octets (drop 8 zs)) all ∙ ap (λ zs. weigh 128 zs ∷ octets (drop 8 xs)) front ∙ ap (λ zs. weigh 128 xs ∷ octets zs) (after ∙ sym none)
+          octets-step (xs ++ ys) some ∙ ap (λ zs. weigh 128 (take 8 zs) ∷ octets (drop 8 zs)) all
+          ∙ ap (λ zs. weigh 128 zs ∷ octets (drop 8 xs)) front
+          ∙ ap (λ zs. weigh 128 xs ∷ octets zs) (after ∙ sym none)
       | inr whole ↦
           let eight : 8 ≡ length xs = omega arith in
           let front : take 8 (xs ++ ys) ≡ xs = ap (λ n. take n (xs ++ ys)) eight ∙ take-append_seam xs ys in
           let after : drop 8 (xs ++ ys) ≡ ys = ap (λ n. drop n (xs ++ ys)) eight ∙ drop-append_seam xs ys in
-          octets-step (xs ++ ys) some ∙ ap (λ zs. weigh 128 zs ∷ octets (drop 8 (xs ++ ys))) front ∙ ap (λ zs. weigh 128 xs ∷ octets zs) after
+          octets-step (xs ++ ys) some ∙ ap (λ zs. weigh 128 zs ∷ octets (drop 8 (xs ++ ys))) front
+          ∙ ap (λ zs. weigh 128 xs ∷ octets zs) after
     ]
   where
     empty : (zs : List Bool) → length zs ≡ 0 → zs ≡ []
@@ -168,22 +191,32 @@ push_front u o b os bs e = rw e refl
 last_byte : (n : ℕ) (w u : ℕ) → w % 2 ^ (8 - n) ≡ 0 → u ≡ 8 - n → 0 < n → is_bit_string (u ∷ w ∷ []) ≡ true
 last_byte n w u zeros e some = rw (e, lt-ltb (8 - n) 8 (omega arith), zeros) refl
 
-valid_octets : (bits : List Bool) (u : ℕ) → u ≡ 8 * length (octets bits) - length bits → is_bit_string (u ∷ octets bits) ≡ true
+valid_octets : (bits : List Bool) (u : ℕ) → u ≡ 8 * length (octets bits) - length bits
+    → is_bit_string (u ∷ octets bits) ≡ true
 valid_octets [] u e = rw e refl
 valid_octets (a ∷ []) u i = last_byte 1 (weigh 128 (a ∷ [])) u (weighed 1 refl (a ∷ []) refl).1 i (omega arith)
-valid_octets (a ∷ b ∷ []) u i = last_byte 2 (weigh 128 (a ∷ b ∷ [])) u (weighed 2 refl (a ∷ b ∷ []) refl).1 i (omega arith)
-valid_octets (a ∷ b ∷ c ∷ []) u i = last_byte 3 (weigh 128 (a ∷ b ∷ c ∷ [])) u (weighed 3 refl (a ∷ b ∷ c ∷ []) refl).1 i (omega arith)
-valid_octets (a ∷ b ∷ c ∷ d ∷ []) u i = last_byte 4 (weigh 128 (a ∷ b ∷ c ∷ d ∷ [])) u (weighed 4 refl (a ∷ b ∷ c ∷ d ∷ []) refl).1 i (omega arith)
-valid_octets (a ∷ b ∷ c ∷ d ∷ e ∷ []) u i = last_byte 5 (weigh 128 (a ∷ b ∷ c ∷ d ∷ e ∷ [])) u (weighed 5 refl (a ∷ b ∷ c ∷ d ∷ e ∷ []) refl).1 i (omega arith)
-valid_octets (a ∷ b ∷ c ∷ d ∷ e ∷ f ∷ []) u i = last_byte 6 (weigh 128 (a ∷ b ∷ c ∷ d ∷ e ∷ f ∷ [])) u (weighed 6 refl (a ∷ b ∷ c ∷ d ∷ e ∷ f ∷ []) refl).1 i (omega arith)
-valid_octets (a ∷ b ∷ c ∷ d ∷ e ∷ f ∷ g ∷ []) u i = last_byte 7 (weigh 128 (a ∷ b ∷ c ∷ d ∷ e ∷ f ∷ g ∷ [])) u (weighed 7 refl (a ∷ b ∷ c ∷ d ∷ e ∷ f ∷ g ∷ []) refl).1 i (omega arith)
+valid_octets (a ∷ b ∷ []) u i = last_byte 2 (weigh 128 (a ∷ b ∷ [])) u (weighed 2 refl (a ∷ b ∷ []) refl).1 i
+    (omega arith)
+valid_octets (a ∷ b ∷ c ∷ []) u i = last_byte 3 (weigh 128 (a ∷ b ∷ c ∷ [])) u (weighed 3 refl (a ∷ b ∷ c ∷ []) refl).1
+    i (omega arith)
+valid_octets (a ∷ b ∷ c ∷ d ∷ []) u i =
+    last_byte 4 (weigh 128 (a ∷ b ∷ c ∷ d ∷ [])) u (weighed 4 refl (a ∷ b ∷ c ∷ d ∷ []) refl).1 i (omega arith)
+valid_octets (a ∷ b ∷ c ∷ d ∷ e ∷ []) u i =
+    last_byte 5 (weigh 128 (a ∷ b ∷ c ∷ d ∷ e ∷ [])) u (weighed 5 refl (a ∷ b ∷ c ∷ d ∷ e ∷ []) refl).1 i (omega arith)
+valid_octets (a ∷ b ∷ c ∷ d ∷ e ∷ f ∷ []) u i =
+    last_byte 6 (weigh 128 (a ∷ b ∷ c ∷ d ∷ e ∷ f ∷ [])) u (weighed 6 refl (a ∷ b ∷ c ∷ d ∷ e ∷ f ∷ []) refl).1 i
+    (omega arith)
+valid_octets (a ∷ b ∷ c ∷ d ∷ e ∷ f ∷ g ∷ []) u i =
+    last_byte 7 (weigh 128 (a ∷ b ∷ c ∷ d ∷ e ∷ f ∷ g ∷ [])) u (weighed 7 refl (a ∷ b ∷ c ∷ d ∷ e ∷ f ∷ g ∷ []) refl).1
+    i (omega arith)
 valid_octets (a ∷ b ∷ c ∷ d ∷ e ∷ f ∷ g ∷ h ∷ []) u i =
     let first = a ∷ b ∷ c ∷ d ∷ e ∷ f ∷ g ∷ h ∷ [] in
     last_byte 8 (weigh 128 first) u (weighed 8 refl first refl).1 i (omega arith)
 valid_octets (a ∷ b ∷ c ∷ d ∷ e ∷ f ∷ g ∷ h ∷ i ∷ bits) u same =
     let others = octets_some i bits in
     let fewer : u ≡ 8 * length (octets (i ∷ bits)) - length (i ∷ bits) = same ∙ (omega arith) in
-    push_front u (weigh 128 (a ∷ b ∷ c ∷ d ∷ e ∷ f ∷ g ∷ h ∷ [])) others.0 (octets (i ∷ bits)) others.1 others.2 ∙ valid_octets (i ∷ bits) u fewer
+    push_front u (weigh 128 (a ∷ b ∷ c ∷ d ∷ e ∷ f ∷ g ∷ h ∷ [])) others.0 (octets (i ∷ bits)) others.1 others.2
+    ∙ valid_octets (i ∷ bits) u fewer
 
 pub valid-bit_string_content : (bits : List Bool) → is_bit_string (bit_string_content bits) ≡ true
 valid-bit_string_content bits = valid_octets bits (8 * length (octets bits) - length bits) refl
@@ -205,7 +238,8 @@ is_cut u b = not (b % 2 ^ u == 0) || is_single b (octets (take (8 - u) (byte_bit
 cut_byte : (u b : ℕ) → u < 8 → b < 256 → (b % 2 ^ u == 0) ≡ true → octets (take (8 - u) (byte_bits b)) ≡ b ∷ []
 cut_byte u b few h zeros =
     let found = at_below 256 (is_cut u) (at_below 8 (λ u. below 256 (is_cut u)) refl u few) b h in
-    let so : is_single b (octets (take (8 - u) (byte_bits b))) ≡ true = sym (ap (λ t. not t || is_single b (octets (take (8 - u) (byte_bits b)))) zeros) ∙ found in
+    let so : is_single b (octets (take (8 - u) (byte_bits b))) ≡ true =
+    sym (ap (λ t. not t || is_single b (octets (take (8 - u) (byte_bits b)))) zeros) ∙ found in
     is_single-true b (octets (take (8 - u) (byte_bits b))) so
 
 length_bits : (bytes : List ℕ) → length (flat_map byte_bits bytes) ≡ 8 * length bytes
@@ -214,9 +248,11 @@ length_bits (b ∷ bytes) = omega (arith, length_bits bytes)
 
 unused_few : (u : ℕ) (bytes : List ℕ) → is_bit_string (u ∷ bytes) ≡ true → u ≤ 8 * length bytes
 unused_few u [] e = omega (arith, eqb-true u 0 e)
-unused_few u (b ∷ bytes) e = omega (arith, ltb-true u 8 (both (nat_lt u 8) (slice_index (b ∷ bytes) (length bytes) % 2 ^ u == 0) e).0)
+unused_few u (b ∷ bytes) e =
+    omega (arith, ltb-true u 8 (both (nat_lt u 8) (slice_index (b ∷ bytes) (length bytes) % 2 ^ u == 0) e).0)
 
-octets_bits : (u : ℕ) (bytes : List ℕ) → AreBytes bytes → is_bit_string (u ∷ bytes) ≡ true → octets (take (8 * length bytes - u) (flat_map byte_bits bytes)) ≡ bytes
+octets_bits : (u : ℕ) (bytes : List ℕ) → AreBytes bytes → is_bit_string (u ∷ bytes) ≡ true
+    → octets (take (8 * length bytes - u) (flat_map byte_bits bytes)) ≡ bytes
 octets_bits u [] p e = rw (eqb-true u 0 e) refl
 octets_bits u (b ∷ []) p e =
     let tests = both (nat_lt u 8) (b % 2 ^ u == 0) e in
@@ -236,13 +272,15 @@ content-bits_of (u ∷ bytes) p e =
     let few = unused_few u bytes e in
     let bits = take (8 * length bytes - u) (flat_map byte_bits bytes) in
     let same = octets_bits u bytes p.1 e in
-    let count : length bits ≡ 8 * length bytes - u = length-take-le (8 * length bytes - u) (flat_map byte_bits bytes) (omega (arith, length_bits bytes)) in
+    let count : length bits ≡ 8 * length bytes - u =
+    length-take-le (8 * length bytes - u) (flat_map byte_bits bytes) (omega (arith, length_bits bytes)) in
     let unused : 8 * length (octets bits) - length bits ≡ u = omega (arith, count, ap length same, few) in
     ap (λ n. n ∷ octets bits) unused ∙ ap (λ bs. u ∷ bs) same
 
 -- how many they are
 pub length-bits_of : (u : ℕ) (bytes : List ℕ) → length (bits_of (u ∷ bytes)) ≡ 8 * length bytes - u
-length-bits_of u bytes = length-take-le (8 * length bytes - u) (flat_map byte_bits bytes) (omega (arith, length_bits bytes))
+length-bits_of u bytes =
+    length-take-le (8 * length bytes - u) (flat_map byte_bits bytes) (omega (arith, length_bits bytes))
 
 pub same_bit_strings : (a b : List Bool) → bit_string_content a ≡ bit_string_content b → a ≡ b
 same_bit_strings a b e = sym (bits_of-content a) ∙ ap bits_of e ∙ bits_of-content b
@@ -282,16 +320,19 @@ ends_in_one-without_zeros (b ∷ bits) = one_more b (without_zeros bits) (ends_i
 abbrev is_named_byte : ℕ → List Bool → Bool
 is_named_byte n bits = not (ends_in_one bits) || is_named_bits ((8 - n) ∷ weigh 128 bits ∷ [])
 
-named_byte : (n : ℕ) → each n (is_named_byte n) ≡ true → (bits : List Bool) → length bits ≡ n → (u : ℕ) → u ≡ 8 - n → ends_in_one bits ≡ true → is_named_bits (u ∷ weigh 128 bits ∷ []) ≡ true
+named_byte : (n : ℕ) → each n (is_named_byte n) ≡ true → (bits : List Bool) → length bits ≡ n → (u : ℕ) → u ≡ 8 - n
+    → ends_in_one bits ≡ true → is_named_bits (u ∷ weigh 128 bits ∷ []) ≡ true
 named_byte n e bits h u i one =
     let found = at_each n (is_named_byte n) e bits h in
-    let so : is_named_bits ((8 - n) ∷ weigh 128 bits ∷ []) ≡ true = sym (ap (λ t. not t || is_named_bits ((8 - n) ∷ weigh 128 bits ∷ [])) one) ∙ found in
+    let so : is_named_bits ((8 - n) ∷ weigh 128 bits ∷ []) ≡ true =
+    sym (ap (λ t. not t || is_named_bits ((8 - n) ∷ weigh 128 bits ∷ [])) one) ∙ found in
     ap (λ u. is_named_bits (u ∷ weigh 128 bits ∷ [])) i ∙ so
 
 push_named : (u o b : ℕ) (os bs : List ℕ) → os ≡ b ∷ bs → is_named_bits (u ∷ o ∷ os) ≡ is_named_bits (u ∷ os)
 push_named u o b os bs e = rw e refl
 
-named_octets : (bits : List Bool) (u : ℕ) → u ≡ 8 * length (octets bits) - length bits → ends_in_one bits ≡ true → is_named_bits (u ∷ octets bits) ≡ true
+named_octets : (bits : List Bool) (u : ℕ) → u ≡ 8 * length (octets bits) - length bits → ends_in_one bits ≡ true
+    → is_named_bits (u ∷ octets bits) ≡ true
 named_octets [] u i one = rw i refl
 named_octets (a ∷ []) u i one = named_byte 1 refl (a ∷ []) refl u i one
 named_octets (a ∷ b ∷ []) u i one = named_byte 2 refl (a ∷ b ∷ []) refl u i one
@@ -300,14 +341,18 @@ named_octets (a ∷ b ∷ c ∷ d ∷ []) u i one = named_byte 4 refl (a ∷ b �
 named_octets (a ∷ b ∷ c ∷ d ∷ e ∷ []) u i one = named_byte 5 refl (a ∷ b ∷ c ∷ d ∷ e ∷ []) refl u i one
 named_octets (a ∷ b ∷ c ∷ d ∷ e ∷ f ∷ []) u i one = named_byte 6 refl (a ∷ b ∷ c ∷ d ∷ e ∷ f ∷ []) refl u i one
 named_octets (a ∷ b ∷ c ∷ d ∷ e ∷ f ∷ g ∷ []) u i one = named_byte 7 refl (a ∷ b ∷ c ∷ d ∷ e ∷ f ∷ g ∷ []) refl u i one
-named_octets (a ∷ b ∷ c ∷ d ∷ e ∷ f ∷ g ∷ h ∷ []) u i one = named_byte 8 refl (a ∷ b ∷ c ∷ d ∷ e ∷ f ∷ g ∷ h ∷ []) refl u i one
+named_octets (a ∷ b ∷ c ∷ d ∷ e ∷ f ∷ g ∷ h ∷ []) u i one =
+    named_byte 8 refl (a ∷ b ∷ c ∷ d ∷ e ∷ f ∷ g ∷ h ∷ []) refl u i one
 named_octets (a ∷ b ∷ c ∷ d ∷ e ∷ f ∷ g ∷ h ∷ i ∷ bits) u same one =
     let others = octets_some i bits in
     let fewer : u ≡ 8 * length (octets (i ∷ bits)) - length (i ∷ bits) = same ∙ (omega arith) in
-    push_named u (weigh 128 (a ∷ b ∷ c ∷ d ∷ e ∷ f ∷ g ∷ h ∷ [])) others.0 (octets (i ∷ bits)) others.1 others.2 ∙ named_octets (i ∷ bits) u fewer one
+    push_named u (weigh 128 (a ∷ b ∷ c ∷ d ∷ e ∷ f ∷ g ∷ h ∷ [])) others.0 (octets (i ∷ bits)) others.1 others.2
+    ∙ named_octets (i ∷ bits) u fewer one
 
 pub valid-named_bits : (bits : List Bool) → is_named_bits (bit_string_content (without_zeros bits)) ≡ true
-valid-named_bits bits = named_octets (without_zeros bits) (8 * length (octets (without_zeros bits)) - length (without_zeros bits)) refl (ends_in_one-without_zeros bits)
+valid-named_bits bits =
+    named_octets (without_zeros bits) (8 * length (octets (without_zeros bits)) - length (without_zeros bits)) refl
+    (ends_in_one-without_zeros bits)
 
 -- ---- one bit
 
@@ -322,11 +367,13 @@ byte_bits-at b (suc (suc (suc (suc (suc (suc zero)))))) h = refl
 byte_bits-at b (suc (suc (suc (suc (suc (suc (suc zero))))))) h = refl
 byte_bits-at b (suc (suc (suc (suc (suc (suc (suc (suc j)))))))) h = absurd (omega arith)
 
-pub bits_of-at : (u : ℕ) (bytes : List ℕ) (i : ℕ) → i < 8 * length bytes - u → get_or (bits_of (u ∷ bytes)) i false ≡ byte_bit (get_or bytes (i / 8) 0) (i % 8)
+pub bits_of-at : (u : ℕ) (bytes : List ℕ) (i : ℕ) → i < 8 * length bytes - u
+    → get_or (bits_of (u ∷ bytes)) i false ≡ byte_bit (get_or bytes (i / 8) 0) (i % 8)
 bits_of-at u bytes i h =
     let all = flat_map byte_bits bytes in
     let within : i / 8 < length bytes = omega arith in
-    let before : length (flat_map byte_bits (take (i / 8) bytes)) ≡ 8 * (i / 8) = omega (arith, length_bits (take (i / 8) bytes), length-take-le (i / 8) bytes (omega arith)) in
+    let before : length (flat_map byte_bits (take (i / 8) bytes)) ≡ 8 * (i / 8) =
+    omega (arith, length_bits (take (i / 8) bytes), length-take-le (i / 8) bytes (omega arith)) in
     let place : i ≡ length (flat_map byte_bits (take (i / 8) bytes)) + i % 8 = omega (arith, before) in
     get_or-take (8 * length bytes - u) all i false h
     ∙ ap (λ k. get_or all k false) place
@@ -342,13 +389,21 @@ named-bit_string (u ∷ b ∷ bs) e =
 
 -- ---- of a content
 
-pub length-bits_of-content : (bs : List ℕ) → is_bit_string bs ≡ true → (slice_index bs 0 ≤ 8 * (length bs - 1)) × (8 * (length bs - 1) - slice_index bs 0 ≡ length (bits_of bs)) × (0 < length bs)
+pub length-bits_of-content : (bs : List ℕ) → is_bit_string bs ≡ true
+    → (slice_index bs 0 ≤ 8 * (length bs - 1)) × (8 * (length bs - 1) - slice_index bs 0 ≡ length (bits_of bs))
+    × (0 < length bs)
 length-bits_of-content [] e = cc
-length-bits_of-content (u ∷ bytes) e = (omega (arith, unused_few u bytes e), omega (arith, length-bits_of u bytes), omega arith)
+length-bits_of-content (u ∷ bytes) e = (
+  omega (arith, unused_few u bytes e),
+  omega (arith, length-bits_of u bytes),
+  omega arith,
+)
 
-pub slice_get-bits_of : (bs : List ℕ) (i : ℕ) → is_bit_string bs ≡ true → i < length (bits_of bs) → slice_get (bits_of bs) i ≡ Some (byte_bit (get_or (drop 1 bs) (i / 8) 0) (i % 8))
+pub slice_get-bits_of : (bs : List ℕ) (i : ℕ) → is_bit_string bs ≡ true → i < length (bits_of bs)
+    → slice_get (bits_of bs) i ≡ Some (byte_bit (get_or (drop 1 bs) (i / 8) 0) (i % 8))
 slice_get-bits_of [] i e h = cc
-slice_get-bits_of (u ∷ bytes) i e h = slice_get-get_or (bits_of (u ∷ bytes)) i false h ∙ ap Some (bits_of-at u bytes i (omega (arith, h, length-bits_of u bytes)))
+slice_get-bits_of (u ∷ bytes) i e h = slice_get-get_or (bits_of (u ∷ bytes)) i false h
+    ∙ ap Some (bits_of-at u bytes i (omega (arith, h, length-bits_of u bytes)))
 
 pub slice_get-bits_of_end : (bs : List ℕ) (i : ℕ) → length (bits_of bs) ≤ i → slice_get (bits_of bs) i ≡ None
 slice_get-bits_of_end bs i h = past (bits_of bs) i h

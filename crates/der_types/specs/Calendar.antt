@@ -9,7 +9,8 @@ is_leap_year y = (y % 4 == 0) && (not (y % 100 == 0) || (y % 400 == 0))
 
 -- how many days the month of this number has: none if there is no such month
 abbrev pub days_in : ℕ → ℕ → ℕ
-days_in y m = if m == 2 then (if is_leap_year y then 29 else 28) else if (m == 4) || (m == 6) || (m == 9) || (m == 11) then 30 else if nat_lt 0 m && nat_lt m 13 then 31 else 0
+days_in y m = if m == 2 then (if is_leap_year y then 29 else 28) else if (m == 4) || (m == 6) || (m == 9) ||
+    (m == 11) then 30 else if nat_lt 0 m && nat_lt m 13 then 31 else 0
 
 -- a day of a year of up to four digits
 abbrev pub is_date : ℕ → ℕ → ℕ → Bool

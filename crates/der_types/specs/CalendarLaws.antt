@@ -1,12 +1,15 @@
 -- Dates and times of day are in the order of the seconds that they are.
-use Rattle.std.proofs.Common.{◌≡◌, ℕ, zero, suc, ◌+◌, ◌-◌, ◌*◌, ◌/◌, ◌%◌, ◌<◌, ◌≤◌, Bool, true, false, not, ◌&&◌, ◌||◌, ◌==◌, nat_lt, IsTrue, ◌↔◌, cond, refl, sym, ap, ap₂, subst, ◌∙◌, arith, inl, inr, lt-ltb, le-ltb, ltb-true, ltb-false, eq-eqb, eqb-true}
+use Rattle.std.proofs.Common.{◌≡◌, ℕ, zero, suc, ◌+◌, ◌-◌, ◌*◌, ◌/◌, ◌%◌, ◌<◌, ◌≤◌, Bool, true, false, not, ◌&&◌, ◌||◌}
+use Rattle.std.proofs.Common.{◌==◌, nat_lt, IsTrue, ◌↔◌, cond, refl, sym, ap, ap₂, subst, ◌∙◌, arith, inl, inr, lt-ltb}
+use Rattle.std.proofs.Common.{le-ltb, ltb-true, ltb-false, eq-eqb, eqb-true}
 use Rattle.std.specs.Cmp.{nat_cmp_is}
 use Rattle.std.specs.declared.cmp.Ordering.TheVariants.{Less, Equal, Greater}
 use Rattle.std.specs.Ordering.{nat_cmp, ordering_then}
 use Rattle.std.specs.declared.cmp.Ordering.{Ordering}
 use Rattle.std.proofs.lemmas.Bool.{cases_lt, and_parts}
 use Rattle.std.proofs.lemmas.Bool.Decides.{nat_tests}
-use Rattle.der_types.specs.Calendar.{is_leap_year, days_in, is_date, is_time_of_day, days_in_year, days_before_year, days_before_month, days_before, seconds_before}
+use Rattle.der_types.specs.Calendar.{is_leap_year, days_in, is_date, is_time_of_day, days_in_year, days_before_year}
+use Rattle.der_types.specs.Calendar.{days_before_month, days_before, seconds_before}
 
 -- ---- numbers are short
 
@@ -14,7 +17,8 @@ days_none : (y m : ℕ) → 13 ≤ m → days_in y m ≡ 0
 days_none y m h = grind (arith, nat_tests)
 
 days_most : (y m : ℕ) → days_in y m ≤ 31
-days_most y m = by_tests (m == 2) (is_leap_year y) ((m == 4) || (m == 6) || (m == 9) || (m == 11)) (nat_lt 0 m && nat_lt m 13)
+days_most y m = by_tests (m == 2) (is_leap_year y) ((m == 4) || (m == 6) || (m == 9) || (m == 11))
+    (nat_lt 0 m && nat_lt m 13)
   where
     by_tests : (p q r s : Bool) → cond p (cond q 29 28) (cond r 30 (cond s 31 0)) ≤ 31
     by_tests true true r s = omega arith
@@ -36,8 +40,16 @@ civil_of y m d p =
     let b = and_parts (nat_lt y 10000) (nat_lt 0 d) a.0 in
     let first = ltb-true 0 d b.1 in
     let last : d ≤ days_in y m = omega (arith, ltb-true d (days_in y m + 1) a.1) in
-    let month : m < 13 = elim (cases_lt m 13) [ inl h ↦ h | inr h ↦ absurd (omega (arith, first, last, days_none y m h)) ] in
-    record { year = ltb-true y 10000 b.0; month = month; first = first; last = last; short = omega (arith, last, days_most y m) }
+    let month : m < 13 =
+    elim (cases_lt m 13) [ inl h ↦ h | inr h ↦ absurd (omega (arith, first, last, days_none y m h)) ] in
+    record {
+      year = ltb-true y 10000 b.0;
+      month = month;
+      first = first;
+      last = last;
+      short =
+          omega (arith, last, days_most y m);
+    }
 
 pub record IsTimeOfDay (h mi s : ℕ) : Type 0 where
   pub hour : h < 24
@@ -92,7 +104,8 @@ part_lt w a b x y f h =
     let k : suc a * w ≤ b * w = grind arith in
     omega arith
 
-pub cmp_parts : (w a b x y : ℕ) → x < w → y < w → nat_cmp (a * w + x) (b * w + y) ≡ ordering_then (nat_cmp a b) (nat_cmp x y)
+pub cmp_parts : (w a b x y : ℕ) → x < w → y < w
+    → nat_cmp (a * w + x) (b * w + y) ≡ ordering_then (nat_cmp a b) (nat_cmp x y)
 cmp_parts w a b x y f g = elim (cases_lt a b) [
   | inl h ↦ less (a * w + x) (b * w + y) (part_lt w a b x y f h) ∙ sym (when_less a b (nat_cmp x y) h)
   | inr h ↦ elim (cases_lt b a) [
@@ -136,17 +149,21 @@ all_months y = by_leap (is_leap_year y)
 day_in_year : (y m d : ℕ) → IsCivil y m d → days_before_month y m + (d - 1) < days_in_year y
 day_in_year y m d c = omega (arith, c.first, c.last, month_over y m 13 c.month, all_months y)
 
-cmp_same_year : (b y m d n e : ℕ) → IsCivil y m d → IsCivil y n e → nat_cmp (b + (days_before_month y m + (d - 1))) (b + (days_before_month y n + (e - 1))) ≡ ordering_then (nat_cmp m n) (nat_cmp d e)
+cmp_same_year : (b y m d n e : ℕ) → IsCivil y m d → IsCivil y n e
+    → nat_cmp (b + (days_before_month y m + (d - 1))) (b + (days_before_month y n + (e - 1))) ≡ ordering_then
+    (nat_cmp m n) (nat_cmp d e)
 cmp_same_year b y m d n e p q =
     let u = b + (days_before_month y m + (d - 1)) in
     let v = b + (days_before_month y n + (e - 1)) in
     elim (cases_lt m n) [
       | inl h ↦ less u v (omega (arith, p.first, p.last, month_over y m n h)) ∙ sym (when_less m n (nat_cmp d e) h)
       | inr h ↦ elim (cases_lt n m) [
-        | inl k ↦ greater u v (omega (arith, q.first, q.last, month_over y n m k)) ∙ sym (when_greater m n (nat_cmp d e) k)
+        | inl k ↦ greater u v (omega (arith, q.first, q.last, month_over y n m k))
+            ∙ sym (when_greater m n (nat_cmp d e) k)
         | inr k ↦
             let same : m ≡ n = omega (arith, h, k) in
-            cmp_days b (days_before_month y m) (days_before_month y n) d e (ap (days_before_month y) same) p.first q.first ∙ sym (when_equal m n (nat_cmp d e) same)
+            cmp_days b (days_before_month y m) (days_before_month y n) d e (ap (days_before_month y) same) p.first
+            q.first ∙ sym (when_equal m n (nat_cmp d e) same)
       ]
     ]
   where
@@ -164,25 +181,33 @@ cmp_same_year b y m d n e p q =
           ]
         ]
 
-cmp_dates : (y m d z n e : ℕ) → IsCivil y m d → IsCivil z n e → nat_cmp (days_before y m d) (days_before z n e) ≡ ordering_then (nat_cmp y z) (ordering_then (nat_cmp m n) (nat_cmp d e))
+cmp_dates : (y m d z n e : ℕ) → IsCivil y m d → IsCivil z n e
+    → nat_cmp (days_before y m d) (days_before z n e) ≡ ordering_then (nat_cmp y z)
+    (ordering_then (nat_cmp m n) (nat_cmp d e))
 cmp_dates y m d z n e p q =
     let o = ordering_then (nat_cmp m n) (nat_cmp d e) in
     elim (cases_lt y z) [
-      | inl h ↦ less (days_before y m d) (days_before z n e) (omega (arith, day_in_year y m d p, year_over y z h)) ∙ sym (when_less y z o h)
+      | inl h ↦ less (days_before y m d) (days_before z n e) (omega (arith, day_in_year y m d p, year_over y z h))
+          ∙ sym (when_less y z o h)
       | inr h ↦ elim (cases_lt z y) [
-        | inl k ↦ greater (days_before y m d) (days_before z n e) (omega (arith, day_in_year z n e q, year_over z y k)) ∙ sym (when_greater y z o k)
+        | inl k ↦ greater (days_before y m d) (days_before z n e) (omega (arith, day_in_year z n e q, year_over z y k))
+            ∙ sym (when_greater y z o k)
         | inr k ↦
             let same : z ≡ y = omega (arith, h, k) in
             let here : IsCivil y n e = subst (λ y. IsCivil y n e) same q in
-            ap (λ x. nat_cmp (days_before y m d) (days_before x n e)) same ∙ cmp_same_year (days_before_year y) y m d n e p here ∙ sym (when_equal y z o (sym same))
+            ap (λ x. nat_cmp (days_before y m d) (days_before x n e)) same
+            ∙ cmp_same_year (days_before_year y) y m d n e p here ∙ sym (when_equal y z o (sym same))
       ]
     ]
 
 -- ---- seconds
 
-pub cmp_seconds : (y m d h mi s y' m' d' h' mi' s' : ℕ) → IsCivil y m d → IsTimeOfDay h mi s → IsCivil y' m' d' → IsTimeOfDay h' mi' s'
+pub cmp_seconds : (y m d h mi s y' m' d' h' mi' s' : ℕ) → IsCivil y m d → IsTimeOfDay h mi s → IsCivil y' m' d'
+    → IsTimeOfDay h' mi' s'
     → nat_cmp (seconds_before y m d h mi s) (seconds_before y' m' d' h' mi' s')
-    ≡ ordering_then (nat_cmp y y') (ordering_then (nat_cmp m m') (ordering_then (nat_cmp d d') (ordering_then (nat_cmp h h') (ordering_then (nat_cmp mi mi') (nat_cmp s s')))))
+    ≡ ordering_then (nat_cmp y y')
+    (ordering_then (nat_cmp m m')
+    (ordering_then (nat_cmp d d') (ordering_then (nat_cmp h h') (ordering_then (nat_cmp mi mi') (nat_cmp s s')))))
 cmp_seconds y m d h mi s y' m' d' h' mi' s' p t q u =
     let a = days_before y m d in
     let b = days_before y' m' d' in
@@ -191,9 +216,13 @@ cmp_seconds y m d h mi s y' m' d' h' mi' s' p t q u =
     ∙ then_assoc (nat_cmp (a * 24 + h) (b * 24 + h')) (nat_cmp mi mi') (nat_cmp s s')
     ∙ ap (λ o. ordering_then o (ordering_then (nat_cmp mi mi') (nat_cmp s s'))) (cmp_parts 24 a b h h' t.hour u.hour)
     ∙ then_assoc (nat_cmp a b) (nat_cmp h h') (ordering_then (nat_cmp mi mi') (nat_cmp s s'))
-    ∙ ap (λ o. ordering_then o (ordering_then (nat_cmp h h') (ordering_then (nat_cmp mi mi') (nat_cmp s s')))) (cmp_dates y m d y' m' d' p q)
-    ∙ then_assoc (nat_cmp y y') (ordering_then (nat_cmp m m') (nat_cmp d d')) (ordering_then (nat_cmp h h') (ordering_then (nat_cmp mi mi') (nat_cmp s s')))
-    ∙ ap (ordering_then (nat_cmp y y')) (then_assoc (nat_cmp m m') (nat_cmp d d') (ordering_then (nat_cmp h h') (ordering_then (nat_cmp mi mi') (nat_cmp s s'))))
+    ∙ ap (λ o. ordering_then o (ordering_then (nat_cmp h h') (ordering_then (nat_cmp mi mi') (nat_cmp s s'))))
+    (cmp_dates y m d y' m' d' p q)
+    ∙ then_assoc (nat_cmp y y') (ordering_then (nat_cmp m m') (nat_cmp d d'))
+    (ordering_then (nat_cmp h h') (ordering_then (nat_cmp mi mi') (nat_cmp s s')))
+    ∙ ap (ordering_then (nat_cmp y y'))
+    (then_assoc (nat_cmp m m') (nat_cmp d d')
+    (ordering_then (nat_cmp h h') (ordering_then (nat_cmp mi mi') (nat_cmp s s'))))
 
 then_equal : (a b : ℕ) (o : Ordering) → ordering_then (nat_cmp a b) o ≡ Equal → (a ≡ b) × (o ≡ Equal)
 then_equal a b o e = elim (cases_lt a b) [
@@ -207,26 +236,38 @@ then_equal a b o e = elim (cases_lt a b) [
 ]
 
 -- the fields are the same exactly if the seconds are
-pub same_seconds : (y m d h mi s y' m' d' h' mi' s' : ℕ) → IsCivil y m d → IsTimeOfDay h mi s → IsCivil y' m' d' → IsTimeOfDay h' mi' s'
-    → IsTrue ((y == y') && ((m == m') && ((d == d') && ((h == h') && ((mi == mi') && (s == s')))))) ↔ (seconds_before y m d h mi s ≡ seconds_before y' m' d' h' mi' s')
+pub same_seconds : (y m d h mi s y' m' d' h' mi' s' : ℕ) → IsCivil y m d → IsTimeOfDay h mi s → IsCivil y' m' d'
+    → IsTimeOfDay h' mi' s'
+    → IsTrue ((y == y') && ((m == m') && ((d == d') && ((h == h') && ((mi == mi') && (s == s'))))))
+    ↔ (seconds_before y m d h mi s ≡ seconds_before y' m' d' h' mi' s')
 same_seconds y m d h mi s y' m' d' h' mi' s' p t q u = (there, back)
   where
-    there : ((y == y') && ((m == m') && ((d == d') && ((h == h') && ((mi == mi') && (s == s')))))) ≡ true → seconds_before y m d h mi s ≡ seconds_before y' m' d' h' mi' s'
+    there : ((y == y') && ((m == m') && ((d == d') && ((h == h') && ((mi == mi') && (s == s')))))) ≡ true
+        → seconds_before y m d h mi s ≡ seconds_before y' m' d' h' mi' s'
     there e =
         let a = and_parts (y == y') ((m == m') && ((d == d') && ((h == h') && ((mi == mi') && (s == s'))))) e in
         let b = and_parts (m == m') ((d == d') && ((h == h') && ((mi == mi') && (s == s')))) a.1 in
         let c = and_parts (d == d') ((h == h') && ((mi == mi') && (s == s'))) b.1 in
         let f = and_parts (h == h') ((mi == mi') && (s == s')) c.1 in
         let g = and_parts (mi == mi') (s == s') f.1 in
-        rw (eqb-true y y' a.0, eqb-true m m' b.0, eqb-true d d' c.0, eqb-true h h' f.0, eqb-true mi mi' g.0, eqb-true s s' g.1) refl
+        rw (
+          eqb-true y y' a.0,
+          eqb-true m m' b.0,
+          eqb-true d d' c.0,
+          eqb-true h h' f.0,
+          eqb-true mi mi' g.0,
+          eqb-true s s' g.1,
+        ) refl
 
-    back : seconds_before y m d h mi s ≡ seconds_before y' m' d' h' mi' s' → ((y == y') && ((m == m') && ((d == d') && ((h == h') && ((mi == mi') && (s == s')))))) ≡ true
+    back : seconds_before y m d h mi s ≡ seconds_before y' m' d' h' mi' s'
+        → ((y == y') && ((m == m') && ((d == d') && ((h == h') && ((mi == mi') && (s == s')))))) ≡ true
     back e =
         let mis = ordering_then (nat_cmp mi mi') (nat_cmp s s') in
         let hs = ordering_then (nat_cmp h h') mis in
         let ds = ordering_then (nat_cmp d d') hs in
         let ms = ordering_then (nat_cmp m m') ds in
-        let all : ordering_then (nat_cmp y y') ms ≡ Equal = sym (cmp_seconds y m d h mi s y' m' d' h' mi' s' p t q u) ∙ equal (seconds_before y m d h mi s) (seconds_before y' m' d' h' mi' s') e in
+        let all : ordering_then (nat_cmp y y') ms ≡ Equal = sym (cmp_seconds y m d h mi s y' m' d' h' mi' s' p t q u)
+        ∙ equal (seconds_before y m d h mi s) (seconds_before y' m' d' h' mi' s') e in
         let a = then_equal y y' ms all in
         let b = then_equal m m' ds a.1 in
         let c = then_equal d d' hs b.1 in

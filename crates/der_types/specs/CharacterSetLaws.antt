@@ -2,7 +2,8 @@
 use Rattle.std.proofs.Common.{◌≡◌, ℕ, ◌<◌, ◌^◌, Bool, true, arith}
 use Rattle.std.proofs.lemmas.Bool.Decides.{nat_tests}
 use Rattle.std.specs.Char.{IsScalar}
-use Rattle.der_types.specs.CharacterStrings.{is_numeric, is_printable, is_any_byte, is_ia5, is_visible, is_universal, is_bmp}
+use Rattle.der_types.specs.CharacterStrings.{is_numeric, is_printable, is_any_byte, is_ia5, is_visible, is_universal}
+use Rattle.der_types.specs.CharacterStrings.{is_bmp}
 
 -- ---- ASCII
 
@@ -18,10 +19,12 @@ ia5_is_ascii c e = grind (arith, nat_tests)
 pub visible_is_ascii : (c : ℕ) → is_visible c ≡ true → c < 0x80
 visible_is_ascii c e = grind (arith, nat_tests)
 
-pub ascii_is_narrow : (is_character : ℕ → Bool) → ((c : ℕ) → is_character c ≡ true → c < 0x80) → (c : ℕ) → is_character c ≡ true → c < 2 ^ 8
+pub ascii_is_narrow : (is_character : ℕ → Bool) → ((c : ℕ) → is_character c ≡ true → c < 0x80) → (c : ℕ)
+    → is_character c ≡ true → c < 2 ^ 8
 ascii_is_narrow p low c e = omega (arith, low c e)
 
-pub ascii_is_unicode : (is_character : ℕ → Bool) → ((c : ℕ) → is_character c ≡ true → c < 0x80) → (c : ℕ) → is_character c ≡ true → IsScalar c
+pub ascii_is_unicode : (is_character : ℕ → Bool) → ((c : ℕ) → is_character c ≡ true → c < 0x80) → (c : ℕ)
+    → is_character c ≡ true → IsScalar c
 ascii_is_unicode p low c e = let small = low c e in grind (arith, nat_tests)
 
 -- ---- others

@@ -1,6 +1,8 @@
 -- Each text of a set has one content, and each content is that of one text.
 use Rattle.picky_der_core.specs.Element.{AreBytes}
-use Rattle.std.proofs.Common.{◌≡◌, ℕ, ◌+◌, ◌*◌, ◌/◌, ◌%◌, ◌^◌, ◌<◌, ◌==◌, Bool, true, false, ◌&&◌, List, [], ◌∷◌, length, refl, sym, ap, subst, ◌∙◌, arith, get_or, lt-ltb, ltb-true, eq-eqb, eqb-true, zero, suc}
+use Rattle.std.proofs.Common.{◌≡◌, ℕ, ◌+◌, ◌*◌, ◌/◌, ◌%◌, ◌^◌, ◌<◌, ◌==◌, Bool, true, false, ◌&&◌, List, [], ◌∷◌}
+use Rattle.std.proofs.Common.{length, refl, sym, ap, subst, ◌∙◌, arith, get_or, lt-ltb, ltb-true, eq-eqb, eqb-true}
+use Rattle.std.proofs.Common.{zero, suc}
 use Rattle.std.specs.Prelude.{chars, IsUtf8}
 use Rattle.std.specs.List.{list_all}
 use Rattle.std.specs.Str.{IsAscii}
@@ -34,11 +36,16 @@ characters-content Four (c ∷ text) = rw (quadruple c, characters-content Four 
 whole : (width : Width) (text : List ℕ) → (length (string_content width text) % byte_count width == 0) ≡ true
 whole One text = eq-eqb (length (string_content One text) % 1) 0 (omega arith)
 whole Two [] = refl
-whole Two (c ∷ text) = eq-eqb (length (string_content Two (c ∷ text)) % 2) 0 (omega (arith, eqb-true (length (string_content Two text) % 2) 0 (whole Two text)))
+whole Two (c ∷ text) =
+    eq-eqb (length (string_content Two (c ∷ text)) % 2) 0
+    (omega (arith, eqb-true (length (string_content Two text) % 2) 0 (whole Two text)))
 whole Four [] = refl
-whole Four (c ∷ text) = eq-eqb (length (string_content Four (c ∷ text)) % 4) 0 (omega (arith, eqb-true (length (string_content Four text) % 4) 0 (whole Four text)))
+whole Four (c ∷ text) =
+    eq-eqb (length (string_content Four (c ∷ text)) % 4) 0
+    (omega (arith, eqb-true (length (string_content Four text) % 4) 0 (whole Four text)))
 
-pub is_string_content-content : (width : Width) (is_character : ℕ → Bool) (text : List ℕ) → is_string_content width is_character (string_content width text) ≡ list_all is_character text
+pub is_string_content-content : (width : Width) (is_character : ℕ → Bool) (text : List ℕ)
+    → is_string_content width is_character (string_content width text) ≡ list_all is_character text
 is_string_content-content width is_character text = rw (whole width text, characters-content width text) refl
 
 pub same_text : (width : Width) (a b : List ℕ) → string_content width a ≡ string_content width b → a ≡ b
@@ -68,17 +75,28 @@ record Quadruple (n a b c d : ℕ) : Type 0 where
   third : n / 2 ^ 8 % 2 ^ 8 ≡ c
   fourth : n % 2 ^ 8 ≡ d
 
-quadruple_bytes : (a b c d : ℕ) → b < 256 → c < 256 → d < 256 → Quadruple (a * 2 ^ 24 + b * 2 ^ 16 + c * 2 ^ 8 + d) a b c d
-quadruple_bytes a b c d h i j = record { first = omega arith; second = omega arith; third = omega arith; fourth = omega arith }
+quadruple_bytes : (a b c d : ℕ) → b < 256 → c < 256 → d < 256
+    → Quadruple (a * 2 ^ 24 + b * 2 ^ 16 + c * 2 ^ 8 + d) a b c d
+quadruple_bytes a b c d h i j = record {
+  first = omega arith;
+  second = omega arith;
+  third = omega arith;
+  fourth =
+      omega arith;
+}
 
-pub content-characters : (width : Width) (bs : List ℕ) → AreBytes bs → (length bs % byte_count width == 0) ≡ true → string_content width (characters width bs) ≡ bs
+pub content-characters : (width : Width) (bs : List ℕ) → AreBytes bs → (length bs % byte_count width == 0) ≡ true
+    → string_content width (characters width bs) ≡ bs
 content-characters One [] p e = refl
-content-characters One (b ∷ bs) p e = ap (λ bs. b ∷ bs) (content-characters One bs p.1 (eq-eqb (length bs % 1) 0 (omega arith)))
+content-characters One (b ∷ bs) p e =
+    ap (λ bs. b ∷ bs) (content-characters One bs p.1 (eq-eqb (length bs % 1) 0 (omega arith)))
 content-characters Two [] p e = refl
 content-characters Two (a ∷ []) p e = cc
 content-characters Two (a ∷ b ∷ bs) p e =
     let bytes = pair_bytes a b p.1.0 in
-    let others = content-characters Two bs p.1.1 (eq-eqb (length bs % 2) 0 (omega (arith, eqb-true (length (a ∷ b ∷ bs) % 2) 0 e))) in
+    let others =
+    content-characters Two bs p.1.1
+    (eq-eqb (length bs % 2) 0 (omega (arith, eqb-true (length (a ∷ b ∷ bs) % 2) 0 e))) in
     rw (bytes.0, bytes.1, others) refl
 content-characters Four [] p e = refl
 content-characters Four (a ∷ []) p e = cc
@@ -86,19 +104,24 @@ content-characters Four (a ∷ b ∷ []) p e = cc
 content-characters Four (a ∷ b ∷ c ∷ []) p e = cc
 content-characters Four (a ∷ b ∷ c ∷ d ∷ bs) p e =
     let bytes = quadruple_bytes a b c d p.1.0 p.1.1.0 p.1.1.1.0 in
-    let others = content-characters Four bs p.1.1.1.1 (eq-eqb (length bs % 4) 0 (omega (arith, eqb-true (length (a ∷ b ∷ c ∷ d ∷ bs) % 4) 0 e))) in
+    let others =
+    content-characters Four bs p.1.1.1.1
+    (eq-eqb (length bs % 4) 0 (omega (arith, eqb-true (length (a ∷ b ∷ c ∷ d ∷ bs) % 4) 0 e))) in
     rw (bytes.first, bytes.second, bytes.third, bytes.fourth, others) refl
 
 -- each of them is one of the set
-pub each-character : (width : Width) (is_character : ℕ → Bool) (bs : List ℕ) → is_string_content width is_character bs ≡ true → list_all is_character (characters width bs) ≡ true
+pub each-character : (width : Width) (is_character : ℕ → Bool) (bs : List ℕ)
+    → is_string_content width is_character bs ≡ true → list_all is_character (characters width bs) ≡ true
 each-character width p bs e = (both (length bs % byte_count width == 0) (list_all p (characters width bs)) e).1
 
-pub whole-content : (width : Width) (is_character : ℕ → Bool) (bs : List ℕ) → is_string_content width is_character bs ≡ true → (length bs % byte_count width == 0) ≡ true
+pub whole-content : (width : Width) (is_character : ℕ → Bool) (bs : List ℕ)
+    → is_string_content width is_character bs ≡ true → (length bs % byte_count width == 0) ≡ true
 whole-content width p bs e = (both (length bs % byte_count width == 0) (list_all p (characters width bs)) e).0
 
 -- ---- ASCII
 
-pub IsAscii-all : (is_character : ℕ → Bool) → ((c : ℕ) → is_character c ≡ true → c < 0x80) → (bs : List ℕ) → list_all is_character bs ≡ true → IsAscii bs
+pub IsAscii-all : (is_character : ℕ → Bool) → ((c : ℕ) → is_character c ≡ true → c < 0x80) → (bs : List ℕ)
+    → list_all is_character bs ≡ true → IsAscii bs
 IsAscii-all p low bs e = at bs e
   where
     at : (bs : List ℕ) → list_all p bs ≡ true → (i : ℕ) → get_or bs i 0 < 0x80
@@ -106,13 +129,15 @@ IsAscii-all p low bs e = at bs e
     at (b ∷ bs) e zero = low b (both (p b) (list_all p bs) e).0
     at (b ∷ bs) e (suc i) = at bs (both (p b) (list_all p bs) e).1 i
 
-pub IsUtf8-content : (width : Width) (is_character : ℕ → Bool) → ((c : ℕ) → is_character c ≡ true → c < 0x80) → width ≡ One → (bs : List ℕ) → is_string_content width is_character bs ≡ true → IsUtf8 bs
+pub IsUtf8-content : (width : Width) (is_character : ℕ → Bool) → ((c : ℕ) → is_character c ≡ true → c < 0x80)
+    → width ≡ One → (bs : List ℕ) → is_string_content width is_character bs ≡ true → IsUtf8 bs
 IsUtf8-content width p low one bs e =
     let all : (length bs % 1 == 0 && list_all p bs) ≡ true = subst (λ w. is_string_content w p bs ≡ true) one e in
     IsUtf8-from_ascii bs (IsAscii-all p low bs (both (length bs % 1 == 0) (list_all p bs) all).1)
 
 -- a text of ASCII is its content
-pub ascii_content : (text : List ℕ) → IsUtf8 text → list_all is_ia5 (chars text) ≡ true → string_content One (chars text) ≡ text
+pub ascii_content : (text : List ℕ) → IsUtf8 text → list_all is_ia5 (chars text) ≡ true
+    → string_content One (chars text) ≡ text
 ascii_content text u e =
     let ascii = IsAscii-all is_ia5 (λ c h. ltb-true c 0x80 h) (chars text) e in
     let same : chars text ≡ text = sym (encodes-IsAscii (chars text) ascii) ∙ encodes-chars text u in

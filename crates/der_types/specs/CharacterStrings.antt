@@ -16,7 +16,8 @@ is_numeric c = is_digit c || c == 0x20
 
 -- the letters, the digits, space, and ' ( ) + , - . / : = ?
 abbrev pub is_printable : ℕ → Bool
-is_printable c = is_in_range 0x41 0x5A c || is_in_range 0x61 0x7A c || is_digit c || list_any (λ sign. c == sign) (codes " '()+,-./:=?")
+is_printable c = is_in_range 0x41 0x5A c || is_in_range 0x61 0x7A c || is_digit c || list_any (λ sign. c == sign)
+    (codes " '()+,-./:=?")
 
 -- ASCII
 abbrev pub is_ia5 : ℕ → Bool
@@ -73,4 +74,5 @@ characters Four bs = quadruples bs
 
 -- whole characters, each of the set
 abbrev pub is_string_content : Width → (ℕ → Bool) → List ℕ → Bool
-is_string_content width is_character bs = (length bs % byte_count width == 0) && list_all is_character (characters width bs)
+is_string_content width is_character bs =
+    (length bs % byte_count width == 0) && list_all is_character (characters width bs)

@@ -23,4 +23,9 @@ two_digits n = (0x30 + n / 10) ∷ (0x30 + n % 10) ∷ []
 -- as 2026-11-27T23:12:00Z (ISO 8601)
 unfoldable pub date_time_text : DateTime → List ℕ
 date_time_text t =
-    two_digits (t.year / 100) ++ (two_digits (t.year % 100) ++ (0x2D ∷ (two_digits t.month ++ (0x2D ∷ (two_digits t.day ++ (0x54 ∷ (two_digits t.hour ++ (0x3A ∷ (two_digits t.minute ++ (0x3A ∷ (two_digits t.second ++ (0x5A ∷ []))))))))))))
+    two_digits (t.year / 100)
+    ++ (two_digits (t.year % 100)
+    ++ (0x2D ∷ (two_digits t.month
+    ++ (0x2D ∷ (two_digits t.day
+    ++ (0x54 ∷ (two_digits t.hour
+    ++ (0x3A ∷ (two_digits t.minute ++ (0x3A ∷ (two_digits t.second ++ (0x5A ∷ []))))))))))))

@@ -1,5 +1,7 @@
--- Which trees the types of ASN.1 denote, with their contents and ranges. The clauses are clauses of X.680 unless another one is named.
-use Rattle.std.specs.Prelude.{◌≡◌, ◌≢◌, ℕ, ◌-◌, ◌^◌, ◌≤◌, ◌<◌, ℤ, pos, negsuc, Bool, true, false, ◌&&◌, ◌⊎◌, ◌==◌, nat_lt, nat_le, not, List, length, chars, IsTrue, ⊤, if◌then◌else◌}
+-- Which trees the types of ASN.1 denote, with their contents and ranges. The clauses are clauses of X.680 unless
+-- another one is named.
+use Rattle.std.specs.Prelude.{◌≡◌, ◌≢◌, ℕ, ◌-◌, ◌^◌, ◌≤◌, ◌<◌, ℤ, pos, negsuc, Bool, true, false, ◌&&◌, ◌⊎◌, ◌==◌}
+use Rattle.std.specs.Prelude.{nat_lt, nat_le, not, List, length, chars, IsTrue, ⊤, if◌then◌else◌}
 use Rattle.picky_der_core.specs.Integer.{integer_content, integer_value, integer_tree, fits_signed}
 use Rattle.picky_der_core.specs.Primitive.{Primitive, primitive_content}
 use Rattle.picky_der_core.specs.Readable.{IsReadable}
@@ -53,20 +55,25 @@ abbrev mutual
   Denotes (Notation.checked-content c) = HasContent (tag_of c) (test_of c)
   Denotes (Notation.unsigned bits) = IsMade (λ n. Tree.primitive (Primitive.unsigned n)) (λ n. n ≤ 2 ^ bits - 1)
   Denotes (Notation.signed bits) = IsMade integer_tree (λ z. fits_signed bits z ≡ true)
-  Denotes (Notation.ENUMERATED numbers) = IsMade (λ n. content_tree 0x0A (integer_content (pos n))) (λ n. IsTrue (contains numbers n))
-  Denotes (Notation.INTEGER-named numbers) = IsMade (λ n. content_tree 0x02 (integer_content (pos n))) (λ n. IsTrue (contains numbers n))
+  Denotes (Notation.ENUMERATED numbers) =
+      IsMade (λ n. content_tree 0x0A (integer_content (pos n))) (λ n. IsTrue (contains numbers n))
+  Denotes (Notation.INTEGER-named numbers) =
+      IsMade (λ n. content_tree 0x02 (integer_content (pos n))) (λ n. IsTrue (contains numbers n))
   Denotes Notation.OCTET-STRING = IsMade (content_tree 0x04) (λ s. ⊤)
   Denotes Notation.NULL = λ t. t ≡ Tree.primitive Primitive.null
   Denotes Notation.UTF8String = IsMade (λ s. Tree.primitive (Primitive.text s)) (λ s. ⊤)
   Denotes Notation.character = IsMade (λ s. Tree.primitive (Primitive.text s)) (λ s. length (chars s) ≡ 1)
-  Denotes (Notation.restricted-string tag) = HasContent tag (is_string_content (string_width tag) (string_character tag))
+  Denotes (Notation.restricted-string tag) =
+      HasContent tag (is_string_content (string_width tag) (string_character tag))
   Denotes (Notation.any-content tag) = IsMade (content_tree tag) (λ s. ⊤)
   Denotes Notation.any-element = IsMade Tree.raw (λ s. ⊤)
   Denotes (Notation.sequence ms) = IsMade (Tree.list ListKind.sequence) (DenoteMembers ms)
   Denotes (Notation.choice ts) = IsMade Tree.choice (DenoteOneOf ts)
   Denotes (Notation.list-of kind t) = IsMade (Tree.list kind) (EachIs (Denotes t))
   Denotes (Notation.wrapped w t) = IsMade (Tree.wrapped w) (Denotes t)
-  Denotes (Notation.content-under tag t) = IsMade (content_tree (primitive_form tag)) (λ s. (own : ℕ) × IsReadable (content_tree own s) × Denotes t (content_tree own s))
+  Denotes (Notation.content-under tag t) =
+      IsMade (content_tree (primitive_form tag)) (λ s. (own : ℕ) × IsReadable (content_tree own s)
+      × Denotes t (content_tree own s))
   Denotes (Notation.in-range least most t) = λ x. Denotes t x × (is_between least most (tree_number x) ≡ true)
   Denotes (Notation.from-minus least most t) = λ x. Denotes t x × (is_from_minus least most (tree_number x) ≡ true)
   Denotes (Notation.other-than n t) = λ x. Denotes t x × (is_between n n (tree_number x) ≡ false)

@@ -23,9 +23,13 @@ content_same x y xs ys e = cc
 
 -- ---- contents under another tag
 
-module _ {A V : Type 0} (n : Notation) (means : A → Tree) (is : IsExact (Denotes n) means) (tag own : ℕ) (content : A → List ℕ) (own_tag : (x : A) → means x ≡ content_tree own (content x)) (short : IsTagNumber (number_of own)) (part : V → A) (whole : (x : A) → (v : V) × (part v ≡ x)) where
-  pub content_under_exact : IsExact (Denotes (Notation.content-under tag n)) (λ v. content_tree (primitive_form tag) (content (part v)))
-  content_under_exact = made_exact (content_tree (primitive_form tag)) (λ s. (t : ℕ) × IsReadable (content_tree t s) × Denotes n (content_tree t s)) (λ v. content (part v))
+module _ {A V : Type 0} (n : Notation) (means : A → Tree) (is : IsExact (Denotes n) means) (tag own : ℕ) (content : A
+    → List ℕ) (own_tag : (x : A) → means x ≡ content_tree own (content x)) (short : IsTagNumber (number_of own))
+    (part : V → A) (whole : (x : A) → (v : V) × (part v ≡ x)) where
+  pub content_under_exact : IsExact (Denotes (Notation.content-under tag n))
+      (λ v. content_tree (primitive_form tag) (content (part v)))
+  content_under_exact = made_exact (content_tree (primitive_form tag)) (λ s. (t : ℕ) × IsReadable (content_tree t s)
+      × Denotes n (content_tree t s)) (λ v. content (part v))
       (λ v r.
       let e = own_tag (part v) in
       let readable : IsReadable (content_tree own (content (part v))) = (short, r.1) in
@@ -38,18 +42,21 @@ module _ {A V : Type 0} (n : Notation) (means : A → Tree) (is : IsExact (Denot
 -- ---- types without parts
 
 pub boolean_exact : IsExact (Denotes Notation.BOOLEAN) (λ v. Tree.primitive (Primitive.boolean v))
-boolean_exact = made_exact (λ b. Tree.primitive (Primitive.boolean b)) (λ b. ⊤) (λ v. v) (λ v r. tt) (λ a p r s. (a, refl))
+boolean_exact = made_exact (λ b. Tree.primitive (Primitive.boolean b)) (λ b. ⊤) (λ v. v) (λ v r. tt)
+    (λ a p r s. (a, refl))
 
 pub null_exact : {V : Type 0} → V → IsExact (Denotes Notation.NULL) (λ (w : V). Tree.primitive Primitive.null)
 null_exact v = record { sound = λ w r. refl; complete = λ t d r s. (v, sym d) }
 
 -- an unsigned type of so many bits, by the numbers that it has
-pub unsigned_exact : (bits : ℕ) → 2 ^ bits - 1 < 2 ^ 128 → IsExact (Denotes (Notation.unsigned bits)) (unsigned_tree (2 ^ bits - 1))
+pub unsigned_exact : (bits : ℕ) → 2 ^ bits - 1 < 2 ^ 128
+    → IsExact (Denotes (Notation.unsigned bits)) (unsigned_tree (2 ^ bits - 1))
 unsigned_exact bits small = record {
   sound = λ n r.
       let of_shape = unsigned_tree-is_of (2 ^ bits - 1) small n r in
       let e = unsigned_tree-of (2 ^ bits - 1) n of_shape in
-      let is : IsOf (Shape.primitive (PrimitiveShape.unsigned (2 ^ bits - 1))) (Tree.primitive (Primitive.unsigned n)) = subst (IsOf (Shape.primitive (PrimitiveShape.unsigned (2 ^ bits - 1)))) e of_shape in
+      let is : IsOf (Shape.primitive (PrimitiveShape.unsigned (2 ^ bits - 1))) (Tree.primitive (Primitive.unsigned n)) =
+      subst (IsOf (Shape.primitive (PrimitiveShape.unsigned (2 ^ bits - 1)))) e of_shape in
       (n, e, is.0);
   complete = λ t d r s. (d.0, unsigned_tree-within (2 ^ bits - 1) d.0 d.2 ∙ sym d.1);
 }
@@ -62,19 +69,28 @@ signed_exact bits = record {
 }
 
 -- any content under a tag
-pub any_content_exact : {V : Type 0} (tag : ℕ) (content : V → List ℕ) → ((s : List ℕ) → length s < 2 ^ 63 → (v : V) × (content v ≡ s)) → IsExact (Denotes (Notation.any-content tag)) (λ v. content_tree tag (content v))
+pub any_content_exact : {V : Type 0} (tag : ℕ) (content : V → List ℕ)
+    → ((s : List ℕ) → length s < 2 ^ 63 → (v : V) × (content v ≡ s))
+    → IsExact (Denotes (Notation.any-content tag)) (λ v. content_tree tag (content v))
 any_content_exact tag content whole = made_exact (content_tree tag) (λ s. ⊤) content (λ v r. tt) (λ s p r h. whole s h)
 
-pub text_exact : {V : Type 0} (bytes : V → List ℕ) → ((s : List ℕ) → IsUtf8 s → length s < 2 ^ 63 → (v : V) × (bytes v ≡ s)) → IsExact (Denotes Notation.UTF8String) (λ v. Tree.primitive (Primitive.text (bytes v)))
-text_exact bytes whole = made_exact (λ s. Tree.primitive (Primitive.text s)) (λ s. ⊤) bytes (λ v r. tt) (λ s p r h. whole s r h)
+pub text_exact : {V : Type 0} (bytes : V → List ℕ)
+    → ((s : List ℕ) → IsUtf8 s → length s < 2 ^ 63 → (v : V) × (bytes v ≡ s))
+    → IsExact (Denotes Notation.UTF8String) (λ v. Tree.primitive (Primitive.text (bytes v)))
+text_exact bytes whole = made_exact (λ s. Tree.primitive (Primitive.text s)) (λ s. ⊤) bytes (λ v r. tt)
+    (λ s p r h. whole s r h)
 
-pub raw_exact : {V : Type 0} (bytes : V → List ℕ) → ((s : List ℕ) → IsElement s → length s < 2 ^ 63 → (v : V) × (bytes v ≡ s)) → IsExact (Denotes Notation.any-element) (λ v. Tree.raw (bytes v))
+pub raw_exact : {V : Type 0} (bytes : V → List ℕ)
+    → ((s : List ℕ) → IsElement s → length s < 2 ^ 63 → (v : V) × (bytes v ≡ s))
+    → IsExact (Denotes Notation.any-element) (λ v. Tree.raw (bytes v))
 raw_exact bytes whole = made_exact Tree.raw (λ s. ⊤) bytes (λ v r. tt) (λ s p r h. whole s r.0 h)
 
 -- ---- what types say of their values
 
 abbrev pub unsigned_values : (bits : ℕ) → nat_lt (2 ^ bits - 1) (2 ^ 128) ≡ true → Values ℕ
-unsigned_values bits small = plain_values (Notation.unsigned bits) (unsigned_tree (2 ^ bits - 1)) (unsigned_exact bits (ltb-true (2 ^ bits - 1) (2 ^ 128) small))
+unsigned_values bits small =
+    plain_values (Notation.unsigned bits) (unsigned_tree (2 ^ bits - 1))
+    (unsigned_exact bits (ltb-true (2 ^ bits - 1) (2 ^ 128) small))
 
 abbrev pub signed_values : ℕ → Values ℤ
 signed_values bits = plain_values (Notation.signed bits) (int_tree (fits_signed bits)) (signed_exact bits)
@@ -84,15 +100,28 @@ pub record IsStandard (tag : ℕ) (width : Width) (is_character : ℕ → Bool) 
   pub same_width : width ≡ string_width tag
   pub same_characters : is_character ≡ string_character tag
 
-module _ {V : Type 0} (tag : ℕ) (width : Width) (is_character : ℕ → Bool) (content : V → List ℕ) (valid : (v : V) → is_string_content width is_character (content v) ≡ true) (whole : (s : List ℕ) → is_string_content width is_character s ≡ true → length s < 2 ^ 63 → (v : V) × (content v ≡ s)) where
-  pub string_exact : IsStandard tag width is_character → IsExact (Denotes (Notation.restricted-string tag)) (λ v. content_tree tag (content v))
+module _ {V : Type 0} (tag : ℕ) (width : Width) (is_character : ℕ → Bool) (content : V → List ℕ) (valid : (v : V)
+    → is_string_content width is_character (content v) ≡ true) (whole : (s : List ℕ)
+    → is_string_content width is_character s ≡ true → length s < 2 ^ 63 → (v : V) × (content v ≡ s)) where
+  pub string_exact : IsStandard tag width is_character
+      → IsExact (Denotes (Notation.restricted-string tag)) (λ v. content_tree tag (content v))
   string_exact s =
-      let own : IsExact (HasContent tag (is_string_content width is_character)) (λ v. content_tree tag (content v)) = content_exact tag (is_string_content width is_character) content valid whole in
-      let wide : IsExact (HasContent tag (is_string_content (string_width tag) is_character)) (λ v. content_tree tag (content v)) = subst (λ w. IsExact (HasContent tag (is_string_content w is_character)) (λ v. content_tree tag (content v))) s.same_width own in
-      subst (λ (c : ℕ → Bool). IsExact (HasContent tag (is_string_content (string_width tag) c)) (λ v. content_tree tag (content v))) s.same_characters wide
+      let own : IsExact (HasContent tag (is_string_content width is_character)) (λ v. content_tree tag (content v)) =
+      content_exact tag (is_string_content width is_character) content valid whole in
+      let wide : IsExact (HasContent tag (is_string_content (string_width tag) is_character))
+      (λ v. content_tree tag (content v)) =
+      subst (λ w. IsExact (HasContent tag (is_string_content w is_character)) (λ v. content_tree tag (content v)))
+      s.same_width own in
+      subst (λ (c : ℕ → Bool). IsExact (HasContent tag (is_string_content (string_width tag) c))
+      (λ v. content_tree tag (content v))) s.same_characters wide
 
   abbrev pub string_values : Values V
-  string_values = record { notation = Notation.restricted-string tag; meaning = λ v. content_tree tag (content v); Premise = IsStandard tag width is_character; follows = string_exact }
+  string_values = record {
+    notation = Notation.restricted-string tag;
+    meaning = λ v. content_tree tag (content v);
+    Premise = IsStandard tag width is_character;
+    follows = string_exact;
+  }
 
 -- What a type says of its contents: they are under its own tag, whose number is at most 30 by a premise.
 pub record OwnContents (A : Type 0) : Type 1 where
@@ -108,21 +137,42 @@ pub record ProvedContents {A : Type 0} (d : OwnContents A) (meaning : A → Tree
   pub means : d.meaning ≡ meaning
   pub contents : d.content ≡ content
 
-pub are_own : {A : Type 0} (d : OwnContents A) {meaning : A → Tree} {content : A → List ℕ} → ProvedContents d meaning content → (x : A) → meaning x ≡ content_tree d.tag (content x)
-are_own {A} d t x = sym (ap (λ (f : A → Tree). f x) t.means) ∙ (d.same x ∙ ap (λ (f : A → List ℕ). content_tree d.tag (f x)) t.contents)
+pub are_own : {A : Type 0} (d : OwnContents A) {meaning : A → Tree} {content : A → List ℕ}
+    → ProvedContents d meaning content → (x : A) → meaning x ≡ content_tree d.tag (content x)
+are_own {A} d t x = sym (ap (λ (f : A → Tree). f x) t.means)
+    ∙ (d.same x ∙ ap (λ (f : A → List ℕ). content_tree d.tag (f x)) t.contents)
 
 abbrev pub own_contents : {A : Type 0} (tag : ℕ) (content : A → List ℕ) → IsTagNumber (number_of tag) → OwnContents A
-own_contents tag content short = record { tag = tag; Premise = ⊤; short = λ o. short; meaning = λ v. content_tree tag (content v); content = content; same = λ x. refl }
+own_contents tag content short =
+    record {
+      tag = tag;
+      Premise = ⊤;
+      short = λ o. short;
+      meaning = λ v. content_tree tag (content v);
+      content =
+          content;
+      same = λ x. refl;
+    }
 
 -- those of a tag that is a parameter
 abbrev pub parameter_contents : {A : Type 0} (tag : ℕ) (content : A → List ℕ) → OwnContents A
-parameter_contents tag content = record { tag = tag; Premise = IsTagNumber (number_of tag); short = λ h. h; meaning = λ v. content_tree tag (content v); content = content; same = λ x. refl }
+parameter_contents tag content = record {
+  tag = tag;
+  Premise = IsTagNumber (number_of tag);
+  short = λ h. h;
+  meaning =
+      λ v. content_tree tag (content v);
+  content = content;
+  same = λ x. refl;
+}
 
 -- under another tag
-abbrev pub content_under_values : {A V : Type 0} (a : Values A) (n : Notation) (means : A → Tree) (tag : ℕ) (d : OwnContents A) (content : A → List ℕ) (part : V → A) → ((x : A) → (v : V) × (part v ≡ x)) → Values V
+abbrev pub content_under_values : {A V : Type 0} (a : Values A) (n : Notation) (means : A → Tree) (tag : ℕ)
+    (d : OwnContents A) (content : A → List ℕ) (part : V → A) → ((x : A) → (v : V) × (part v ≡ x)) → Values V
 content_under_values a n means tag d content part whole = record {
   notation = Notation.content-under tag n;
   meaning = λ v. content_tree (primitive_form tag) (content (part v));
   Premise = ProvedValues a n means × ProvedContents d means content;
-  follows = λ o. content_under_exact n means (is_exact a o.0) tag d.tag content (are_own d o.1) (d.short o.1.premise) part whole;
+  follows = λ o. content_under_exact n means (is_exact a o.0) tag d.tag content (are_own d o.1) (d.short o.1.premise)
+      part whole;
 }

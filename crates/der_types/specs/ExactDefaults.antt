@@ -38,20 +38,46 @@ true_default = record { meaning = bool_tree; left_out = λ b. b; value = bool_tr
 
 -- a number of an unsigned type, by the greatest that it has
 pub number_is : (most n : ℕ) → IsDefault (unsigned_tree most) (λ x. nat_eq x n) (unsigned_tree most n) n
-number_is most n = record { by_tree = numbers_by_tree most n; is_value = λ it h. ap (unsigned_tree most) (eqb-true it n h); is_one = eq-eqb n n refl }
+number_is most n =
+    record {
+      by_tree = numbers_by_tree most n;
+      is_value = λ it h. ap (unsigned_tree most) (eqb-true it n h);
+      is_one =
+          eq-eqb n n refl;
+    }
 
 abbrev pub number_default : ℕ → ℕ → Default ℕ
-number_default most n = record { meaning = unsigned_tree most; left_out = λ x. nat_eq x n; value = unsigned_tree most n; one = n; is = number_is most n }
+number_default most n = record {
+  meaning = unsigned_tree most;
+  left_out = λ x. nat_eq x n;
+  value = unsigned_tree most n;
+  one = n;
+  is = number_is most n;
+}
 
 -- one of a signed type
 pub int_is : (fits : ℤ → Bool) (n : ℤ) → IsDefault (int_tree fits) (λ x. int_eq x n) (int_tree fits n) n
-int_is fits n = record { by_tree = ints_by_tree fits n; is_value = λ it h. ap (int_tree fits) ((Decides-int_eq it n).0 h); is_one = (Decides-int_eq n n).1 refl }
+int_is fits n =
+    record {
+      by_tree = ints_by_tree fits n;
+      is_value = λ it h. ap (int_tree fits) ((Decides-int_eq it n).0 h);
+      is_one =
+          (Decides-int_eq n n).1 refl;
+    }
 
 abbrev pub signed_default : (ℤ → Bool) → ℤ → Default ℤ
-signed_default fits n = record { meaning = int_tree fits; left_out = λ x. int_eq x n; value = int_tree fits n; one = n; is = int_is fits n }
+signed_default fits n = record {
+  meaning = int_tree fits;
+  left_out = λ x. int_eq x n;
+  value = int_tree fits n;
+  one =
+      n;
+  is = int_is fits n;
+}
 
 -- an item of an enumeration, or another value of which one is left out
-abbrev pub item_default : {A : Type 0} (meaning : A → Tree) (left_out : A → Bool) (one : A) → IsByTree meaning left_out → left_out one ≡ true → Default A
+abbrev pub item_default : {A : Type 0} (meaning : A → Tree) (left_out : A → Bool) (one : A) → IsByTree meaning left_out
+    → left_out one ≡ true → Default A
 item_default meaning left_out one by_tree is_one = record {
   meaning = meaning;
   left_out = left_out;
@@ -62,7 +88,9 @@ item_default meaning left_out one by_tree is_one = record {
 
 -- one in a wrapper
 module _ {A V : Type 0} (w : Wrapper) (part : V → A) (whole : (x : A) → (v : V) × (part v ≡ x)) where
-  pub wrapped_is : {means : A → Tree} {left_out : A → Bool} {value : Tree} {one : A} → IsDefault means left_out value one → IsDefault (λ v. Tree.wrapped w (means (part v))) (λ v. left_out (part v)) (Tree.wrapped w value) (whole one).0
+  pub wrapped_is : {means : A → Tree} {left_out : A → Bool} {value : Tree} {one : A}
+      → IsDefault means left_out value one → IsDefault (λ v. Tree.wrapped w (means (part v))) (λ v. left_out (part v))
+      (Tree.wrapped w value) (whole one).0
   wrapped_is {means} {left_out} {value} {one} d = record {
     by_tree = λ x y h. wrapped_by_tree w means left_out d.by_tree (part x) (part y) h;
     is_value = λ v h. ap (Tree.wrapped w) (d.is_value (part v) h);
@@ -70,9 +98,17 @@ module _ {A V : Type 0} (w : Wrapper) (part : V → A) (whole : (x : A) → (v :
   }
 
   abbrev pub wrapped_default : Default A → Default V
-  wrapped_default d = record { meaning = λ v. Tree.wrapped w (d.meaning (part v)); left_out = λ v. d.left_out (part v); value = Tree.wrapped w d.value; one = (whole d.one).0; is = wrapped_is d.is }
+  wrapped_default d = record {
+    meaning = λ v. Tree.wrapped w (d.meaning (part v));
+    left_out = λ v. d.left_out (part v);
+    value = Tree.wrapped w d.value;
+    one = (whole d.one).0;
+    is = wrapped_is d.is;
+  }
 
-  pub wrapped_proved : {d : Default A} {means : A → Tree} {left_out : A → Bool} {value : Tree} → ProvedDefault d means left_out value → ProvedDefault (wrapped_default d) (λ v. Tree.wrapped w (means (part v))) (λ v. left_out (part v)) (Tree.wrapped w value)
+  pub wrapped_proved : {d : Default A} {means : A → Tree} {left_out : A → Bool} {value : Tree}
+      → ProvedDefault d means left_out value → ProvedDefault (wrapped_default d) (λ v. Tree.wrapped w (means (part v)))
+      (λ v. left_out (part v)) (Tree.wrapped w value)
   wrapped_proved t = record {
     means = ap {B = V → Tree} (λ (m : A → Tree) v. Tree.wrapped w (m (part v))) t.means;
     leaves_out = ap {B = V → Bool} (λ (l : A → Bool) v. l (part v)) t.leaves_out;

@@ -1,4 +1,5 @@
--- Members of later versions: their values are exactly the elements that the members before them exclude no first one of.
+-- Members of later versions: their values are exactly the elements that the members before them exclude no first one
+-- of.
 use Rattle.std.specs.Prelude.{◌≡◌, ℕ, ◌^◌, ◌<◌, true, List, [], ◌∷◌, length, ⊤, refl}
 use Rattle.std.proofs.Common.{sym, ap, ◌∙◌, subst, arith}
 use Rattle.picky_der_core.specs.Readable.{AreReadable}
@@ -17,21 +18,29 @@ module _ {E : Type 0} (bytes : E → List ℕ) (element : (s : List ℕ) → len
 
   abbrev made_first : (s : List ℕ) (ts : Trees) → length s < 2 ^ 63 → Made ts → Made (Trees.more (Tree.raw s) ts)
   made_first s ts short rest =
-      let e = element s short in
-      (e.0 ∷ rest.0, omega (arith, rest.1), ap (λ bs. Trees.more (Tree.raw bs) (others_of bytes rest.0)) e.1 ∙ ap (Trees.more (Tree.raw s)) rest.2)
+      let e = element s short in (
+        e.0 ∷ rest.0,
+        omega (arith, rest.1),
+        ap (λ bs. Trees.more (Tree.raw bs) (others_of bytes rest.0)) e.1
+            ∙ ap (Trees.more (Tree.raw s)) rest.2,
+      )
 
   each_made : (ts : Trees) → EachIs IsRaw ts → EachIsShort ts → Made ts
   each_made Trees.none p s = ([], refl, refl)
   each_made (Trees.more (Tree.raw bs) ts) p s = made_first bs ts s.0 (each_made ts p.1 s.1)
   each_made (Trees.more _ ts) p s = absurd p.0
 
-  module _ {V : Type 0} (excluded : List ℕ) (elements : V → List E) (outside : (v : V) → are_outside excluded bytes (elements v) ≡ true) (whole : (es : List E) → are_outside excluded bytes es ≡ true → length es < 2 ^ 63 → (v : V) × (elements v ≡ es)) where
-    of_made : (ts : Trees) (m : Made ts) → are_outside excluded bytes m.0 ≡ true → member_count ts < 2 ^ 63 → (v : V) × (others_of bytes (elements v) ≡ ts)
+  module _ {V : Type 0} (excluded : List ℕ) (elements : V → List E) (outside : (v : V)
+      → are_outside excluded bytes (elements v) ≡ true) (whole : (es : List E) → are_outside excluded bytes es ≡ true
+      → length es < 2 ^ 63 → (v : V) × (elements v ≡ es)) where
+    of_made : (ts : Trees) (m : Made ts) → are_outside excluded bytes m.0 ≡ true → member_count ts < 2 ^ 63
+        → (v : V) × (others_of bytes (elements v) ≡ ts)
     of_made ts m out few =
         let v = whole m.0 out (subst (λ n. n < 2 ^ 63) (sym m.1) few) in
         (v.0, ap (others_of bytes) v.1 ∙ m.2)
 
-    others_complete : (ts : Trees) → AreOthers excluded ts → AreReadable ts → AreShort ts → (v : V) × (others_of bytes (elements v) ≡ ts)
+    others_complete : (ts : Trees) → AreOthers excluded ts → AreReadable ts → AreShort ts
+        → (v : V) × (others_of bytes (elements v) ≡ ts)
     others_complete Trees.none p r s = of_made Trees.none ([], refl, refl) refl s.0
     others_complete (Trees.more (Tree.raw bs) ts) p r s =
         let m = made_first bs ts s.1.0 (each_made ts p.1 s.1.1) in
@@ -39,7 +48,17 @@ module _ {E : Type 0} (bytes : E → List ℕ) (element : (s : List ℕ) → len
     others_complete (Trees.more _ ts) p r s = absurd p.0
 
     pub others_exact : AreExact (Members.others excluded) (λ v. others_of bytes (elements v))
-    others_exact = record { sound = λ v r. others_have_layout bytes excluded (elements v) (outside v) r; complete = others_complete }
+    others_exact = record {
+      sound = λ v r. others_have_layout bytes excluded (elements v) (outside v) r;
+      complete =
+          others_complete;
+    }
 
     abbrev pub others_values : MembersValues V
-    others_values = record { notation = Members.others excluded; members = λ v. others_of bytes (elements v); Premise = ⊤; follows = λ o. others_exact }
+    others_values = record {
+      notation = Members.others excluded;
+      members = λ v. others_of bytes (elements v);
+      Premise =
+          ⊤;
+      follows = λ o. others_exact;
+    }

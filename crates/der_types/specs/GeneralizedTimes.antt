@@ -15,4 +15,5 @@ scaled (suc k) (d ∷ ds) = (d - 0x30) * 10 ^ k + scaled k ds
 
 -- how many 10^k-ths of a second it is since the year 0 began, where its fraction has k digits at most
 abbrev pub ticks : ℕ → GeneralizedTime → ℕ
-ticks k t = seconds_at (year_at_first t.content.items) t.content.items 4 * 10 ^ k + scaled k (fraction_of t.content.items)
+ticks k t = seconds_at (year_at_first t.content.items) t.content.items 4 * 10 ^ k + scaled k
+    (fraction_of t.content.items)

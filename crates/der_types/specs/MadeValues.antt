@@ -1,4 +1,5 @@
--- Vectors and texts as values of the logic. No program has one of them at this address: what is said of them is said of their items.
+-- Vectors and texts as values of the logic. No program has one of them at this address: what is said of them is said of
+-- their items.
 use Rattle.std.specs.Prelude.{ℕ, ◌^◌, ◌<◌, ◌≤◌, List, length, String, IsUtf8, refl}
 use Rattle.std.proofs.Common.{arith}
 use Rattle.std.specs.Global.{Vec, Global}
@@ -14,7 +15,16 @@ at_most_itself n = omega arith
 
 -- a vector of these items
 abbrev pub vec_of : {A : Type 0} (xs : List A) → length xs < 2 ^ 63 → Vec A
-vec_of xs h = record { ptr = null_ptr; len = length xs; cap = length xs; alloc = some_heap; items = xs; ok = (refl, at_most_itself (length xs)); small = h }
+vec_of xs h = record {
+  ptr = null_ptr;
+  len = length xs;
+  cap = length xs;
+  alloc = some_heap;
+  items = xs;
+  ok =
+      (refl, at_most_itself (length xs));
+  small = h;
+}
 
 -- a vector that keeps these items in itself
 abbrev pub small_vec_of : {A : Type 0} → List A → SmallVec A

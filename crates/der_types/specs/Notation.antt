@@ -43,7 +43,8 @@ mutual
     wrapped : Wrapper → Notation → Notation
     -- 31: a content under this tag in place of its own
     content-under : ℕ → Notation → Notation
-    -- 51.4, 51.5: a number of a range, one of a range from minus this number on, one other than this, and a size of a range
+    -- 51.4, 51.5: a number of a range, one of a range from minus this number on, one other than this, and a size of a
+    -- range
     in-range : ℕ → ℕ → Notation → Notation
     from-minus : ℕ → ℕ → Notation → Notation
     other-than : ℕ → Notation → Notation

@@ -1,8 +1,10 @@
--- The forms of a module as terms: what a module has on the left of these equations, and the type of ASN.1 that it is. The clauses are
--- those of X.680, but where another one is named.
-use Rattle.std.specs.Prelude.{ℕ, ◌+◌, ◌-◌, ◌*◌, ◌/◌, ◌%◌, ◌^◌, Bool, true, false, ◌&&◌, List, [], ◌∷◌, ◌++◌, ◌==◌, nat_lt, pos, negsuc, if◌then◌else◌}
+-- The forms of a module as terms: what a module has on the left of these equations, and the type of ASN.1 that it is.
+-- The clauses are those of X.680, but where another one is named.
+use Rattle.std.specs.Prelude.{ℕ, ◌+◌, ◌-◌, ◌*◌, ◌/◌, ◌%◌, ◌^◌, Bool, true, false, ◌&&◌, List, [], ◌∷◌, ◌++◌, ◌==◌}
+use Rattle.std.specs.Prelude.{nat_lt, pos, negsuc, if◌then◌else◌}
 use Rattle.picky_der_core.specs.declared.asn1.tag.TagClass.{TagClass}
-use Rattle.picky_der_core.specs.declared.asn1.tag.TagClass.TheVariants.{Universal, Application, ContextSpecific, Private}
+use Rattle.picky_der_core.specs.declared.asn1.tag.TagClass.TheVariants.{Universal, Application, ContextSpecific}
+use Rattle.picky_der_core.specs.declared.asn1.tag.TagClass.TheVariants.{Private}
 use Rattle.picky_der_core.specs.declared.asn1.wrapper.Wrapper.TheVariants as wrapper
 use Rattle.picky_der_core.specs.Integer.{fits_signed, int_tree, unsigned_tree}
 use Rattle.picky_der_core.specs.Primitive.{Primitive}
@@ -38,13 +40,16 @@ bits_for n =
 abbrev pub INTEGER-from-to : ℕ → ℕ → Notation
 INTEGER-from-to least most =
     let bits : ℕ = bits_for most in
-    if least == 0 && (most == 2 ^ bits - 1) then Notation.unsigned bits else Notation.in-range least most (Notation.unsigned bits)
+    if least == 0 && (most == 2 ^ bits - 1) then Notation.unsigned bits else Notation.in-range least most
+    (Notation.unsigned bits)
 
--- from minus this number: without a range if it is all numbers of so many bits. Else no type of the library has just these numbers.
+-- from minus this number: without a range if it is all numbers of so many bits. Else no type of the library has just
+-- these numbers.
 abbrev pub INTEGER-from-minus-to : ℕ → ℕ → Notation
 INTEGER-from-minus-to least most =
     let bits : ℕ = bits_for (least + most) in
-    if least == 2 ^ (bits - 1) && (most + 1 == least) then Notation.signed bits else Notation.from-minus least most INTEGER
+    if least == 2 ^ (bits - 1) && (most + 1 == least) then Notation.signed bits else Notation.from-minus least most
+    INTEGER
 
 -- 51.5
 abbrev pub SIZE : ℕ → ℕ → Notation → Notation
@@ -60,7 +65,8 @@ infixr 5 ◌⨾◌
 abbrev pub ◌⨾◌ : Member → Members → Members
 ◌⨾◌ = Members.member
 
--- 25.1: the members of later versions of an extensible type. `SEQUENCE` says with which bytes the first of them doesn't begin.
+-- 25.1: the members of later versions of an extensible type. `SEQUENCE` says with which bytes the first of them doesn't
+-- begin.
 abbrev pub later-members : Members
 later-members = Members.others []
 
@@ -107,13 +113,15 @@ default-as-optional = Member.optional
 abbrev pub added : Notation → Member
 added = Member.optional
 
--- The first member of a later version begins otherwise than each member directly before it that may be absent. These are the bytes
--- of those that came so far.
+-- The first member of a later version begins otherwise than each member directly before it that may be absent. These
+-- are the bytes of those that came so far.
 abbrev excluding : List ℕ → Members → Members
 excluding before Members.end = Members.end
 excluding before (Members.member (Member.required t) ms) = Members.member (Member.required t) (excluding [] ms)
-excluding before (Members.member (Member.optional t) ms) = Members.member (Member.optional t) (excluding (before ++ firsts (shape_of t)) ms)
-excluding before (Members.member (Member.defaulted value t) ms) = Members.member (Member.defaulted value t) (excluding (before ++ firsts (shape_of t)) ms)
+excluding before (Members.member (Member.optional t) ms) =
+    Members.member (Member.optional t) (excluding (before ++ firsts (shape_of t)) ms)
+excluding before (Members.member (Member.defaulted value t) ms) =
+    Members.member (Member.defaulted value t) (excluding (before ++ firsts (shape_of t)) ms)
 excluding before (Members.others excluded) = Members.others before
 
 -- 25: one without members is a list of none, and one with those of later versions alone a list of any elements
@@ -193,7 +201,9 @@ class_bits Private = 0xC0
 abbrev explicit : TagClass → ℕ → Notation → Notation
 explicit ContextSpecific n t = Notation.wrapped (wrapper.Explicit n) t
 explicit Application n t = Notation.wrapped (wrapper.Application n) t
-explicit class n t = Notation.wrapped (wrapper.ImplicitList (class_bits class + 0x20 + n)) (Notation.sequence (Member.required t ⨾ Members.end))
+explicit class n t =
+    Notation.wrapped (wrapper.ImplicitList (class_bits class + 0x20 + n))
+    (Notation.sequence (Member.required t ⨾ Members.end))
 
 -- X.690, 8.14.3: the tag in place of that of a list, which is constructed, and of another type, which is primitive
 abbrev over_list : TagClass → ℕ → Notation → Notation
@@ -204,9 +214,11 @@ over_primitive ContextSpecific n t = Notation.wrapped (wrapper.Implicit n) t
 over_primitive class n Notation.OCTET-STRING = Notation.any-content (class_bits class + n)
 over_primitive class n t = Notation.content-under (class_bits class + n) t
 
--- the same in place of that of an octet string that holds an encoding (X.682, 11), which is the content then. That of a list of one is it, too.
+-- the same in place of that of an octet string that holds an encoding (X.682, 11), which is the content then. That of a
+-- list of one is it, too.
 abbrev over_container : TagClass → ℕ → Notation → Notation
-over_container ContextSpecific n t = Notation.wrapped (wrapper.Implicit n) (Notation.sequence (Member.required t ⨾ Members.end))
+over_container ContextSpecific n t =
+    Notation.wrapped (wrapper.Implicit n) (Notation.sequence (Member.required t ⨾ Members.end))
 over_container class n t = no_type
 
 abbrev is_list : Notation → Bool
@@ -224,7 +236,8 @@ has_header (Notation.from-minus least most t) = has_header t
 has_header (Notation.other-than n t) = has_header t
 has_header _ = false
 
--- 31.2.7: a choice and an open type have no tag that this one could replace, so that it is explicit. Of a type with a tag it replaces that.
+-- 31.2.7: a choice and an open type have no tag that this one could replace, so that it is explicit. Of a type with a
+-- tag it replaces that.
 abbrev implicit : TagClass → ℕ → Notation → Notation
 implicit class n (Notation.choice ts) = explicit class n (Notation.choice ts)
 implicit class n Notation.any-element = explicit class n Notation.any-element
@@ -236,7 +249,8 @@ implicit class n (Notation.wrapped wrapper.OctetContainer t) = over_container cl
 implicit class n (Notation.wrapped wrapper.BitContainer t) = no_type
 implicit class n (Notation.content-under tag t) = over_primitive class n t
 implicit class n (Notation.any-content tag) = Notation.any-content (class_bits class + 32 * (tag / 32 % 2) + n)
-implicit class n t = if is_list t then over_list class n t else (if has_header t then no_type else over_primitive class n t)
+implicit class n t =
+    if is_list t then over_list class n t else (if has_header t then no_type else over_primitive class n t)
 
 abbrev tagged : TagClass → ℕ → Mode → Notation → Notation
 tagged class n Mode.EXPLICIT = explicit class n

@@ -16,7 +16,8 @@ pub required_first : {s t : Shape} → s ≡ t → {k l : Layout} → k ≡ l �
 required_first {s} {t} d {k} {l} e = ap (λ x. Layout.required x k) d ∙ ap (Layout.required t) e
 
 -- it holds before others that are laid out so
-pub before_others : {p : Presence} {s : Shape} {m : Member} → IsMember p s m → {k l : Layout} → k ≡ l → layout_with p s k ≡ member_then m l
+pub before_others : {p : Presence} {s : Shape} {m : Member} → IsMember p s m → {k l : Layout} → k ≡ l
+    → layout_with p s k ≡ member_then m l
 before_others {p} {s} a {k} {l} e = ap (layout_with p s) e ∙ a.denoted_layout l
 
 -- two alternatives, or one and others
@@ -24,7 +25,8 @@ pub one_or_other : {s t : Shape} → s ≡ t → {ss ts : Shapes} → ss ≡ ts 
 one_or_other {s} {t} d {ss} {ts} e = ap (λ x. Shapes.more x ss) d ∙ ap (Shapes.more t) e
 
 -- a boolean that is a default means it
-pub false_value : (b : Bool) → IsTrue (not b) → Tree.primitive (Primitive.boolean b) ≡ Tree.primitive (Primitive.boolean false)
+pub false_value : (b : Bool) → IsTrue (not b)
+    → Tree.primitive (Primitive.boolean b) ≡ Tree.primitive (Primitive.boolean false)
 false_value false h = refl
 false_value true h = cc
 

@@ -1,5 +1,6 @@
 -- The contents of an OBJECT IDENTIFIER (X.690, 8.19).
-use Rattle.std.specs.Prelude.{◌≡◌, ◌≢◌, ◌⊎◌, ℕ, ◌+◌, ◌-◌, ◌*◌, ◌/◌, ◌%◌, Bool, true, false, not, ◌&&◌, ◌||◌, ◌==◌, nat_lt, Option, Some, None, List, [], ◌∷◌, if◌then◌else◌}
+use Rattle.std.specs.Prelude.{◌≡◌, ◌≢◌, ◌⊎◌, ℕ, ◌+◌, ◌-◌, ◌*◌, ◌/◌, ◌%◌, Bool, true, false, not, ◌&&◌, ◌||◌, ◌==◌}
+use Rattle.std.specs.Prelude.{nat_lt, Option, Some, None, List, [], ◌∷◌, if◌then◌else◌}
 use Rattle.der_types.specs.declared.oid_error.OidError.{OidError}
 use Rattle.der_types.specs.declared.oid_error.OidError.TheVariants.{TooFewArcs, FirstArc, SecondArc}
 use Rattle.der_types.specs.Dotted.{dotted, AreFitting, RefusesText}
@@ -30,7 +31,8 @@ arcs_of bs = arcs_of_numbers (numbers_after 0 bs)
 
 -- why these are no arcs, if they aren't
 abbrev pub arcs_error : List ℕ → Option OidError
-arcs_error (x ∷ y ∷ arcs) = if nat_lt 2 x then Some FirstArc else if nat_lt x 2 && not (nat_lt y 40) then Some SecondArc else None
+arcs_error (x ∷ y ∷ arcs) = if nat_lt 2 x then Some FirstArc else if nat_lt x 2 && not (nat_lt y 40) then Some SecondArc
+    else None
 arcs_error _ = Some TooFewArcs
 
 -- arcs that fit 64 bits, but aren't the arcs of an object identifier
@@ -48,7 +50,8 @@ pub record IsText (text content : List ℕ) : Type 0 where
   pub written : text ≡ dotted arcs
   pub encoded : content ≡ object_identifier_content arcs
 
--- the text has no arcs of an object identifier that fit 64 bits, since a part isn't an arc that fits, or these are no such arcs
+-- the text has no arcs of an object identifier that fit 64 bits, since a part isn't an arc that fits, or these are no
+-- such arcs
 pub record RefusesOidText (text : List ℕ) (e : OidError) : Type 0 where
   pub none : (arcs : List ℕ) → are_arcs arcs ≡ true → AreFitting arcs → text ≢ dotted arcs
   pub reason : RefusesText text e ⊎ ((arcs : List ℕ) × (text ≡ dotted arcs) × RefusesArcs arcs e)

@@ -4,7 +4,8 @@ use Rattle.std.proofs.Common.{sym, ap, ◌∙◌, subst}
 use Rattle.picky_der_core.specs.Tree.{Tree, Trees}
 use Rattle.picky_der_ser.specs.Defaults.{IsByTree}
 use Rattle.picky_der_de.specs.MembersFacts.{conjunction, sequence_of}
-use Rattle.picky_der_de.specs.Faithful.{Sameness, ProvedSameness, MembersSameness, ProvedMembersSameness, DefaultSameness, Respects, plain_sameness, sameness_by, respects_of, respect_of}
+use Rattle.picky_der_de.specs.Faithful.{Sameness, ProvedSameness, MembersSameness, ProvedMembersSameness}
+use Rattle.picky_der_de.specs.Faithful.{DefaultSameness, Respects, plain_sameness, sameness_by, respects_of, respect_of}
 use Rattle.picky_der_de.specs.Faithful.{part_respects, struct_respects, choice_respects}
 use Rattle.der_types.specs.ContentsFacts.{contents_of, same_bytes}
 use Rattle.der_types.specs.Denotes.{content_tree}
@@ -13,28 +14,35 @@ use Rattle.der_types.specs.ExactContents.{OwnContents, ProvedContents, are_own}
 -- ---- contents
 
 -- equal values have one content
-abbrev pub content_sameness : {V : Type 0} (tag : ℕ) (content : V → List ℕ) (eq : V → V → Bool) → ((x y : V) → eq x y ≡ true → content x ≡ content y) → Sameness V
-content_sameness tag content eq same = plain_sameness eq (contents_of tag content) (λ x y h. ap (content_tree tag) (same x y h))
+abbrev pub content_sameness : {V : Type 0} (tag : ℕ) (content : V → List ℕ) (eq : V → V → Bool)
+    → ((x y : V) → eq x y ≡ true → content x ≡ content y) → Sameness V
+content_sameness tag content eq same =
+    plain_sameness eq (contents_of tag content) (λ x y h. ap (content_tree tag) (same x y h))
 
 -- under another tag
-abbrev pub content_under_sameness : {A V : Type 0} (a : Sameness A) (equal : A → A → Bool) (means : A → Tree) (d : OwnContents A) (content : A → List ℕ) (tag : ℕ) (part : V → A) → Sameness V
+abbrev pub content_under_sameness : {A V : Type 0} (a : Sameness A) (equal : A → A → Bool) (means : A
+    → Tree) (d : OwnContents A) (content : A → List ℕ) (tag : ℕ) (part : V → A) → Sameness V
 content_under_sameness a equal means d content tag part = record {
   eq = λ x y. equal (part x) (part y);
   meaning = contents_of tag (λ v. content (part v));
   Premise = ProvedSameness a equal means × ProvedContents d means content;
   follows = λ o x y h.
-      let same : content_tree d.tag (content (part x)) ≡ content_tree d.tag (content (part y)) = sym (are_own d o.1 (part x)) ∙ (respects_of a o.0 (part x) (part y) h ∙ are_own d o.1 (part y)) in
+      let same : content_tree d.tag (content (part x)) ≡ content_tree d.tag (content (part y)) =
+      sym (are_own d o.1 (part x)) ∙ (respects_of a o.0 (part x) (part y) h ∙ are_own d o.1 (part y)) in
       ap (content_tree tag) (same_bytes (content (part x)) (content (part y)) same);
 }
 
 -- ---- values of parts
 
 -- a type of its own around that of the part, which means the same
-abbrev pub newtype_sameness : {A V : Type 0} (a : Sameness A) (equal : A → A → Bool) (means : A → Tree) (part : V → A) → Sameness V
-newtype_sameness a equal means part = sameness_by a equal means (λ x y. equal (part x) (part y)) (λ v. means (part v)) (λ r. part_respects part r)
+abbrev pub newtype_sameness : {A V : Type 0} (a : Sameness A) (equal : A → A → Bool) (means : A → Tree) (part : V → A)
+    → Sameness V
+newtype_sameness a equal means part = sameness_by a equal means (λ x y. equal (part x) (part y)) (λ v. means (part v))
+    (λ r. part_respects part r)
 
 -- a struct with a derived `==`
-abbrev pub members_sameness : {S P : Type 0} (m : MembersSameness P) (tests : P → P → List Bool) (members : P → Trees) (parts : S → P) → Sameness S
+abbrev pub members_sameness : {S P : Type 0} (m : MembersSameness P) (tests : P → P → List Bool) (members : P
+    → Trees) (parts : S → P) → Sameness S
 members_sameness m tests members parts = record {
   eq = λ x y. conjunction (tests (parts x) (parts y));
   meaning = sequence_of members parts;
@@ -43,7 +51,8 @@ members_sameness m tests members parts = record {
 }
 
 -- a choice whose equal values have equal alternatives
-abbrev pub alternatives_sameness : {V P : Type 0} (c : Sameness P) (equal : P → P → Bool) (chosen : P → Tree) (parts : V → P) (eq : V → V → Bool) → ((v w : V) → eq v w ≡ true → equal (parts v) (parts w) ≡ true) → Sameness V
+abbrev pub alternatives_sameness : {V P : Type 0} (c : Sameness P) (equal : P → P → Bool) (chosen : P → Tree) (parts : V
+    → P) (eq : V → V → Bool) → ((v w : V) → eq v w ≡ true → equal (parts v) (parts w) ≡ true) → Sameness V
 alternatives_sameness c equal chosen parts eq so = record {
   eq = eq;
   meaning = λ v. Tree.choice (chosen (parts v));
@@ -53,7 +62,8 @@ alternatives_sameness c equal chosen parts eq so = record {
 
 -- ---- defaults
 
-module _ {V : Type 0} (eq : V → V → Bool) (meaning : V → Tree) (left_out : V → Bool) (by_tree : IsByTree meaning left_out) where
+module _ {V : Type 0} (eq : V → V → Bool) (meaning : V → Tree) (left_out : V
+    → Bool) (by_tree : IsByTree meaning left_out) where
   pub same_test : (x y : V) → meaning x ≡ meaning y → (p q : Bool) → left_out x ≡ p → left_out y ≡ q → p ≡ q
   same_test x y e true true f g = refl
   same_test x y e false false f g = refl

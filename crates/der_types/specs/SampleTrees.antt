@@ -1,6 +1,9 @@
 -- Trees that the types of ASN.1 denote: readable ones that vectors can hold.
-use Rattle.std.specs.Prelude.{◌≡◌, ℕ, zero, suc, ◌-◌, ◌/◌, ◌%◌, ◌^◌, ◌<◌, Bool, true, false, ◌&&◌, ◌||◌, ◌==◌, nat_lt, nat_le, pos, List, [], ◌∷◌, ◌++◌, length, replicate, chars, IsUtf8, Option, Some, None, is_some, if◌then◌else◌, refl}
-use Rattle.std.proofs.Common.{sym, ap, ◌∙◌, subst, arith, inl, inr, eqb-true, leb-true, ltb-true, encode_utf8, encode_utf8_all}
+use Rattle.std.specs.Prelude.{◌≡◌, ℕ, zero, suc, ◌-◌, ◌/◌, ◌%◌, ◌^◌, ◌<◌, Bool, true, false, ◌&&◌, ◌||◌, ◌==◌, nat_lt}
+use Rattle.std.specs.Prelude.{nat_le, pos, List, [], ◌∷◌, ◌++◌, length, replicate, chars, IsUtf8, Option, Some, None}
+use Rattle.std.specs.Prelude.{is_some, if◌then◌else◌, refl}
+use Rattle.std.proofs.Common.{sym, ap, ◌∙◌, subst, arith, inl, inr, eqb-true, leb-true, ltb-true, encode_utf8}
+use Rattle.std.proofs.Common.{encode_utf8_all}
 use Rattle.std.proofs.lemmas.Bool.{and_parts}
 use Rattle.std.proofs.lemmas.Cmp.{nat_list_cmp_total, tied_itself}
 use Rattle.std.proofs.lemmas.List.{length-replicate}
@@ -8,7 +11,8 @@ use Rattle.std.proofs.lemmas.Str.{chars-encodes}
 use Rattle.std.specs.Ordering.{is_lt}
 use lib.Utf8.{encode, scalars}
 use Rattle.picky_der_core.specs.declared.asn1.wrapper.Wrapper.{Wrapper}
-use Rattle.picky_der_core.specs.declared.asn1.wrapper.Wrapper.TheVariants.{OctetContainer, BitContainer, Explicit, Implicit, Application, ImplicitList}
+use Rattle.picky_der_core.specs.declared.asn1.wrapper.Wrapper.TheVariants.{OctetContainer, BitContainer, Explicit}
+use Rattle.picky_der_core.specs.declared.asn1.wrapper.Wrapper.TheVariants.{Implicit, Application, ImplicitList}
 use Rattle.picky_der_core.specs.Element.{AreBytes}
 use Rattle.picky_der_core.specs.Encoding.{encodings, der}
 use Rattle.picky_der_core.specs.Integer.{fits_signed}
@@ -25,7 +29,8 @@ use Rattle.der_types.specs.BitString.{bit_string_content}
 use Rattle.der_types.specs.CharacterStrings.{is_string_content, string_content}
 use Rattle.der_types.specs.Constraints.{is_size, is_between, member_count}
 use Rattle.der_types.specs.ContentTypes.{ContentType, tag_of, test_of, string_width, string_character}
-use Rattle.der_types.specs.Denotes.{Denotes, DenoteMembers, DenoteOneOf, IsShort, EachIsShort, content_tree, is_from_minus, tree_number, tree_size}
+use Rattle.der_types.specs.Denotes.{Denotes, DenoteMembers, DenoteOneOf, IsShort, EachIsShort, content_tree}
+use Rattle.der_types.specs.Denotes.{is_from_minus, tree_number, tree_size}
 use Rattle.der_types.specs.Exact.{IsExact, Values, ProvedValues, is_exact}
 use Rattle.der_types.specs.ExactEnumerated.{one_byte}
 use Rattle.der_types.specs.Notation.{Notation, Member, Members, Alternatives}
@@ -108,9 +113,12 @@ content_short tag s h =
     let p = and_parts (is_tag_number (number_of tag)) (are_bytes s && nat_lt (length s) (2 ^ 63)) h in
     ltb-true (length s) (2 ^ 63) (and_parts (are_bytes s) (nat_lt (length s) (2 ^ 63)) p.1).1
 
-abbrev content_sample : (n : Notation) (tag : ℕ) (s : List ℕ) → Option (Denotes n (content_tree tag s)) → Option (Sample n)
+abbrev content_sample : (n : Notation) (tag : ℕ) (s : List ℕ) → Option (Denotes n (content_tree tag s))
+    → Option (Sample n)
 content_sample n tag s denoted =
-    with denoted (λ d. with (decided (is_short_content tag s)) (λ h. Some (sample n (content_tree tag s) d (content_readable tag s h) (content_short tag s h))))
+    with denoted
+    (λ d. with (decided (is_short_content tag s))
+    (λ h. Some (sample n (content_tree tag s) d (content_readable tag s h) (content_short tag s h))))
 
 -- the content of a checked type, of a number or a size that is wished for where the type has several
 abbrev wished_content : ℕ → ContentType → List ℕ
@@ -121,10 +129,13 @@ wished_content wish ContentType.BIT-STRING-named = 0x00 ∷ []
 wished_content wish ContentType.OBJECT-IDENTIFIER = 0x2A ∷ []
 wished_content wish ContentType.RELATIVE-OID = 0x01 ∷ []
 -- 20500101000000Z
-wished_content wish ContentType.GeneralizedTime = 0x32 ∷ 0x30 ∷ 0x35 ∷ 0x30 ∷ 0x30 ∷ 0x31 ∷ 0x30 ∷ 0x31 ∷ 0x30 ∷ 0x30 ∷ 0x30 ∷ 0x30 ∷ 0x30 ∷ 0x30 ∷ 0x5A ∷ []
-wished_content wish ContentType.GeneralizedTime-later = 0x32 ∷ 0x30 ∷ 0x35 ∷ 0x30 ∷ 0x30 ∷ 0x31 ∷ 0x30 ∷ 0x31 ∷ 0x30 ∷ 0x30 ∷ 0x30 ∷ 0x30 ∷ 0x30 ∷ 0x30 ∷ 0x5A ∷ []
+wished_content wish ContentType.GeneralizedTime = 0x32 ∷ 0x30 ∷ 0x35 ∷ 0x30 ∷ 0x30 ∷ 0x31 ∷ 0x30 ∷ 0x31 ∷ 0x30 ∷ 0x30
+    ∷ 0x30 ∷ 0x30 ∷ 0x30 ∷ 0x30 ∷ 0x5A ∷ []
+wished_content wish ContentType.GeneralizedTime-later = 0x32 ∷ 0x30 ∷ 0x35 ∷ 0x30 ∷ 0x30 ∷ 0x31 ∷ 0x30 ∷ 0x31 ∷ 0x30
+    ∷ 0x30 ∷ 0x30 ∷ 0x30 ∷ 0x30 ∷ 0x30 ∷ 0x5A ∷ []
 -- 500101000000Z
-wished_content wish ContentType.UTCTime = 0x35 ∷ 0x30 ∷ 0x30 ∷ 0x31 ∷ 0x30 ∷ 0x31 ∷ 0x30 ∷ 0x30 ∷ 0x30 ∷ 0x30 ∷ 0x30 ∷ 0x30 ∷ 0x5A ∷ []
+wished_content wish ContentType.UTCTime = 0x35 ∷ 0x30 ∷ 0x30 ∷ 0x31 ∷ 0x30 ∷ 0x31 ∷ 0x30 ∷ 0x30 ∷ 0x30 ∷ 0x30 ∷ 0x30
+    ∷ 0x30 ∷ 0x5A ∷ []
 
 -- zeros, which are in each set of characters
 abbrev wished_string : ℕ → ℕ → List ℕ
@@ -162,7 +173,8 @@ letters_readable n = (letters n, (letters_valid n, letters_encoded n))
 
 pub letter_count : (n : ℕ) → length (chars (letters n)) ≡ n
 letter_count n =
-    ap (λ s. length (chars s)) (sym (letters_encoded n)) ∙ (ap length (chars-encodes (letters n) (letters_valid n)) ∙ length-replicate n 0x61)
+    ap (λ s. length (chars s)) (sym (letters_encoded n))
+    ∙ (ap length (chars-encodes (letters n) (letters_valid n)) ∙ length-replicate n 0x61)
 
 abbrev text_sample : (wish : ℕ) → nat_lt (length (letters wish)) (2 ^ 63) ≡ true → Sample Notation.UTF8String
 text_sample wish h = record {
@@ -216,11 +228,15 @@ module _ (w : Wrapper) (n : Notation) where
 
   abbrev wrapped_sample : Sample n → Option (Sample (Notation.wrapped w n))
   wrapped_sample x =
-      with (decided (can_be_wrapped x.tree)) (λ h. Some (sample (Notation.wrapped w n) (Tree.wrapped w x.tree) (x.tree, refl, x.denoted) (wrapped_readable x.tree h x.readable) x.short))
+      with (decided (can_be_wrapped x.tree))
+      (λ h. Some (sample (Notation.wrapped w n) (Tree.wrapped w x.tree) (x.tree, refl, x.denoted)
+      (wrapped_readable x.tree h x.readable) x.short))
 
 -- a content under this tag in place of its own
-abbrev under_sample : (tag : ℕ) (n : Notation) (t : Tree) → Denotes n t → IsReadable t → Option (Sample (Notation.content-under tag n))
-under_sample tag n (Tree.primitive (Primitive.bytes own s)) d r = content_sample (Notation.content-under tag n) (primitive_form tag) s (Some (s, refl, (own, r, d)))
+abbrev under_sample : (tag : ℕ) (n : Notation) (t : Tree) → Denotes n t → IsReadable t
+    → Option (Sample (Notation.content-under tag n))
+under_sample tag n (Tree.primitive (Primitive.bytes own s)) d r =
+    content_sample (Notation.content-under tag n) (primitive_form tag) s (Some (s, refl, (own, r, d)))
 under_sample tag n _ d r = None
 
 -- ---- lists of copies of one tree
@@ -248,7 +264,8 @@ copies_ascend : (n : ℕ) (t : Tree) → IsAscending (encodings (copies n t))
 unfolding encodings der
 copies_ascend zero t = IsSortedBy-nil is_less
 copies_ascend (suc zero) t = IsSortedBy-one is_less (der t)
-copies_ascend (suc (suc n)) t = IsSortedBy-cons is_less (der t) (der t) (encodings (copies n t)) (not_less (der t)) (copies_ascend (suc n) t)
+copies_ascend (suc (suc n)) t = IsSortedBy-cons is_less (der t) (der t) (encodings (copies n t)) (not_less (der t))
+    (copies_ascend (suc n) t)
 
 pub copies_in_order : (kind : ListKind) (n : ℕ) (t : Tree) → IsInOrder kind (encodings (copies n t))
 copies_in_order ListKind.sequence n t = tt
@@ -256,18 +273,21 @@ copies_in_order ListKind.set n t = copies_ascend n t
 
 module _ (kind : ListKind) (n : Notation) where
   abbrev empty_sample : Sample (Notation.list-of kind n)
-  empty_sample = sample (Notation.list-of kind n) (Tree.list kind Trees.none) (Trees.none, refl, tt) (copies_in_order kind 0 Tree.absent, tt) (zero_short, tt)
+  empty_sample = sample (Notation.list-of kind n) (Tree.list kind Trees.none) (Trees.none, refl, tt)
+      (copies_in_order kind 0 Tree.absent, tt) (zero_short, tt)
 
   abbrev copies_sample : ℕ → Sample n → Option (Sample (Notation.list-of kind n))
   copies_sample k x =
-      with (decided (nat_lt (member_count (copies k x.tree)) (2 ^ 63))) (λ h. Some (sample (Notation.list-of kind n) (Tree.list kind (copies k x.tree))
+      with (decided (nat_lt (member_count (copies k x.tree)) (2 ^ 63)))
+      (λ h. Some (sample (Notation.list-of kind n) (Tree.list kind (copies k x.tree))
       (copies k x.tree, refl, copies_are (Denotes n) k x.tree x.denoted)
       (copies_in_order kind k x.tree, copies_readable k x.tree x.readable)
       (ltb-true (member_count (copies k x.tree)) (2 ^ 63) h, copies_short k x.tree x.short)))
 
 -- ---- members
 
-abbrev member_then : (n : Notation) (ms : Members) → Sample n → MembersSample ms → MembersSample (Members.member (Member.required n) ms)
+abbrev member_then : (n : Notation) (ms : Members) → Sample n → MembersSample ms
+    → MembersSample (Members.member (Member.required n) ms)
 member_then n ms x others = record {
   trees = Trees.more x.tree others.trees;
   denoted = (x.denoted, others.denoted);
@@ -276,22 +296,42 @@ member_then n ms x others = record {
 }
 
 -- one that isn't there
-abbrev absent_optional : (n : Notation) (ms : Members) → MembersSample ms → MembersSample (Members.member (Member.optional n) ms)
-absent_optional n ms others = record { trees = others.trees; denoted = inr others.denoted; readable = others.readable; short = others.short }
+abbrev absent_optional : (n : Notation) (ms : Members) → MembersSample ms
+    → MembersSample (Members.member (Member.optional n) ms)
+absent_optional n ms others = record {
+  trees = others.trees;
+  denoted = inr others.denoted;
+  readable = others.readable;
+  short = others.short;
+}
 
-abbrev absent_default : (value : Tree) (n : Notation) (ms : Members) → MembersSample ms → MembersSample (Members.member (Member.defaulted value n) ms)
-absent_default value n ms others = record { trees = others.trees; denoted = inr others.denoted; readable = others.readable; short = others.short }
+abbrev absent_default : (value : Tree) (n : Notation) (ms : Members) → MembersSample ms
+    → MembersSample (Members.member (Member.defaulted value n) ms)
+absent_default value n ms others = record {
+  trees = others.trees;
+  denoted = inr others.denoted;
+  readable =
+      others.readable;
+  short = others.short;
+}
 
 abbrev sequence_sample : (ms : Members) → MembersSample ms → Option (Sample (Notation.sequence ms))
 sequence_sample ms m =
-    with (decided (nat_lt (member_count m.trees) (2 ^ 63))) (λ h. Some (sample (Notation.sequence ms) (Tree.list ListKind.sequence m.trees) (m.trees, refl, m.denoted) (tt, m.readable) (ltb-true (member_count m.trees) (2 ^ 63) h, m.short)))
+    with (decided (nat_lt (member_count m.trees) (2 ^ 63)))
+    (λ h. Some (sample (Notation.sequence ms) (Tree.list ListKind.sequence m.trees) (m.trees, refl, m.denoted) (
+      tt,
+      m.readable,
+    ) (ltb-true (member_count m.trees) (2 ^ 63) h, m.short)))
 
 -- ---- alternatives
 
 module _ (n : Notation) (ts : Alternatives) where
-  abbrev this_or_other : Option (Sample n) → Option (AlternativeSample ts) → Option (AlternativeSample (Alternatives.alternative n ts))
-  this_or_other (Some x) other = Some (record { tree = x.tree; denoted = inl x.denoted; readable = x.readable; short = x.short })
-  this_or_other None other = with other (λ y. Some (record { tree = y.tree; denoted = inr y.denoted; readable = y.readable; short = y.short }))
+  abbrev this_or_other : Option (Sample n) → Option (AlternativeSample ts)
+      → Option (AlternativeSample (Alternatives.alternative n ts))
+  this_or_other (Some x) other =
+      Some (record { tree = x.tree; denoted = inl x.denoted; readable = x.readable; short = x.short })
+  this_or_other None other =
+      with other (λ y. Some (record { tree = y.tree; denoted = inr y.denoted; readable = y.readable; short = y.short }))
 
 abbrev choice_sample : (ts : Alternatives) → AlternativeSample ts → Sample (Notation.choice ts)
 choice_sample ts x = sample (Notation.choice ts) (Tree.choice x.tree) (x.tree, refl, x.denoted) x.readable x.short
@@ -300,16 +340,25 @@ choice_sample ts x = sample (Notation.choice ts) (Tree.choice x.tree) (x.tree, r
 
 module _ (n : Notation) (x : Sample n) where
   abbrev in_range_sample : (least most : ℕ) → Option (Sample (Notation.in-range least most n))
-  in_range_sample least most = with (decided (is_between least most (tree_number x.tree))) (λ e. Some (sample (Notation.in-range least most n) x.tree (x.denoted, e) x.readable x.short))
+  in_range_sample least most =
+      with (decided (is_between least most (tree_number x.tree)))
+      (λ e. Some (sample (Notation.in-range least most n) x.tree (x.denoted, e) x.readable x.short))
 
   abbrev from_minus_sample : (least most : ℕ) → Option (Sample (Notation.from-minus least most n))
-  from_minus_sample least most = with (decided (is_from_minus least most (tree_number x.tree))) (λ e. Some (sample (Notation.from-minus least most n) x.tree (x.denoted, e) x.readable x.short))
+  from_minus_sample least most =
+      with (decided (is_from_minus least most (tree_number x.tree)))
+      (λ e. Some (sample (Notation.from-minus least most n) x.tree (x.denoted, e) x.readable x.short))
 
   abbrev other_than_sample : (m : ℕ) → Option (Sample (Notation.other-than m n))
-  other_than_sample m = with (denied (is_between m m (tree_number x.tree))) (λ e. Some (sample (Notation.other-than m n) x.tree (x.denoted, e) x.readable x.short))
+  other_than_sample m =
+      with (denied (is_between m m (tree_number x.tree)))
+      (λ e. Some (sample (Notation.other-than m n) x.tree (x.denoted, e) x.readable x.short))
 
   abbrev sized_sample : (least most : ℕ) → Option (Sample (Notation.sized least most n))
-  sized_sample least most = with (decided (is_size least most x.size)) (λ e. Some (sample (Notation.sized least most n) x.tree (x.denoted, ap (is_size least most) x.sized ∙ e) x.readable x.short))
+  sized_sample least most =
+      with (decided (is_size least most x.size))
+      (λ e. Some (sample (Notation.sized least most n) x.tree (x.denoted, ap (is_size least most) x.sized ∙ e)
+      x.readable x.short))
 
 abbrev greater : ℕ → ℕ → ℕ
 greater a b = if nat_lt a b then b else a
@@ -318,35 +367,76 @@ greater a b = if nat_lt a b then b else a
 
 abbrev mutual
   pub sample_of : ℕ → (n : Notation) → Option (Sample n)
-  sample_of wish Notation.BOOLEAN = Some (sample Notation.BOOLEAN (Tree.primitive (Primitive.boolean true)) (true, refl, tt) tt one_short)
-  sample_of wish (Notation.checked-content c) = content_sample (Notation.checked-content c) (tag_of c) (wished_content wish c) (with (decided (test_of c (wished_content wish c))) (λ e. Some (wished_content wish c, refl, e)))
-  sample_of wish (Notation.INTEGER-named numbers) = content_sample (Notation.INTEGER-named numbers) 0x02 (first_of numbers ∷ []) (with (decided (nat_lt (first_of numbers) 0x80)) (λ e. with (decided (contains numbers (first_of numbers))) (λ c. Some (first_of numbers, ap (content_tree 0x02) (one_byte (first_of numbers) e), c))))
-  sample_of wish (Notation.unsigned bits) = with (decided (nat_lt wish 0x80)) (λ e. with (decided (nat_le wish (2 ^ bits - 1))) (λ f. Some (sample (Notation.unsigned bits) (Tree.primitive (Primitive.unsigned wish)) (wish, refl, leb-true wish (2 ^ bits - 1) f) tt (number_short wish e))))
-  sample_of wish (Notation.signed bits) = content_sample (Notation.signed bits) 0x02 (wish ∷ []) (with (decided (nat_lt wish 0x80)) (λ e. with (decided (fits_signed bits (pos wish))) (λ f. Some (pos wish, ap (content_tree 0x02) (one_byte wish e), f))))
-  sample_of wish (Notation.ENUMERATED numbers) = content_sample (Notation.ENUMERATED numbers) 0x0A (first_of numbers ∷ []) (with (decided (nat_lt (first_of numbers) 0x80)) (λ e. with (decided (contains numbers (first_of numbers))) (λ c. Some (first_of numbers, ap (content_tree 0x0A) (one_byte (first_of numbers) e), c))))
-  sample_of wish Notation.OCTET-STRING = content_sample Notation.OCTET-STRING 0x04 (replicate wish 0x00) (Some (replicate wish 0x00, refl, tt))
+  sample_of wish Notation.BOOLEAN =
+      Some (sample Notation.BOOLEAN (Tree.primitive (Primitive.boolean true)) (true, refl, tt) tt one_short)
+  sample_of wish (Notation.checked-content c) =
+      content_sample (Notation.checked-content c) (tag_of c) (wished_content wish c)
+      (with (decided (test_of c (wished_content wish c))) (λ e. Some (wished_content wish c, refl, e)))
+  sample_of wish (Notation.INTEGER-named numbers) =
+      content_sample (Notation.INTEGER-named numbers) 0x02 (first_of numbers ∷ [])
+      (with (decided (nat_lt (first_of numbers) 0x80))
+      (λ e. with (decided (contains numbers (first_of numbers)))
+      (λ c. Some (first_of numbers, ap (content_tree 0x02) (one_byte (first_of numbers) e), c))))
+  sample_of wish (Notation.unsigned bits) =
+      with (decided (nat_lt wish 0x80))
+      (λ e. with (decided (nat_le wish (2 ^ bits - 1)))
+      (λ f. Some (sample (Notation.unsigned bits) (Tree.primitive (Primitive.unsigned wish)) (
+        wish,
+        refl,
+        leb-true wish (2 ^ bits - 1) f,
+      ) tt (number_short wish e))))
+  sample_of wish (Notation.signed bits) =
+      content_sample (Notation.signed bits) 0x02 (wish ∷ [])
+      (with (decided (nat_lt wish 0x80))
+      (λ e. with (decided (fits_signed bits (pos wish))) (λ f. Some (
+        pos wish,
+        ap (content_tree 0x02) (one_byte wish e),
+        f,
+      ))))
+  sample_of wish (Notation.ENUMERATED numbers) =
+      content_sample (Notation.ENUMERATED numbers) 0x0A (first_of numbers ∷ [])
+      (with (decided (nat_lt (first_of numbers) 0x80))
+      (λ e. with (decided (contains numbers (first_of numbers)))
+      (λ c. Some (first_of numbers, ap (content_tree 0x0A) (one_byte (first_of numbers) e), c))))
+  sample_of wish Notation.OCTET-STRING =
+      content_sample Notation.OCTET-STRING 0x04 (replicate wish 0x00) (Some (replicate wish 0x00, refl, tt))
   sample_of wish Notation.NULL = Some (sample Notation.NULL (Tree.primitive Primitive.null) refl tt zero_short)
-  sample_of wish Notation.UTF8String = with (decided (nat_lt (length (letters wish)) (2 ^ 63))) (λ h. Some (text_sample wish h))
-  sample_of wish Notation.character = Some (sample Notation.character (Tree.primitive (Primitive.text (0x61 ∷ []))) (0x61 ∷ [], refl, letter_count 1) (letters_readable 1) one_short)
-  sample_of wish (Notation.restricted-string tag) = content_sample (Notation.restricted-string tag) tag (wished_string wish tag) (with (decided (is_string_content (string_width tag) (string_character tag) (wished_string wish tag))) (λ e. Some (wished_string wish tag, refl, e)))
+  sample_of wish Notation.UTF8String =
+      with (decided (nat_lt (length (letters wish)) (2 ^ 63))) (λ h. Some (text_sample wish h))
+  sample_of wish Notation.character =
+      Some (sample Notation.character (Tree.primitive (Primitive.text (0x61 ∷ []))) (0x61 ∷ [], refl, letter_count 1)
+      (letters_readable 1) one_short)
+  sample_of wish (Notation.restricted-string tag) =
+      content_sample (Notation.restricted-string tag) tag (wished_string wish tag)
+      (with (decided (is_string_content (string_width tag) (string_character tag) (wished_string wish tag)))
+      (λ e. Some (wished_string wish tag, refl, e)))
   sample_of wish (Notation.any-content tag) = content_sample (Notation.any-content tag) tag [] (Some ([], refl, tt))
-  sample_of wish Notation.any-element = Some (sample Notation.any-element (Tree.raw (0x05 ∷ 0x00 ∷ [])) (0x05 ∷ 0x00 ∷ [], refl, tt) null_element_readable two_short)
+  sample_of wish Notation.any-element =
+      Some (sample Notation.any-element (Tree.raw (0x05 ∷ 0x00 ∷ [])) (0x05 ∷ 0x00 ∷ [], refl, tt) null_element_readable
+      two_short)
   sample_of wish (Notation.sequence ms) = with (members_sample ms) (sequence_sample ms)
   sample_of wish (Notation.choice ts) = with (alternative_sample ts) (λ x. Some (choice_sample ts x))
   sample_of zero (Notation.list-of kind n) = Some (empty_sample kind n)
   sample_of (suc wish) (Notation.list-of kind n) = with (sample_of 0 n) (copies_sample kind n (suc wish))
   sample_of wish (Notation.wrapped w n) = with (sample_of wish n) (wrapped_sample w n)
-  sample_of wish (Notation.content-under tag n) = with (sample_of wish n) (λ x. under_sample tag n x.tree x.denoted x.readable)
-  sample_of wish (Notation.in-range least most n) = with (sample_of (greater wish least) n) (λ x. in_range_sample n x least most)
+  sample_of wish (Notation.content-under tag n) =
+      with (sample_of wish n) (λ x. under_sample tag n x.tree x.denoted x.readable)
+  sample_of wish (Notation.in-range least most n) =
+      with (sample_of (greater wish least) n) (λ x. in_range_sample n x least most)
   sample_of wish (Notation.from-minus least most n) = with (sample_of wish n) (λ x. from_minus_sample n x least most)
-  sample_of wish (Notation.other-than m n) = first_found (with (sample_of 0 n) (λ x. other_than_sample n x m)) (with (sample_of (suc m) n) (λ x. other_than_sample n x m))
+  sample_of wish (Notation.other-than m n) =
+      first_found (with (sample_of 0 n) (λ x. other_than_sample n x m))
+      (with (sample_of (suc m) n) (λ x. other_than_sample n x m))
   sample_of wish (Notation.sized least most n) = with (sample_of least n) (λ x. sized_sample n x least most)
 
   pub members_sample : (ms : Members) → Option (MembersSample ms)
   members_sample Members.end = Some (record { trees = Trees.none; denoted = tt; readable = tt; short = tt })
-  members_sample (Members.member (Member.required n) ms) = with (sample_of 0 n) (λ x. with (members_sample ms) (λ others. Some (member_then n ms x others)))
-  members_sample (Members.member (Member.optional n) ms) = with (members_sample ms) (λ others. Some (absent_optional n ms others))
-  members_sample (Members.member (Member.defaulted value n) ms) = with (members_sample ms) (λ others. Some (absent_default value n ms others))
+  members_sample (Members.member (Member.required n) ms) =
+      with (sample_of 0 n) (λ x. with (members_sample ms) (λ others. Some (member_then n ms x others)))
+  members_sample (Members.member (Member.optional n) ms) =
+      with (members_sample ms) (λ others. Some (absent_optional n ms others))
+  members_sample (Members.member (Member.defaulted value n) ms) =
+      with (members_sample ms) (λ others. Some (absent_default value n ms others))
   members_sample (Members.others known) = Some (record { trees = Trees.none; denoted = tt; readable = tt; short = tt })
 
   pub alternative_sample : (ts : Alternatives) → Option (AlternativeSample ts)
@@ -359,9 +449,12 @@ has_sample n = is_some (sample_of 0 n)
 
 -- ---- a value that means it
 
-value_of : {V : Type 0} (n : Notation) {meaning : V → Tree} → IsExact (Denotes n) meaning → (found : Option (Sample n)) → is_some found ≡ true → HasReadable meaning
+value_of : {V : Type 0} (n : Notation) {meaning : V → Tree} → IsExact (Denotes n) meaning → (found : Option (Sample n))
+    → is_some found ≡ true → HasReadable meaning
 value_of n is None h = cc
-value_of n is (Some x) h = let v = is.complete x.tree x.denoted x.readable x.short in (v.0, subst IsReadable (sym v.1) x.readable)
+value_of n is (Some x) h = let v = is.complete x.tree x.denoted x.readable x.short in
+    (v.0, subst IsReadable (sym v.1) x.readable)
 
-pub exact_example : {V : Type 0} (values : Values V) (notation : Notation) (meaning : V → Tree) → has_sample notation ≡ true → ProvedValues values notation meaning → HasReadable meaning
+pub exact_example : {V : Type 0} (values : Values V) (notation : Notation) (meaning : V → Tree)
+    → has_sample notation ≡ true → ProvedValues values notation meaning → HasReadable meaning
 exact_example values notation meaning h t = value_of notation (is_exact values t) (sample_of 0 notation) h

@@ -1,5 +1,7 @@
--- Numbers to the base 128, as the contents of an OBJECT IDENTIFIER and of a RELATIVE-OID are made of (X.690, 8.19.2, 8.20.2).
-use Rattle.std.specs.Prelude.{ℕ, ◌+◌, ◌-◌, ◌*◌, ◌/◌, ◌%◌, Bool, false, not, ◌&&◌, ◌||◌, ◌==◌, nat_lt, List, [], ◌∷◌, ◌++◌, map, if◌then◌else◌}
+-- Numbers to the base 128, as the contents of an OBJECT IDENTIFIER and of a RELATIVE-OID are made of (X.690, 8.19.2,
+-- 8.20.2).
+use Rattle.std.specs.Prelude.{ℕ, ◌+◌, ◌-◌, ◌*◌, ◌/◌, ◌%◌, Bool, false, not, ◌&&◌, ◌||◌, ◌==◌, nat_lt, List, [], ◌∷◌}
+use Rattle.std.specs.Prelude.{◌++◌, map, if◌then◌else◌}
 use Rattle.std.specs.List.{flat_map}
 use Rattle.std.specs.Int.Digits.{digits_of}
 
@@ -33,4 +35,5 @@ is_subidentifiers (b ∷ bs) = are_subidentifiers false (b ∷ bs)
 -- the numbers of these bytes, if the digits before them are the digits of n
 abbrev pub numbers_after : ℕ → List ℕ → List ℕ
 numbers_after n [] = []
-numbers_after n (b ∷ bs) = if nat_lt b 0x80 then (n * 128 + b) ∷ numbers_after 0 bs else numbers_after (n * 128 + (b - 0x80)) bs
+numbers_after n (b ∷ bs) = if nat_lt b 0x80 then (n * 128 + b) ∷ numbers_after 0 bs else numbers_after
+    (n * 128 + (b - 0x80)) bs

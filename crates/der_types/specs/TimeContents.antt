@@ -1,5 +1,7 @@
--- The contents of a UTCTime (X.690, 11.8; X.680, 47) and of a GeneralizedTime (X.690, 11.7; X.680, 46): which there are, and what they say.
-use Rattle.std.specs.Prelude.{ℕ, ◌+◌, ◌-◌, ◌*◌, Bool, true, not, ◌&&◌, ◌==◌, nat_lt, List, [], ◌∷◌, length, take, drop, slice_index, if◌then◌else◌}
+-- The contents of a UTCTime (X.690, 11.8; X.680, 47) and of a GeneralizedTime (X.690, 11.7; X.680, 46): which there
+-- are, and what they say.
+use Rattle.std.specs.Prelude.{ℕ, ◌+◌, ◌-◌, ◌*◌, Bool, true, not, ◌&&◌, ◌==◌, nat_lt, List, [], ◌∷◌, length, take, drop}
+use Rattle.std.specs.Prelude.{slice_index, if◌then◌else◌}
 use Rattle.der_types.specs.Calendar.{is_date, is_time_of_day, seconds_before}
 
 -- ---- digits
@@ -21,15 +23,18 @@ are_digits (b ∷ bs) = is_digit b && are_digits bs
 -- ---- MMDDHHMMSS
 
 abbrev pub are_ten_digits_at : List ℕ → ℕ → Bool
-are_ten_digits_at bs i = are_digits_at bs i && are_digits_at bs (i + 2) && are_digits_at bs (i + 4) && are_digits_at bs (i + 6) && are_digits_at bs (i + 8)
+are_ten_digits_at bs i = are_digits_at bs i && are_digits_at bs (i + 2) && are_digits_at bs (i + 4) && are_digits_at bs
+    (i + 6) && are_digits_at bs (i + 8)
 
 -- they are a date of this year and a time of day
 abbrev pub is_date_time_at : ℕ → List ℕ → ℕ → Bool
 is_date_time_at y bs i =
-    are_ten_digits_at bs i && is_date y (number_at bs i) (number_at bs (i + 2)) && is_time_of_day (number_at bs (i + 4)) (number_at bs (i + 6)) (number_at bs (i + 8))
+    are_ten_digits_at bs i && is_date y (number_at bs i) (number_at bs (i + 2)) && is_time_of_day (number_at bs (i + 4))
+    (number_at bs (i + 6)) (number_at bs (i + 8))
 
 abbrev pub seconds_at : ℕ → List ℕ → ℕ → ℕ
-seconds_at y bs i = seconds_before y (number_at bs i) (number_at bs (i + 2)) (number_at bs (i + 4)) (number_at bs (i + 6)) (number_at bs (i + 8))
+seconds_at y bs i = seconds_before y (number_at bs i) (number_at bs (i + 2)) (number_at bs (i + 4))
+    (number_at bs (i + 6)) (number_at bs (i + 8))
 
 -- ---- YYMMDDHHMMSSZ
 
@@ -38,7 +43,8 @@ abbrev pub full_year : ℕ → ℕ
 full_year n = if nat_lt n 50 then 2000 + n else 1900 + n
 
 abbrev pub is_utc_time : List ℕ → Bool
-is_utc_time bs = (length bs == 13) && are_digits_at bs 0 && (slice_index bs 12 == 0x5A) && is_date_time_at (full_year (number_at bs 0)) bs 2
+is_utc_time bs = (length bs == 13) && are_digits_at bs 0 && (slice_index bs 12 == 0x5A) && is_date_time_at
+    (full_year (number_at bs 0)) bs 2
 
 -- ---- YYYYMMDDHHMMSSZ, where a point and digits may be before the Z
 
@@ -58,11 +64,13 @@ fraction_of bs = take (length bs - 1 - 15) (drop 15 bs)
 
 -- the Z, or a point (11.7.3), at least one digit and the Z (11.7.1)
 abbrev pub is_ended : List ℕ → Bool
-is_ended bs = if length bs == 15 then slice_index bs 14 == 0x5A else nat_lt 16 (length bs) && (slice_index bs 14 == 0x2E) && (slice_index bs (length bs - 1) == 0x5A) && is_fraction (fraction_of bs)
+is_ended bs = if length bs == 15 then slice_index bs 14 == 0x5A else nat_lt 16 (length bs) &&
+    (slice_index bs 14 == 0x2E) && (slice_index bs (length bs - 1) == 0x5A) && is_fraction (fraction_of bs)
 
 abbrev pub is_generalized_time : List ℕ → Bool
 is_generalized_time bs = nat_lt 14 (length bs) && are_whole_seconds bs && is_ended bs
 
 -- of RFC 5280 (4.1.2.5): no fraction, and a year from 2050 on
 abbrev pub is_later_time : List ℕ → Bool
-is_later_time bs = (length bs == 15) && are_whole_seconds bs && (slice_index bs 14 == 0x5A) && nat_lt 2049 (year_at_first bs)
+is_later_time bs = (length bs == 15) && are_whole_seconds bs && (slice_index bs 14 == 0x5A) && nat_lt 2049
+    (year_at_first bs)

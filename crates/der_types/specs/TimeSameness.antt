@@ -17,8 +17,11 @@ record AreSame (t u : DateTime) : Type 0 where
 
 same_numbers : (t u : DateTime) → compared.ghosts.eq t u ≡ true → AreSame t u
 same_numbers t u h =
-    let p = and_parts (t.year == u.year) ((t.month == u.month) && ((t.day == u.day) && ((t.hour == u.hour) && ((t.minute == u.minute) && (t.second == u.second))))) h in
-    let q = and_parts (t.month == u.month) ((t.day == u.day) && ((t.hour == u.hour) && ((t.minute == u.minute) && (t.second == u.second)))) p.1 in
+    let p = and_parts (t.year == u.year)
+    ((t.month == u.month) &&
+    ((t.day == u.day) && ((t.hour == u.hour) && ((t.minute == u.minute) && (t.second == u.second))))) h in
+    let q = and_parts (t.month == u.month)
+    ((t.day == u.day) && ((t.hour == u.hour) && ((t.minute == u.minute) && (t.second == u.second)))) p.1 in
     let r = and_parts (t.day == u.day) ((t.hour == u.hour) && ((t.minute == u.minute) && (t.second == u.second))) q.1 in
     let s = and_parts (t.hour == u.hour) ((t.minute == u.minute) && (t.second == u.second)) r.1 in
     let v = and_parts (t.minute == u.minute) (t.second == u.second) s.1 in
@@ -49,7 +52,8 @@ same_utc t u h =
     let others = same_month_to_second t u s in
     cc
 
-pub same_generalized : (t u : DateTime) → compared.ghosts.eq t u ≡ true → generalized_content t [] ≡ generalized_content u []
+pub same_generalized : (t u : DateTime) → compared.ghosts.eq t u ≡ true
+    → generalized_content t [] ≡ generalized_content u []
 unfolding generalized_content
 same_generalized t u h =
     let s = same_numbers t u h in

@@ -19,8 +19,8 @@ enum Next {
     Another,
 }
 
-/// The arcs of an object identifier or of a relative one, in order. An arc above `u64::MAX` is returned as the error `ArcTooLarge`; the
-/// arcs after it still follow.
+/// The arcs of an object identifier or of a relative one, in order. An arc above `u64::MAX` is returned as the error
+/// `ArcTooLarge`; the arcs after it still follow.
 ///
 /// They print with points between them. An arc above `u64::MAX` prints as `(above 64 bits)`.
 #[derive(Debug, Clone, Copy)]

@@ -1,5 +1,6 @@
 //! Bit strings.
-ghost use Rattle.std.specs.Prelude.{◌≡◌, ◌⊎◌, ◌∷◌, ◌<◌, ◌==◌, true, false, drop, length, slice_index, slice_get, IfOk, IfErr};
+ghost use Rattle.std.specs.Prelude.{◌≡◌, ◌⊎◌, ◌∷◌, ◌<◌, ◌==◌, true, false, drop, length, slice_index, slice_get, IfOk};
+ghost use Rattle.std.specs.Prelude.{IfErr};
 ghost use Rattle.der_types.specs.BitString.{is_bit_string, bit_string_content, bits_of};
 
 use crate::Contents;
@@ -7,8 +8,8 @@ use crate::bits::{bit_of, content_of, len_of};
 use picky_der_core::{Asn1DerError, Result};
 use std::alloc::Global;
 
-/// A bit string (X.690, 8.6), kept as its content: a byte with the number of unused bits, then the bytes. At most 7 bits of the last byte
-/// are unused, and unused bits are zero (11.2.1).
+/// A bit string (X.690, 8.6), kept as its content: a byte with the number of unused bits, then the bytes. At most 7
+/// bits of the last byte are unused, and unused bits are zero (11.2.1).
 #[derive(Debug, Drop, PartialEq, Eq, Hash)]
 pub struct BitString {
     pub(crate) content: Vec<u8>,
@@ -18,8 +19,8 @@ pub struct BitString {
 impl BitString {
     /// Returns the bits of these bytes, highest bit first. The lowest `unused` bits of the last byte don't count.
     ///
-    /// `InvalidData` if `unused` is above 7, if an unused bit is one, or if there is no byte and `unused` isn't 0. `OutOfMemory` if the
-    /// allocation fails.
+    /// `InvalidData` if `unused` is above 7, if an unused bit is one, or if there is no byte and `unused` isn't 0.
+    /// `OutOfMemory` if the allocation fails.
     pub fn from_bytes(alloc: Global, bytes: &[u8], unused: u8) -> Result<BitString>
         ensures ok { IfOk result (λ it. it.content.items ≡ unused ∷ bytes.now) }
         ensures err { IfErr result (λ e. (e ≡ Asn1DerError.OutOfMemory)
@@ -72,7 +73,8 @@ impl BitString {
         self.len() == 0
     }
 
-    /// Returns the bit with this index, or `None` if there are fewer bits. The index of the first bit is 0 (X.690, 8.6.2.1).
+    /// Returns the bit with this index, or `None` if there are fewer bits. The index of the first bit is 0 (X.690,
+    /// 8.6.2.1).
     pub fn bit(&self, index: usize) -> Option<bool>
         ensures { result ≡ slice_get (bits_of self.now.content.items) index }
     {

@@ -1,6 +1,7 @@
 //! The bytes of bit strings (X.690, 8.6.2).
 ghost use Rattle.std.specs.Prelude.{◌≡◌, ◌++◌, ◌-◌, ◌*◌, ◌≤◌, ◌<◌, ◌%◌, ◌^◌, ◌==◌, true, length, slice_get, OnOk, IfOk};
-ghost use Rattle.der_types.specs.BitString.{weigh, octets, bit_string_content, is_bit_string, is_bit_set, is_named_bits, byte_bit, bits_of, without_zeros};
+ghost use Rattle.der_types.specs.BitString.{weigh, octets, bit_string_content, is_bit_string, is_bit_set};
+ghost use Rattle.der_types.specs.BitString.{is_named_bits, byte_bit, bits_of, without_zeros};
 
 use std::alloc::{AllocError, Global};
 

@@ -7,7 +7,8 @@ ghost use Rattle.der_types.specs.CharacterStrings.{byte_count};
 
 use crate::Width;
 
-/// The characters of a string type, by their numbers, and how they are encoded. For each set there is the type `RestrictedString<S>`.
+/// The characters of a string type, by their numbers, and how they are encoded. For each set there is the type
+/// `RestrictedString<S>`.
 ///
 /// A set of your own is a permitted alphabet (X.680, 51.7). It has the tag and the width of the type that it restricts.
 pub trait CharacterSet {

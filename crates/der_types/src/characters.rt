@@ -1,8 +1,10 @@
 //! Characters and their bytes.
-ghost use Rattle.std.specs.Prelude.{◌≡◌, ◌<◌, ◌+◌, ◌*◌, ◌^◌, ◌++◌, ◌∷◌, length, OnOk, IfOk, IfSome, OnSome, IfNone, true, false, chars};
+ghost use Rattle.std.specs.Prelude.{◌≡◌, ◌<◌, ◌+◌, ◌*◌, ◌^◌, ◌++◌, ◌∷◌, length, OnOk, IfOk, IfSome, OnSome, IfNone};
+ghost use Rattle.std.specs.Prelude.{true, false, chars};
 ghost use Rattle.std.specs.List.{list_all};
 ghost use Rattle.std.specs.Char.{IsScalar};
-ghost use Rattle.der_types.specs.CharacterStrings.{byte_count, character_bytes, characters, string_content, is_string_content};
+ghost use Rattle.der_types.specs.CharacterStrings.{byte_count, character_bytes, characters, string_content};
+ghost use Rattle.der_types.specs.CharacterStrings.{is_string_content};
 
 use crate::{CharacterSet, Width};
 use std::alloc::{AllocError, Global};

@@ -29,11 +29,11 @@ pub trait Constrained: Sized {
     ghost determined: { (x y : Self.Of) → Self.Of.meaning x ≡ Self.Of.meaning y → allows x ≡ allows y };
 }
 
-/// Reads a value of the constrained type and checks the constraint. It is the whole body of `Deserialize::deserialize` for a type with a
-/// constraint.
+/// Reads a value of the constrained type and checks the constraint. It is the whole body of `Deserialize::deserialize`
+/// for a type with a constraint.
 ///
-/// `InvalidData` if the constraint doesn't allow the value; its element has then been consumed completely. Every other error is one of the
-/// constrained type.
+/// `InvalidData` if the constraint doesn't allow the value; its element has then been consumed completely. Every other
+/// error is one of the constrained type.
 pub fn deserialize_constrained_as<C: Constrained, R: ReadExt>(de: &mut Deserializer<R>) -> Result<C>
     ensures ok { IfOk result (λ it. Reads C.Of.shape de.old de.new (C.Of.meaning (C.unconstrained it))) }
     ensures err { IfErr result (Refuses (λ it. C.Of.meaning (C.unconstrained it)) C.Of.shape de.old

@@ -4,8 +4,8 @@ ghost use Rattle.der_types.specs.Calendar.{is_leap_year, days_in, is_date, is_ti
 
 use std::fmt;
 
-/// A second in UTC, of the years 0 to 9999 of the Gregorian calendar (ISO 8601). No second is a leap second. Its order is that of
-/// time.
+/// A second in UTC, of the years 0 to 9999 of the Gregorian calendar (ISO 8601). No second is a leap second. Its order
+/// is that of time.
 ///
 /// It prints as `2026-11-27T23:12:00Z`.
 #[derive(Debug, Clone, Copy, PartialEq, Eq, PartialOrd, Ord, Hash)]
@@ -58,8 +58,8 @@ pub(crate) fn is_time_of_day(hour: u8, minute: u8, second: u8) -> bool
 impl DateTime {
     ghost use Rattle.der_types.specs.DateTimes.{IsAt};
 
-    /// The second with these numbers, or `None` if there is none: the year has at most four digits, the calendar has the date, and
-    /// the time of day is from 00:00:00 to 23:59:59.
+    /// The second with these numbers, or `None` if there is none: the year has at most four digits, the calendar has
+    /// the date, and the time of day is from 00:00:00 to 23:59:59.
     pub fn new(year: u16, month: u8, day: u8, hour: u8, minute: u8, second: u8) -> Option<DateTime>
         ensures some { IfSome result (IsAt year month day hour minute second) }
         ensures none { IfNone result

@@ -16,8 +16,8 @@ use picky_der_core::{Asn1DerError, Result};
 use picky_der_de::{Deserialize, Deserializer, TryVia, from_der, try_deserialize_as};
 use picky_der_ser::{Serialize, Serializer};
 
-/// A value of the type `T` together with its encoding, for a member whose type another member decides (ANY DEFINED BY). Two of them are
-/// equal exactly if their encodings are.
+/// A value of the type `T` together with its encoding, for a member whose type another member decides (ANY DEFINED BY).
+/// Two of them are equal exactly if their encodings are.
 ///
 /// On reading, `InvalidData` if the element isn't an encoding of a `T`; the element has then been consumed completely.
 #[derive(Debug, Drop)]
@@ -28,7 +28,8 @@ pub struct Encoded<T: Deserialize> {
 }
 
 impl<T: Deserialize> Encoded<T> {
-    /// Returns the value whose encoding this is. `InvalidData` if it isn't the encoding of a `T`, and `OutOfMemory` if an allocation fails.
+    /// Returns the value whose encoding this is. `InvalidData` if it isn't the encoding of a `T`, and `OutOfMemory` if
+    /// an allocation fails.
     pub fn from_encoding(encoding: Asn1RawDer) -> Result<Encoded<T>>
         ensures ok { IfOk result (λ it. it.encoding ≡ encoding) }
         ensures err { IfErr result (IsNoValue ⟦<Asn1RawDer as Serialize>⟧.meaning

@@ -20,10 +20,11 @@ use picky_der_core::asn1::{
 use picky_der_ser::List;
 use std::fmt::Debug;
 
-/// A type whose readable values mean exactly the readable trees that its notation denotes, including their contents and ranges.
+/// A type whose readable values mean exactly the readable trees that its notation denotes, including their contents and
+/// ranges.
 ///
-/// Its values therefore have exactly the encodings that DER gives the values of its ASN.1 type. `laws::exact` states what is known of such
-/// a type.
+/// Its values therefore have exactly the encodings that DER gives the values of its ASN.1 type. `laws::exact` states
+/// what is known of such a type.
 pub trait Exact: Notated {
     // What the type states about its values, and what it has to prove for that.
     ghost values: { Values Self };
@@ -33,13 +34,15 @@ pub trait Exact: Notated {
 }
 
 impl<const TAG: u8> Exact for TaggedBytes<TAG> {
-    ghost values = { plain_values (Notation.any-content TAG) (contents_of TAG (λ it. it.0.items)) (any_content_exact TAG (λ it. it.0.items) (λ s h. (record { 0 = vec_of s h }, refl))) };
+    ghost values = { plain_values (Notation.any-content TAG) (contents_of TAG (λ it. it.0.items))
+        (any_content_exact TAG (λ it. it.0.items) (λ s h. (record { 0 = vec_of s h }, refl))) };
 
     ghost exact = { Prim.assumption };
 }
 
 impl Exact for Asn1RawDer {
-    ghost values = { plain_values Notation.any-element (λ it. Tree.raw it.0.items) (raw_exact (λ it. it.0.items) (λ s e h. (record { 0 = vec_of s h }, refl))) };
+    ghost values = { plain_values Notation.any-element (λ it. Tree.raw it.0.items)
+        (raw_exact (λ it. it.0.items) (λ s e h. (record { 0 = vec_of s h }, refl))) };
 
     ghost exact = { Prim.assumption };
 }
@@ -51,19 +54,22 @@ impl<T: Exact> Exact for Vec<T> {
 }
 
 impl<T: Exact> Exact for Asn1SequenceOf<T> {
-    ghost values = { list_values T.values T.notation T.meaning ListKind.sequence (λ it. it.0.items) (λ xs h. (record { 0 = vec_of xs h }, refl)) };
+    ghost values = { list_values T.values T.notation T.meaning ListKind.sequence (λ it. it.0.items)
+        (λ xs h. (record { 0 = vec_of xs h }, refl)) };
 
     ghost exact = { Prim.assumption };
 }
 
 impl<T: Exact> Exact for Asn1SetOf<T> {
-    ghost values = { list_values T.values T.notation T.meaning ListKind.set (λ it. it.0.items) (λ xs h. (record { 0 = vec_of xs h }, refl)) };
+    ghost values = { list_values T.values T.notation T.meaning ListKind.set (λ it. it.0.items)
+        (λ xs h. (record { 0 = vec_of xs h }, refl)) };
 
     ghost exact = { Prim.assumption };
 }
 
 impl<T: Exact> Exact for OctetStringAsn1Container<T> {
-    ghost values = { wrapped_values T.values T.notation T.meaning wrapper.OctetContainer (λ it. it.0) (λ x. (record { 0 = x }, refl)) };
+    ghost values = { wrapped_values T.values T.notation T.meaning wrapper.OctetContainer (λ it. it.0)
+        (λ x. (record { 0 = x }, refl)) };
 
     ghost exact = { Prim.assumption };
 }
@@ -87,19 +93,22 @@ impl<T: Exact, const N: u8> Exact for ImplicitContextTag<T, N> {
 }
 
 impl<V: Exact + Debug, const T: u8> Exact for ApplicationTag<V, T> {
-    ghost values = { wrapped_values V.values V.notation V.meaning (wrapper.Application T) (λ it. it.0) (λ x. (record { 0 = x }, refl)) };
+    ghost values = { wrapped_values V.values V.notation V.meaning (wrapper.Application T) (λ it. it.0)
+        (λ x. (record { 0 = x }, refl)) };
 
     ghost exact = { Prim.assumption };
 }
 
 impl<T: Exact + List, const TAG: u8> Exact for ImplicitList<T, TAG> {
-    ghost values = { wrapped_values T.values T.notation T.meaning (wrapper.ImplicitList TAG) (λ it. it.0) (λ x. (record { 0 = x }, refl)) };
+    ghost values = { wrapped_values T.values T.notation T.meaning (wrapper.ImplicitList TAG) (λ it. it.0)
+        (λ x. (record { 0 = x }, refl)) };
 
     ghost exact = { Prim.assumption };
 }
 
 impl<T: Exact + TagOrdered, const TAG: u8> Exact for ImplicitSet<T, TAG> {
-    ghost values = { wrapped_values T.values T.notation T.meaning (wrapper.ImplicitList TAG) (λ it. it.0) (λ x. (record { 0 = x }, refl)) };
+    ghost values = { wrapped_values T.values T.notation T.meaning (wrapper.ImplicitList TAG) (λ it. it.0)
+        (λ x. (record { 0 = x }, refl)) };
 
     ghost exact = { Prim.assumption };
 }

@@ -1,6 +1,7 @@
 //! Choices whose values are exactly the values of their CHOICEs.
 ghost use Rattle.picky_der_de.specs.FourChoices.{one_by_one};
-ghost use Rattle.der_types.specs.ExactChoices.{ChoiceValues, ProvedChoice, no_choice_values, this_or_other_values, choice_as};
+ghost use Rattle.der_types.specs.ExactChoices.{ChoiceValues, ProvedChoice, no_choice_values, this_or_other_values};
+ghost use Rattle.der_types.specs.ExactChoices.{choice_as};
 ghost use Rattle.der_types.specs.ExactFourChoices.{one_of_four};
 
 use crate::{Exact, NotatedAlternatives};
@@ -34,7 +35,8 @@ impl<
     D: Exact + Begins,
     E: ExactAlternatives,
 > ExactAlternatives for Choice4<A, B, C, D, E> {
-    ghost chosen_values = { choice_as ⟦<OneOf<A, OneOf<B, OneOf<C, OneOf<D, E>>>> as ExactAlternatives>⟧.chosen_values one_by_one one_of_four };
+    ghost chosen_values = { choice_as ⟦<OneOf<A, OneOf<B, OneOf<C, OneOf<D, E>>>> as ExactAlternatives>⟧.chosen_values one_by_one
+        one_of_four };
 
     ghost exact_alternatives = { Prim.assumption };
 }

@@ -7,7 +7,8 @@ ghost use Rattle.picky_der_core.specs.Tree.{ListKind, Tree};
 ghost use Rattle.picky_der_ser.specs.Meaning.{list_meaning};
 ghost use Rattle.der_types.specs.BitString.{bits_of};
 ghost use Rattle.der_types.specs.CharacterStrings.{characters};
-ghost use Rattle.der_types.specs.ExactConstraints.{Numbered, ProvedNumber, numbered_plainly, numbered_by, Sized, ProvedSize, sized_plainly, counted};
+ghost use Rattle.der_types.specs.ExactConstraints.{Numbered, ProvedNumber, numbered_plainly, numbered_by, Sized};
+ghost use Rattle.der_types.specs.ExactConstraints.{ProvedSize, sized_plainly, counted};
 ghost use Rattle.der_types.specs.ExactContents.{IsStandard};
 ghost use Rattle.der_types.specs.ContentForms as form;
 ghost use Rattle.der_types.specs.ContentsFacts.{contents_of};
@@ -38,7 +39,8 @@ pub trait ExactSize: Exact + Size {
 }
 
 impl ExactNumber for Integer {
-    ghost numbered = { numbered_plainly (λ it. integer_value it.content.items) (contents_of 0x02 (λ it. it.content.items)) (λ it. refl) };
+    ghost numbered = { numbered_plainly (λ it. integer_value it.content.items) (contents_of 0x02 (λ it. it.content.items))
+        (λ it. refl) };
 
     ghost exact_number = { Prim.assumption };
 }
@@ -50,43 +52,50 @@ impl<T: ExactNumber, const MIN: u64, const MAX: u64> ExactNumber for InRange<T, 
 }
 
 impl ExactSize for BitString {
-    ghost sized = { sized_plainly (λ it. length (bits_of it.content.items)) form.BIT-STRING (contents_of 0x03 (λ it. it.content.items)) (λ it. refl) };
+    ghost sized = { sized_plainly (λ it. length (bits_of it.content.items)) form.BIT-STRING
+        (contents_of 0x03 (λ it. it.content.items)) (λ it. refl) };
 
     ghost exact_size = { Prim.assumption };
 }
 
 impl ExactSize for ByteBuf {
-    ghost sized = { sized_plainly (λ it. length it.0.items) (Notation.OCTET-STRING) (contents_of 0x04 (λ it. it.0.items)) (λ it. refl) };
+    ghost sized = { sized_plainly (λ it. length it.0.items) (Notation.OCTET-STRING) (contents_of 0x04 (λ it. it.0.items))
+        (λ it. refl) };
 
     ghost exact_size = { Prim.assumption };
 }
 
 impl ExactSize for String {
-    ghost sized = { sized_plainly (λ it. length (chars (string_bytes it))) (Notation.UTF8String) (λ it. Tree.primitive (Primitive.text (string_bytes it))) (λ it. refl) };
+    ghost sized = { sized_plainly (λ it. length (chars (string_bytes it))) (Notation.UTF8String)
+        (λ it. Tree.primitive (Primitive.text (string_bytes it))) (λ it. refl) };
 
     ghost exact_size = { Prim.assumption };
 }
 
 impl ExactSize for GeneralizedTime {
-    ghost sized = { sized_plainly (λ it. length it.content.items) form.GeneralizedTime (contents_of 0x18 (λ it. it.content.items)) (λ it. refl) };
+    ghost sized = { sized_plainly (λ it. length it.content.items) form.GeneralizedTime (contents_of 0x18 (λ it. it.content.items))
+        (λ it. refl) };
 
     ghost exact_size = { Prim.assumption };
 }
 
 impl<T: Exact> ExactSize for Vec<T> {
-    ghost sized = { sized_plainly (λ it. length it.items) (Notation.list-of ListKind.sequence T.notation) (λ it. list_meaning ListKind.sequence T.meaning it.items) (λ it. counted T.meaning it.items) };
+    ghost sized = { sized_plainly (λ it. length it.items) (Notation.list-of ListKind.sequence T.notation)
+        (λ it. list_meaning ListKind.sequence T.meaning it.items) (λ it. counted T.meaning it.items) };
 
     ghost exact_size = { Prim.assumption };
 }
 
 impl<T: Exact> ExactSize for Asn1SequenceOf<T> {
-    ghost sized = { sized_plainly (λ it. length it.0.items) (Notation.list-of ListKind.sequence T.notation) (λ it. list_meaning ListKind.sequence T.meaning it.0.items) (λ it. counted T.meaning it.0.items) };
+    ghost sized = { sized_plainly (λ it. length it.0.items) (Notation.list-of ListKind.sequence T.notation)
+        (λ it. list_meaning ListKind.sequence T.meaning it.0.items) (λ it. counted T.meaning it.0.items) };
 
     ghost exact_size = { Prim.assumption };
 }
 
 impl<T: Exact> ExactSize for Asn1SetOf<T> {
-    ghost sized = { sized_plainly (λ it. length it.0.items) (Notation.list-of ListKind.set T.notation) (λ it. list_meaning ListKind.set T.meaning it.0.items) (λ it. counted T.meaning it.0.items) };
+    ghost sized = { sized_plainly (λ it. length it.0.items) (Notation.list-of ListKind.set T.notation)
+        (λ it. list_meaning ListKind.set T.meaning it.0.items) (λ it. counted T.meaning it.0.items) };
 
     ghost exact_size = { Prim.assumption };
 }

@@ -1,6 +1,7 @@
 //! Exact types for contents under other tags, and for the string types of ASN.1.
 ghost use Rattle.std.specs.Prelude.{refl};
-ghost use Rattle.der_types.specs.ExactContents.{OwnContents, ProvedContents, content_under_values, parameter_contents, IsStandard, string_values};
+ghost use Rattle.der_types.specs.ExactContents.{OwnContents, ProvedContents, content_under_values, parameter_contents};
+ghost use Rattle.der_types.specs.ExactContents.{IsStandard, string_values};
 ghost use Rattle.der_types.specs.MadeValues.{vec_of};
 
 use crate::{CharacterSet, Contents, Exact, ImplicitPrimitive, RestrictedString};
@@ -21,7 +22,8 @@ pub trait StandardSet: CharacterSet {
 }
 
 impl<S: StandardSet> Exact for RestrictedString<S> {
-    ghost values = { string_values S.TAG S.WIDTH S.is_character (λ it. it.content.items) (λ it. it.canonical) (λ s e h. (record { content = vec_of s h; set = record {}; canonical = e }, refl)) };
+    ghost values = { string_values S.TAG S.WIDTH S.is_character (λ it. it.content.items) (λ it. it.canonical)
+        (λ s e h. (record { content = vec_of s h; set = record {}; canonical = e }, refl)) };
 
     ghost exact = { Prim.assumption };
 }
@@ -33,7 +35,8 @@ impl<S: StandardSet> ExactContents for RestrictedString<S> {
 }
 
 impl<T: ExactContents, const TAG: u8> Exact for ImplicitPrimitive<T, TAG> {
-    ghost values = { content_under_values T.values T.notation T.meaning TAG T.own_contents T.content (λ it. it.0) (λ x. (record { 0 = x }, refl)) };
+    ghost values = { content_under_values T.values T.notation T.meaning TAG T.own_contents T.content (λ it. it.0)
+        (λ x. (record { 0 = x }, refl)) };
 
     ghost exact = { Prim.assumption };
 }

@@ -19,7 +19,8 @@ pub trait ExactDefault<T: Serialize + PartialEq>: NotatedDefault<T> {
 }
 
 impl<T: Exact + Begins, D: ExactDefault<T>> ExactMember for Defaulted<T, D> {
-    ghost member_values = { defaulted_values T.values T.notation T.meaning D.default D.left_out D.value (λ it. it.value) (λ x. (record { value = x; default = record {} }, refl)) };
+    ghost member_values = { defaulted_values T.values T.notation T.meaning D.default D.left_out D.value (λ it. it.value)
+        (λ x. (record { value = x; default = record {} }, refl)) };
 
     ghost exact_member = { Prim.assumption };
 }

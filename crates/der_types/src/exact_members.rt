@@ -1,6 +1,7 @@
 //! Structs whose values are exactly the values of their SEQUENCEs.
 ghost use Rattle.std.specs.Prelude.{refl};
-ghost use Rattle.der_types.specs.ExactMembers.{MemberValues, ProvedMember, MembersValues, ProvedMembers, required_values, optional_values, none_values};
+ghost use Rattle.der_types.specs.ExactMembers.{MemberValues, ProvedMember, MembersValues, ProvedMembers};
+ghost use Rattle.der_types.specs.ExactMembers.{required_values, optional_values, none_values};
 ghost use Rattle.der_types.specs.ExactLater.{others_values};
 ghost use Rattle.der_types.specs.MadeValues.{vec_of};
 ghost use Rattle.picky_der_core.specs.Shape.{firsts_of};
@@ -41,7 +42,8 @@ impl<T: Exact + Begins> ExactMember for Optional<T> {
 }
 
 impl<A: Alternatives> ExactMembers for LaterMembers<A> {
-    ghost all_values = { others_values (λ raw. raw.0.items) (λ s h. (record { 0 = vec_of s h }, refl)) (firsts_of A.shapes) (λ it. it.elements.items) (λ it. it.outside)
+    ghost all_values = { others_values (λ raw. raw.0.items) (λ s h. (record { 0 = vec_of s h }, refl)) (firsts_of A.shapes)
+        (λ it. it.elements.items) (λ it. it.outside)
         (λ es o h. (record { elements = vec_of es h; before = record {}; outside = o }, refl)) };
 
     ghost exact_members = { Prim.assumption };

@@ -20,7 +20,8 @@ impl Notated for LaterTime {
 
 impl Exact for LaterTime {
     ghost values = { plain_values form.GeneralizedTime-later (contents_of 0x18 (λ it. generalized_content it.at []))
-        (content_exact 0x18 is_later_time (λ it. generalized_content it.at []) (λ it. later-valid it.at it.later) (λ s e h. later_made s e)) };
+        (content_exact 0x18 is_later_time (λ it. generalized_content it.at []) (λ it. later-valid it.at it.later)
+        (λ s e h. later_made s e)) };
 
     ghost exact = { Prim.assumption };
 }

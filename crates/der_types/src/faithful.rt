@@ -19,7 +19,8 @@ use picky_der_de::{Deserialize, Faithful, Inhabited};
 use picky_der_ser::Serialize;
 
 impl<S: CharacterSet> Faithful for RestrictedString<S> {
-    ghost sameness = { content_sameness S.TAG (λ it. it.content.items) ⟦<Self as PartialEq>⟧.eq (λ x y. same_list x.content.items y.content.items) };
+    ghost sameness = { content_sameness S.TAG (λ it. it.content.items) ⟦<Self as PartialEq>⟧.eq
+        (λ x y. same_list x.content.items y.content.items) };
 
     ghost respects = { Prim.assumption };
 }
@@ -37,17 +38,20 @@ impl<T: Faithful + TagOrdered, const TAG: u8> Faithful for ImplicitSet<T, TAG> {
 }
 
 impl<T: Deserialize> Faithful for Encoded<T> {
-    ghost sameness = { plain_sameness (λ x y. pointwise eqb x.encoding.0.items y.encoding.0.items) (λ it. Tree.raw it.encoding.0.items) (bytes_respect Tree.raw (λ it. it.encoding.0.items)) };
+    ghost sameness = { plain_sameness (λ x y. pointwise eqb x.encoding.0.items y.encoding.0.items)
+        (λ it. Tree.raw it.encoding.0.items) (bytes_respect Tree.raw (λ it. it.encoding.0.items)) };
 
     ghost respects = { Prim.assumption };
 }
 
 impl Faithful for LaterTime {
-    ghost sameness = { content_sameness 0x18 (λ it. generalized_content it.at []) ⟦<Self as PartialEq>⟧.eq (λ x y. same_generalized x.at y.at) };
+    ghost sameness = { content_sameness 0x18 (λ it. generalized_content it.at []) ⟦<Self as PartialEq>⟧.eq
+        (λ x y. same_generalized x.at y.at) };
 
     ghost respects = { Prim.assumption };
 }
 
 impl Inhabited for LaterTime {
-    ghost example = { exact_example ⟦<Self as Exact>⟧.values ⟦<Self as Notated>⟧.notation ⟦<Self as Serialize>⟧.meaning refl Prim.assumption };
+    ghost example = { exact_example ⟦<Self as Exact>⟧.values ⟦<Self as Notated>⟧.notation ⟦<Self as Serialize>⟧.meaning refl
+        Prim.assumption };
 }

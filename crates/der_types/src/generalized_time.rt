@@ -1,6 +1,7 @@
 //! Times whose year has four digits.
 ghost use Rattle.std.proofs.Common.{rules};
-ghost use Rattle.std.specs.Prelude.{◌≡◌, ◌≤◌, ◌<◌, ◌⊎◌, ◌==◌, [], true, false, refl, length, IfSome, IfNone, IfOk, IfErr};
+ghost use Rattle.std.specs.Prelude.{◌≡◌, ◌≤◌, ◌<◌, ◌⊎◌, ◌==◌, [], true, false, refl, length, IfSome, IfNone, IfOk};
+ghost use Rattle.std.specs.Prelude.{IfErr};
 ghost use Rattle.std.specs.Cmp.{partial_order_from_own_ties};
 ghost use Rattle.std.specs.Cmp.Rules.{comparing};
 ghost use Rattle.std.specs.Cmp.Lexicographic.{pointwise, slice_cmp, bytes_decides};
@@ -15,8 +16,9 @@ use std::alloc::Global;
 use std::cmp::Ordering;
 use std::hash::{Hash, Hasher};
 
-/// A GeneralizedTime (X.690, 8.26, 11.7), by its content: `YYYYMMDDHHMMSSZ` of the years 0 to 9999. Before the Z a fraction of a
-/// second may be, of any length: a point and digits, of which the last isn't 0. Its order is that of time.
+/// A GeneralizedTime (X.690, 8.26, 11.7), by its content: `YYYYMMDDHHMMSSZ` of the years 0 to 9999. Before the Z a
+/// fraction of a second may be, of any length: a point and digits, of which the last isn't 0. Its order is that of
+/// time.
 #[derive(Debug, Drop)]
 pub struct GeneralizedTime {
     pub(crate) content: Vec<u8>,
@@ -75,7 +77,8 @@ impl GeneralizedTime {
         Some(self.whole_seconds())
     }
 
-    // The content without the Z. Bytes of one are in the order of time: a point is below each digit, and the end below all.
+    // The content without the Z. Bytes of one are in the order of time: a point is below each digit, and the end below
+    // all.
     fn key(&self) -> &[u8]
         ensures { result.now ≡ time_key self.now }
     {

@@ -14,11 +14,11 @@ use picky_der_core::misc::{ReadExt, WriteExt};
 use picky_der_de::{Begins, Deserialize, Deserializer};
 use picky_der_ser::{Serialize, Serializer};
 
-/// A primitive value under the tag `TAG` instead of its own: an implicit tag (X.690, 8.14). `40+n` is `[APPLICATION n] IMPLICIT`, `80+n` is
-/// `[n] IMPLICIT`, and `C0+n` is `[PRIVATE n] IMPLICIT`.
+/// A primitive value under the tag `TAG` instead of its own: an implicit tag (X.690, 8.14). `40+n` is `[APPLICATION n]
+/// IMPLICIT`, `80+n` is `[n] IMPLICIT`, and `C0+n` is `[PRIVATE n] IMPLICIT`.
 ///
-/// `TAG` is a whole identifier byte. It has to be primitive (bit 6 is clear), with a number of at most 30. Otherwise writing and reading
-/// fail with `UnsupportedValue`. `ImplicitList` does the same for lists.
+/// `TAG` is a whole identifier byte. It has to be primitive (bit 6 is clear), with a number of at most 30. Otherwise
+/// writing and reading fail with `UnsupportedValue`. `ImplicitList` does the same for lists.
 #[derive(Debug, Drop, PartialEq, Eq, Hash)]
 pub struct ImplicitPrimitive<T, const TAG: u8>(pub T);
 
@@ -73,7 +73,8 @@ impl<T: Contents, const TAG: u8> Deserialize for ImplicitPrimitive<T, TAG> {
             (contents_shape (primitive_form TAG)) deserializer.old deserializer.new) }
         ensures read { IfOk result (λ it. ReadsContent (primitive_form TAG) T.is_content deserializer.old
             deserializer.new (T.content it.0)) }
-        ensures refused { IfErr result (RefusesContent (λ (it : ImplicitPrimitive T TAG). T.content it.0) (primitive_form TAG) T.is_content
+        ensures refused { IfErr result (RefusesContent (λ (it : ImplicitPrimitive T TAG). T.content it.0) (primitive_form TAG)
+            T.is_content
             deserializer.old deserializer.new) }
     {
         let value = deserialize_contents_under(primitive_form(TAG), deserializer)?;

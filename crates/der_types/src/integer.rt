@@ -6,7 +6,8 @@ use picky_der_core::integer::{IntContent, number_of};
 use picky_der_core::{Asn1DerError, Int, Result};
 use std::alloc::Global;
 
-/// An INTEGER of any size and sign (X.690, 8.3), kept as its content: two's complement in the fewest bytes, most significant byte first.
+/// An INTEGER of any size and sign (X.690, 8.3), kept as its content: two's complement in the fewest bytes, most
+/// significant byte first.
 #[derive(Debug, Drop, PartialEq, Eq, Hash)]
 pub struct Integer {
     pub(crate) content: Vec<u8>,

@@ -31,7 +31,8 @@ use crate::{
 };
 pub use picky_der_core::laws::integers;
 
-/// Errors, and widths, are equal by `==` exactly if they are the same. Times of one form are equal exactly if their dates and times are.
+/// Errors, and widths, are equal by `==` exactly if they are the same. Times of one form are equal exactly if their
+/// dates and times are.
 pub fn equality()
     ensures error { IsEqualityOf ⟦<OidError as PartialEq>⟧.eq (λ error. error) }
     ensures width { IsEqualityOf ⟦<Width as PartialEq>⟧.eq (λ width. width) }
@@ -50,7 +51,8 @@ pub fn copies()
     ensures time { IsKept ⟦<Time as Clone>⟧.is_clone (λ time. time) }
 {}
 
-/// Each valid list of arcs has a content, each content encodes a list of arcs, and different lists have different contents.
+/// Each valid list of arcs has a content, each content encodes a list of arcs, and different lists have different
+/// contents.
 pub fn object_identifiers()
     ensures made { (arcs : List ℕ) → are_arcs arcs ≡ true
         → is_object_identifier (object_identifier_content arcs) ≡ true }
@@ -60,8 +62,8 @@ pub fn object_identifiers()
         → object_identifier_content a ≡ object_identifier_content b → a ≡ b }
 {}
 
-/// Each list of at least one arc has a content as a RELATIVE-OID, each content encodes such a list, and different lists have different
-/// contents.
+/// Each list of at least one arc has a content as a RELATIVE-OID, each content encodes such a list, and different lists
+/// have different contents.
 #[tactic(auto, using(crate::specs::RelativeOidLaws::valid_relative, crate::specs::RelativeOidLaws::relative_arcs, crate::specs::RelativeOidLaws::same_relative))]
 pub fn relative_oids()
     ensures made { (arcs : List ℕ) → are_relative_arcs arcs ≡ true
@@ -86,8 +88,8 @@ pub fn bit_strings()
     ensures one { (a b : List Bool) → bit_string_content a ≡ bit_string_content b → a ≡ b }
 {}
 
-/// Each list of bits has a content as a list of named bits, in which zeros at the end are left out. Each such content is one of a bit
-/// string.
+/// Each list of bits has a content as a list of named bits, in which zeros at the end are left out. Each such content
+/// is one of a bit string.
 pub fn named_bits()
     ensures made { (bits : List Bool)
         → is_named_bits (bit_string_content (without_zeros bits)) ≡ true }
@@ -99,8 +101,8 @@ pub fn string_equality<S: CharacterSet>()
     ensures { IsEqualityOf ⟦<RestrictedString<S> as PartialEq>⟧.eq (λ it. it.content.items) }
 {}
 
-/// Each text whose characters are all in a set has a content, each content encodes its characters, and different texts have different
-/// contents.
+/// Each text whose characters are all in a set has a content, each content encodes its characters, and different texts
+/// have different contents.
 pub fn character_strings()
     ensures made { (width : Width) (is_character : ℕ → Bool) (text : List ℕ)
         → is_string_content width is_character (string_content width text)
@@ -124,14 +126,16 @@ pub fn unicode_contents()
     ensures bmp { (c : ℕ) → is_bmp c ≡ true → encode_utf16 c ≡ c ∷ [] }
 {}
 
-/// Dates and times are ordered by the number of seconds from the beginning of the year 0. They are equal exactly if that number is.
+/// Dates and times are ordered by the number of seconds from the beginning of the year 0. They are equal exactly if
+/// that number is.
 pub fn date_times()
     ensures order { (x y : DateTime) → ⟦<DateTime as Ord>⟧.cmp x y
         ≡ nat_cmp (seconds_of x) (seconds_of y) }
     ensures equality { IsEqualityOf ⟦<DateTime as PartialEq>⟧.eq seconds_of }
 {}
 
-/// Each second of the years 1950 to 2049 has a content as a UTCTime, and different seconds have different contents (X.690, 11.8).
+/// Each second of the years 1950 to 2049 has a content as a UTCTime, and different seconds have different contents
+/// (X.690, 11.8).
 pub fn utc_times()
     ensures made { (t : DateTime) → 1950 ≤ t.year → t.year ≤ 2049
         → is_utc_time (utc_content t) ≡ true }
@@ -139,8 +143,8 @@ pub fn utc_times()
         → utc_content t ≡ utc_content u → seconds_of t ≡ seconds_of u }
 {}
 
-/// Times are ordered by the number of 10^k-ths of a second from the beginning of the year 0. This holds for each k that is at least the
-/// number of digits of both fractions. They are equal exactly if their contents are the same.
+/// Times are ordered by the number of 10^k-ths of a second from the beginning of the year 0. This holds for each k that
+/// is at least the number of digits of both fractions. They are equal exactly if their contents are the same.
 pub fn generalized_times()
     ensures order { (k : ℕ) (x y : GeneralizedTime) → length (fraction_of x.content.items) ≤ k
         → length (fraction_of y.content.items) ≤ k
@@ -155,15 +159,16 @@ pub fn times()
     ensures equality { IsEqualityOf ⟦<Time as PartialEq>⟧.eq (λ time. seconds_of (date_time_of time)) }
 {}
 
-/// The readable values of an exact type mean exactly the readable trees that its notation denotes. A content with 2^63 or more bytes, or a
-/// list with as many members, is excluded: no vector is as long.
+/// The readable values of an exact type mean exactly the readable trees that its notation denotes. A content with 2^63
+/// or more bytes, or a list with as many members, is excluded: no vector is as long.
 pub fn exact<T: Exact>()
     ensures sound { (it : T) → IsReadable (T.meaning it) → Denotes T.notation (T.meaning it) }
     ensures complete { (t : Tree) → Denotes T.notation t → IsReadable t → IsShort t
         → (it : T) × (T.meaning it ≡ t) }
 {}
 
-/// An exact type has a readable value if a tree of its notation is found by a search, which is done where a program is checked.
+/// An exact type has a readable value if a tree of its notation is found by a search, which is done where a program is
+/// checked.
 pub fn inhabited<T: Exact>()
     ensures { has_sample T.notation ≡ true → HasReadable T.meaning }
 {}

@@ -6,11 +6,11 @@ use crate::bits::{bit_of, content_of, without_zeros};
 use picky_der_core::{Asn1DerError, Result};
 use std::alloc::Global;
 
-/// A bit string whose bits have names in its definition, as a set of flags has; `KeyUsage` of RFC 5280, 4.2.1.3 is one. Zero bits at the
-/// end are left out (X.690, 11.2.2): each set has one encoding. A bit that is left out is zero.
+/// A bit string whose bits have names in its definition, as a set of flags has; `KeyUsage` of RFC 5280, 4.2.1.3 is one.
+/// Zero bits at the end are left out (X.690, 11.2.2): each set has one encoding. A bit that is left out is zero.
 ///
-/// Give the names as an enum of your own with the numbers of the bits, as `KeyCertSign = 5`. Then `bits.bit(Usage::KeyCertSign as usize)`
-/// is that flag.
+/// Give the names as an enum of your own with the numbers of the bits, as `KeyCertSign = 5`. Then
+/// `bits.bit(Usage::KeyCertSign as usize)` is that flag.
 #[derive(Debug, Drop, PartialEq, Eq, Hash)]
 pub struct NamedBits {
     pub(crate) content: Vec<u8>,
@@ -18,7 +18,8 @@ pub struct NamedBits {
 }
 
 impl NamedBits {
-    /// Returns the set of these bits, first bit first. Zeros at the end are left out. `OutOfMemory` if the allocation fails.
+    /// Returns the set of these bits, first bit first. Zeros at the end are left out. `OutOfMemory` if the allocation
+    /// fails.
     pub fn from_bits(alloc: Global, bits: &[bool]) -> Result<NamedBits>
         ensures ok { IfOk result (λ it. it.content.items
             ≡ bit_string_content (without_zeros bits.now)) }

@@ -1,4 +1,5 @@
-//! Object identifiers in common use, by their contents. Comparing with one allocates nothing: `oid.is(names::KEY_USAGE)`.
+//! Object identifiers in common use, by their contents. Comparing with one allocates nothing:
+//! `oid.is(names::KEY_USAGE)`.
 ghost use Rattle.std.specs.Prelude.{◌≡◌, [], ◌∷◌, map, option_map};
 ghost use Rattle.der_types.specs.Names.{name_in, name_of};
 ghost use Rattle.der_types.specs.ObjectIdentifier.{arcs_of};
@@ -311,10 +312,14 @@ pub fn arcs()
     ensures sha1_with_rsa_encryption { arcs_of SHA1_WITH_RSA_ENCRYPTION.now ≡ 1 ∷ 2 ∷ 840 ∷ 113549 ∷ 1 ∷ 1 ∷ 5 ∷ [] }
     ensures mgf1 { arcs_of MGF1.now ≡ 1 ∷ 2 ∷ 840 ∷ 113549 ∷ 1 ∷ 1 ∷ 8 ∷ [] }
     ensures rsassa_pss { arcs_of RSASSA_PSS.now ≡ 1 ∷ 2 ∷ 840 ∷ 113549 ∷ 1 ∷ 1 ∷ 10 ∷ [] }
-    ensures sha256_with_rsa_encryption { arcs_of SHA256_WITH_RSA_ENCRYPTION.now ≡ 1 ∷ 2 ∷ 840 ∷ 113549 ∷ 1 ∷ 1 ∷ 11 ∷ [] }
-    ensures sha384_with_rsa_encryption { arcs_of SHA384_WITH_RSA_ENCRYPTION.now ≡ 1 ∷ 2 ∷ 840 ∷ 113549 ∷ 1 ∷ 1 ∷ 12 ∷ [] }
-    ensures sha512_with_rsa_encryption { arcs_of SHA512_WITH_RSA_ENCRYPTION.now ≡ 1 ∷ 2 ∷ 840 ∷ 113549 ∷ 1 ∷ 1 ∷ 13 ∷ [] }
-    ensures sha224_with_rsa_encryption { arcs_of SHA224_WITH_RSA_ENCRYPTION.now ≡ 1 ∷ 2 ∷ 840 ∷ 113549 ∷ 1 ∷ 1 ∷ 14 ∷ [] }
+    ensures sha256_with_rsa_encryption { arcs_of SHA256_WITH_RSA_ENCRYPTION.now ≡ 1 ∷ 2 ∷ 840 ∷ 113549 ∷ 1 ∷ 1 ∷ 11
+        ∷ [] }
+    ensures sha384_with_rsa_encryption { arcs_of SHA384_WITH_RSA_ENCRYPTION.now ≡ 1 ∷ 2 ∷ 840 ∷ 113549 ∷ 1 ∷ 1 ∷ 12
+        ∷ [] }
+    ensures sha512_with_rsa_encryption { arcs_of SHA512_WITH_RSA_ENCRYPTION.now ≡ 1 ∷ 2 ∷ 840 ∷ 113549 ∷ 1 ∷ 1 ∷ 13
+        ∷ [] }
+    ensures sha224_with_rsa_encryption { arcs_of SHA224_WITH_RSA_ENCRYPTION.now ≡ 1 ∷ 2 ∷ 840 ∷ 113549 ∷ 1 ∷ 1 ∷ 14
+        ∷ [] }
     ensures data { arcs_of DATA.now ≡ 1 ∷ 2 ∷ 840 ∷ 113549 ∷ 1 ∷ 7 ∷ 1 ∷ [] }
     ensures signed_data { arcs_of SIGNED_DATA.now ≡ 1 ∷ 2 ∷ 840 ∷ 113549 ∷ 1 ∷ 7 ∷ 2 ∷ [] }
     ensures enveloped_data { arcs_of ENVELOPED_DATA.now ≡ 1 ∷ 2 ∷ 840 ∷ 113549 ∷ 1 ∷ 7 ∷ 3 ∷ [] }
@@ -423,7 +428,8 @@ static NAMES: [(&[u8], &str); 78] = [
     (SHA224, "sha224"),
 ];
 
-/// Returns the name of the object identifier with this content, as `commonName`, or `None` if it isn't one of the constants of this module.
+/// Returns the name of the object identifier with this content, as `commonName`, or `None` if it isn't one of the
+/// constants of this module.
 pub fn name_of(content: &[u8]) -> Option<&'static str>
     ensures { option_map (λ name. name.now) result ≡ name_of content.now }
 {

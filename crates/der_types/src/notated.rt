@@ -26,7 +26,8 @@ use std::fmt::Debug;
 
 /// A Rust type that is an ASN.1 type (X.680).
 ///
-/// The notation of a type is made of the notations of its parts. It is the notation in the type's definition, and nothing is written twice.
+/// The notation of a type is made of the notations of its parts. It is the notation in the type's definition, and
+/// nothing is written twice.
 pub trait Notated: Deserialize {
     // The ASN.1 type.
     ghost notation: { Notation };
@@ -195,7 +196,10 @@ impl<
     D: Notated + Begins,
     E: NotatedAlternatives,
 > NotatedAlternatives for Choice4<A, B, C, D, E> {
-    ghost alternatives_notation = { Alternatives.alternative A.notation (Alternatives.alternative B.notation (Alternatives.alternative C.notation (Alternatives.alternative D.notation E.alternatives_notation))) };
+    ghost alternatives_notation = { Alternatives.alternative A.notation
+        (Alternatives.alternative B.notation
+        (Alternatives.alternative C.notation (Alternatives.alternative D.notation E.alternatives_notation))) };
 
-    ghost denoted_shapes = { one_or_other A.denoted (one_or_other B.denoted (one_or_other C.denoted (one_or_other D.denoted E.denoted_shapes))) };
+    ghost denoted_shapes = { one_or_other A.denoted
+        (one_or_other B.denoted (one_or_other C.denoted (one_or_other D.denoted E.denoted_shapes))) };
 }

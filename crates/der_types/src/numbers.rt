@@ -9,7 +9,8 @@ use picky_der_core::{Int, Result};
 use picky_der_de::Deserializer;
 use picky_der_ser::Serializer;
 
-/// Writes a number as an INTEGER (X.690, 8.3), as `Serializer::serialize_int` does. Its errors are the errors of that function.
+/// Writes a number as an INTEGER (X.690, 8.3), as `Serializer::serialize_int` does. Its errors are the errors of that
+/// function.
 pub fn serialize_int<N: Int, W: WriteExt>(
     serializer: &mut Serializer<W>,
     number: N,
@@ -22,8 +23,9 @@ pub fn serialize_int<N: Int, W: WriteExt>(
 
 /// Reads an INTEGER (X.690, 8.3) as a number of this type, as `Deserializer::deserialize_int` does.
 ///
-/// `InvalidData` if the content isn't the content of an INTEGER, and `UnsupportedValue` if the number doesn't fit the type. In both cases
-/// the content has been consumed completely. Every other error is one of `Deserializer::deserialize_int`.
+/// `InvalidData` if the content isn't the content of an INTEGER, and `UnsupportedValue` if the number doesn't fit the
+/// type. In both cases the content has been consumed completely. Every other error is one of
+/// `Deserializer::deserialize_int`.
 pub fn deserialize_int<N: Int, R: ReadExt>(deserializer: &mut Deserializer<R>) -> Result<N>
     ensures ok { IfOk result (λ n. ReadsInt N.fits deserializer.old deserializer.new
         (N.number n)) }

@@ -2,7 +2,8 @@
 ghost use Rattle.std.specs.Prelude.{◌≡◌, ◌↔◌, ◌⊎◌, Some, true, false, map, IsTrue, OnOk, IfOk, IfErr};
 ghost use Rattle.der_types.specs.Dotted.{dotted_or_marked, fitted};
 ghost use Rattle.der_types.specs.Arcs.{arcs_left};
-ghost use Rattle.der_types.specs.ObjectIdentifier.{is_object_identifier, are_arcs, object_identifier_content, arcs_of, arcs_error, RefusesArcs, IsText, RefusesOidText};
+ghost use Rattle.der_types.specs.ObjectIdentifier.{is_object_identifier, are_arcs, object_identifier_content, arcs_of};
+ghost use Rattle.der_types.specs.ObjectIdentifier.{arcs_error, RefusesArcs, IsText, RefusesOidText};
 
 use crate::dotted::arcs_of_text;
 use crate::subidentifiers::{push_subidentifier, push_subidentifiers};
@@ -14,7 +15,8 @@ use std::fmt;
 // So many bytes of a content are kept in the value itself.
 pub(crate) const INLINE: usize = 16;
 
-/// An object identifier (X.690, 8.19), by its content. No number in it begins with a needless 80, and the last one ends.
+/// An object identifier (X.690, 8.19), by its content. No number in it begins with a needless 80, and the last one
+/// ends.
 ///
 /// It prints as its arcs with points between them, as `2.5.4.3`; an arc above `u64::MAX` prints as `(above 64 bits)`.
 #[derive(Debug, Drop, PartialEq, Eq, Hash)]
@@ -54,7 +56,8 @@ impl ObjectIdentifier {
     /// `TooFewArcs`, `FirstArc` and `SecondArc` where they aren't arcs of one (X.690, 8.19.4), and `OutOfMemory`.
     pub fn from_arcs(alloc: Global, arcs: &[u64]) -> std::result::Result<ObjectIdentifier, OidError>
         ensures arcs { OnOk result (are_arcs arcs.now ≡ true) }
-        ensures ok { IfOk result (λ it. ⟦<ObjectIdentifier as Contents>⟧.content it ≡ object_identifier_content arcs.now) }
+        ensures ok { IfOk result (λ it. ⟦<ObjectIdentifier as Contents>⟧.content it
+            ≡ object_identifier_content arcs.now) }
         ensures err { IfErr result (λ e. (e ≡ OidError.OutOfMemory) ⊎ RefusesArcs arcs.now e) }
     {
         match arcs_error(arcs) {

@@ -11,8 +11,8 @@ use crate::{Arcs, OidError};
 use std::alloc::{AllocError, Global};
 use std::fmt;
 
-/// The arcs that follow an object identifier which both sides know (X.690, 8.20), kept as the content. Each number in it is in the fewest
-/// bytes, and the last one is complete.
+/// The arcs that follow an object identifier which both sides know (X.690, 8.20), kept as the content. Each number in
+/// it is in the fewest bytes, and the last one is complete.
 ///
 /// It prints as its arcs with points between them, as `8571.3.2`. An arc above `u64::MAX` prints as `(above 64 bits)`.
 #[derive(Debug, Drop, PartialEq, Eq, Hash)]
@@ -31,7 +31,8 @@ fn content_of(alloc: Global, arcs: &[u64]) -> std::result::Result<Vec<u8>, Alloc
 }
 
 impl RelativeOid {
-    /// Returns the relative object identifier with these arcs. `TooFewArcs` if there is no arc, and `OutOfMemory` if the allocation fails.
+    /// Returns the relative object identifier with these arcs. `TooFewArcs` if there is no arc, and `OutOfMemory` if
+    /// the allocation fails.
     #[tactic(auto, using(crate::specs::RelativeOidLaws::valid_relative))]
     pub fn from_arcs(alloc: Global, arcs: &[u64]) -> std::result::Result<RelativeOid, OidError>
         ensures arcs { OnOk result (are_relative_arcs arcs.now ≡ true) }
@@ -48,8 +49,8 @@ impl RelativeOid {
 
     /// Returns the relative object identifier that the text is, as `8571.3.2`: arcs in decimal, separated by points.
     ///
-    /// `NotANumber` if a part isn't a decimal number or has a leading 0, `ArcTooLarge` if an arc is above `u64::MAX`, and `OutOfMemory` if
-    /// an allocation fails.
+    /// `NotANumber` if a part isn't a decimal number or has a leading 0, `ArcTooLarge` if an arc is above `u64::MAX`,
+    /// and `OutOfMemory` if an allocation fails.
     pub fn from_str(alloc: Global, text: &str) -> std::result::Result<RelativeOid, OidError>
         ensures ok { IfOk result (λ it. IsRelativeText text.now it.content.items) }
         ensures err { IfErr result (λ e. (e ≡ OidError.OutOfMemory) ⊎ RefusesText text.now e) }

@@ -1,5 +1,6 @@
 //! Restricted character strings.
-ghost use Rattle.std.specs.Prelude.{◌≡◌, ◌⊎◌, ◌==◌, true, false, length, chars, Some, IfSome, IfNone, IfOk, OnOk, IfErr};
+ghost use Rattle.std.specs.Prelude.{◌≡◌, ◌⊎◌, ◌==◌, true, false, length, chars, Some, IfSome, IfNone, IfOk, OnOk};
+ghost use Rattle.std.specs.Prelude.{IfErr};
 ghost use Rattle.std.specs.Cmp.Lexicographic.{bytes_decides};
 ghost use Rattle.std.specs.List.{list_all};
 ghost use Rattle.std.specs.Str.{encode_utf8_all};
@@ -20,7 +21,8 @@ use std::alloc::Global;
 use std::fmt;
 use std::marker::PhantomData;
 
-/// A restricted character string (X.690, 8.23), kept as its content: characters of the set `S`, each in the same number of bytes.
+/// A restricted character string (X.690, 8.23), kept as its content: characters of the set `S`, each in the same number
+/// of bytes.
 ///
 /// It prints as its text if the set is one of Unicode.
 #[derive(Drop)]
@@ -57,8 +59,8 @@ pub type UniversalString = RestrictedString<Universal>;
 pub type BmpString = RestrictedString<Bmp>;
 
 impl<S: CharacterSet> RestrictedString<S> {
-    /// Returns the string with this content. `InvalidData` if the bytes aren't a whole number of characters, all in the set. `OutOfMemory`
-    /// if the allocation fails.
+    /// Returns the string with this content. `InvalidData` if the bytes aren't a whole number of characters, all in the
+    /// set. `OutOfMemory` if the allocation fails.
     pub fn from_bytes(alloc: Global, bytes: &[u8]) -> Result<RestrictedString<S>>
         ensures ok { IfOk result (λ it. it.content.items ≡ bytes.now) }
         ensures err { IfErr result (λ e. (e ≡ Asn1DerError.OutOfMemory)
@@ -105,7 +107,8 @@ impl<S: CharacterSet> RestrictedString<S> {
 }
 
 impl<S: Unicode> RestrictedString<S> {
-    /// Returns this text as a string of the set. `InvalidData` if a character isn't in the set, and `OutOfMemory` if an allocation fails.
+    /// Returns this text as a string of the set. `InvalidData` if a character isn't in the set, and `OutOfMemory` if an
+    /// allocation fails.
     pub fn from_str(alloc: Global, text: &str) -> Result<RestrictedString<S>>
         ensures ok { IfOk result (λ it. it.content.items
             ≡ string_content S.WIDTH (chars text.now)) }

@@ -14,8 +14,8 @@ use picky_der_core::misc::{ReadExt, WriteExt};
 use picky_der_de::{Begins, Deserialize, Deserializer};
 use picky_der_ser::{List, Serialize, Serializer};
 
-/// A SEQUENCE whose members have tags in ascending order (X.680, 8.6). The order is universal, application, context-specific, private, and
-/// by number within each class.
+/// A SEQUENCE whose members have tags in ascending order (X.680, 8.6). The order is universal, application,
+/// context-specific, private, and by number within each class.
 ///
 /// The order is computed when the program is checked: `ghost ordered = { refl };` is the whole implementation.
 pub trait TagOrdered: List + Deserialize {
@@ -23,11 +23,11 @@ pub trait TagOrdered: List + Deserialize {
     ghost ordered: { is_in_tag_order Self.shape ≡ true };
 }
 
-/// A SET of different members (X.690, 8.11) under the tag `TAG` instead of its own tag 31. Its members are the members of the struct `T`,
-/// which are in the order of their tags (10.3).
+/// A SET of different members (X.690, 8.11) under the tag `TAG` instead of its own tag 31. Its members are the members
+/// of the struct `T`, which are in the order of their tags (10.3).
 ///
-/// `TAG` is a whole identifier byte, with the same rules and errors as in `ImplicitList`. If the members of an input are in another order, the
-/// first one out of order is refused by its tag.
+/// `TAG` is a whole identifier byte, with the same rules and errors as in `ImplicitList`. If the members of an input
+/// are in another order, the first one out of order is refused by its tag.
 #[derive(Debug, Drop, PartialEq, Eq)]
 pub struct ImplicitSet<T, const TAG: u8>(pub T);
 

@@ -16,8 +16,8 @@ pub trait Size: Serialize {
     // The size of a value.
     ghost size: { Self → ℕ };
 
-    /// Returns how many bits, bytes, characters or members the value has. It is a `u128` because the number of bits may be above
-    /// `u64::MAX`.
+    /// Returns how many bits, bytes, characters or members the value has. It is a `u128` because the number of bits may
+    /// be above `u64::MAX`.
     fn size(&self) -> u128
         ensures { result ≡ size self.now };
 

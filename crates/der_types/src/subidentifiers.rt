@@ -1,11 +1,12 @@
 //! Numbers in base 128, which the contents of object identifiers consist of (X.690, 8.19.2).
 ghost use Rattle.std.specs.Prelude.{◌≡◌, ◌≤◌, ◌<◌, ◌+◌, ◌*◌, ◌^◌, ◌++◌, ◌∷◌, [], ℕ, min, OnOk, IfSome, IfNone};
-ghost use Rattle.der_types.specs.Subidentifiers.{marked, subidentifier, subidentifiers, is_subidentifiers, numbers_after};
+ghost use Rattle.der_types.specs.Subidentifiers.{marked, subidentifier, subidentifiers, is_subidentifiers};
+ghost use Rattle.der_types.specs.Subidentifiers.{numbers_after};
 
 use std::alloc::AllocError;
 
-/// Returns whether the bytes are one or more complete numbers, each in the fewest bytes (X.690, 8.19.2). The content of an OBJECT IDENTIFIER is
-/// such bytes, and so is that of a RELATIVE-OID.
+/// Returns whether the bytes are one or more complete numbers, each in the fewest bytes (X.690, 8.19.2). The content of
+/// an OBJECT IDENTIFIER is such bytes, and so is that of a RELATIVE-OID.
 pub fn is_subidentifiers(bytes: &[u8]) -> bool
     ensures { result ≡ is_subidentifiers bytes.now }
 {

@@ -20,8 +20,8 @@ use picky_der_de::{
 };
 use picky_der_ser::{Serialize, Serializer};
 
-/// A time of a certificate (RFC 5280, 4.1.2.5), as a CHOICE: a second of the years 1950 to 9999. Each has one form, by its year. Its
-/// order is that of time.
+/// A time of a certificate (RFC 5280, 4.1.2.5), as a CHOICE: a second of the years 1950 to 9999. Each has one form, by
+/// its year. Its order is that of time.
 #[derive(Debug, Clone, Copy, PartialEq, Eq, PartialOrd, Ord, Hash)]
 pub enum Time {
     /// A UTCTime: up to 2049.
@@ -110,9 +110,15 @@ impl Notated for Time {
 }
 
 impl Exact for Time {
-    ghost values = { choice_values ⟦<Parts as ExactAlternatives>⟧.chosen_values ⟦<Parts as NotatedAlternatives>⟧.alternatives_notation
+    ghost values = { choice_values ⟦<Parts as ExactAlternatives>⟧.chosen_values
+        ⟦<Parts as NotatedAlternatives>⟧.alternatives_notation
         ⟦<Parts as Alternatives>⟧.chosen ⟦<Self as Choice>⟧.parts
-        (elim [ This time ↦ (Utc time, refl) | Other (This time) ↦ (Generalized time, refl) | Other (Other none) ↦ elim none [ ] ]) };
+        (elim [
+          | This time ↦ (Utc time, refl)
+          | Other (This time) ↦ (Generalized time, refl)
+          | Other (Other none)
+              ↦ elim none [ ]
+        ]) };
 
     ghost exact = { Prim.assumption };
 }
@@ -126,5 +132,6 @@ impl Faithful for Time {
 }
 
 impl Inhabited for Time {
-    ghost example = { exact_example ⟦<Self as Exact>⟧.values ⟦<Self as Notated>⟧.notation ⟦<Self as Serialize>⟧.meaning refl Prim.assumption };
+    ghost example = { exact_example ⟦<Self as Exact>⟧.values ⟦<Self as Notated>⟧.notation ⟦<Self as Serialize>⟧.meaning refl
+        Prim.assumption };
 }

@@ -1,7 +1,9 @@
 //! The digits of times.
 ghost use Rattle.std.specs.Prelude.{◌≡◌, ◌+◌, ◌<◌, true, [], length};
 ghost use Rattle.der_types.specs.Calendar.{is_date, is_time_of_day};
-ghost use Rattle.der_types.specs.TimeContents.{are_digits_at, number_at, is_date_time_at, full_year, year_at_first, is_utc_time, are_whole_seconds, is_fraction, is_ended, is_generalized_time, is_later_time};
+ghost use Rattle.der_types.specs.TimeContents.{are_digits_at, number_at, is_date_time_at, full_year, year_at_first};
+ghost use Rattle.der_types.specs.TimeContents.{is_utc_time, are_whole_seconds, is_fraction, is_ended};
+ghost use Rattle.der_types.specs.TimeContents.{is_generalized_time, is_later_time};
 ghost use Rattle.der_types.specs.TimeLaws.{IsStamp};
 ghost use Rattle.der_types.specs.TimeValues.{generalized_content, IsReadAt};
 
@@ -26,7 +28,8 @@ pub(crate) fn number_at(bytes: &[u8], at: usize) -> u8
     (bytes[at] - b'0') * 10 + (bytes[at + 1] - b'0')
 }
 
-// Whether the ten bytes from here on are the month, the day, the hour, the minute and the second of a time of this year.
+// Whether the ten bytes from here on are the month, the day, the hour, the minute and the second of a time of this
+// year.
 fn is_date_time_at(bytes: &[u8], at: usize, year: u16) -> bool
     requires { at + 9 < length bytes.now }
     ensures { result ≡ is_date_time_at year bytes.now at }

@@ -1,4 +1,5 @@
-//! Tests for what no row of bytes covers: entry calls, a long content and texts. The rows of bytes are in the program `der_rows`.
+//! Tests for what no row of bytes covers: entry calls, a long content and texts. The rows of bytes are in the program
+//! `der_rows`.
 #![tactic(auto)]
 
 #[cfg(test)]

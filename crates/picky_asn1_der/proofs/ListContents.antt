@@ -17,5 +17,7 @@ present_list _ h = absurd h
 pub der-list_tree : (t : Tree) → IsListTree t → der t ≡ tlv (plain_tag t) (content t)
 der-list_tree t h = der-plain t (plain_list t h)
 
-pub der-implicit_list : (tag : ℕ) (t : Tree) → IsListTree t → der (Tree.wrapped (ImplicitList tag) t) ≡ tlv tag (content t)
-der-implicit_list tag t h = der-wrapped_present (ImplicitList tag) t (present_list t h) ∙ ap (tlv tag) (implicit_content-plain t (plain_list t h))
+pub der-implicit_list : (tag : ℕ) (t : Tree) → IsListTree t
+    → der (Tree.wrapped (ImplicitList tag) t) ≡ tlv tag (content t)
+der-implicit_list tag t h = der-wrapped_present (ImplicitList tag) t (present_list t h)
+    ∙ ap (tlv tag) (implicit_content-plain t (plain_list t h))

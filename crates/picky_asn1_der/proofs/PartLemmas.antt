@@ -1,5 +1,7 @@
 -- Parts of an encoding.
-use Rattle.std.proofs.Common.{◌≡◌, ℕ, zero, suc, ◌+◌, ◌-◌, ◌^◌, ◌<◌, ◌≤◌, true, List, [], ◌∷◌, ◌++◌, length, get_or, take, drop, refl, sym, ap, subst, ◌∙◌, arith, append_assoc, append-nil, length-append, length-drop, take-append-drop}
+use Rattle.std.proofs.Common.{◌≡◌, ℕ, zero, suc, ◌+◌, ◌-◌, ◌^◌, ◌<◌, ◌≤◌, true, List, [], ◌∷◌, ◌++◌, length, get_or}
+use Rattle.std.proofs.Common.{take, drop, refl, sym, ap, subst, ◌∙◌, arith, append_assoc, append-nil, length-append}
+use Rattle.std.proofs.Common.{length-drop, take-append-drop}
 use Rattle.std.specs.Prelude.{Option, Some, None, slice_range, option_and_then}
 use Rattle.std.specs.List.{AllByRecursion, concat}
 use Rattle.std.proofs.lemmas.List.{drop_all}
@@ -8,16 +10,20 @@ use Rattle.std.proofs.Math.Seq.{take-length, take-append_seam, drop-append_seam}
 use Rattle.picky_der_core.specs.Element.{length_octets, tlv, IsElement, IsPrefix}
 use Rattle.picky_der_core.specs.ElementLaws.{length_octets_prefix}
 use Rattle.picky_der_core.specs.declared.asn1.wrapper.Wrapper.{Wrapper}
-use Rattle.picky_der_core.specs.declared.asn1.wrapper.Wrapper.TheVariants.{OctetContainer, BitContainer, Explicit, Implicit, Application, ImplicitList}
+use Rattle.picky_der_core.specs.declared.asn1.wrapper.Wrapper.TheVariants.{OctetContainer, BitContainer, Explicit}
+use Rattle.picky_der_core.specs.declared.asn1.wrapper.Wrapper.TheVariants.{Implicit, Application, ImplicitList}
 use Rattle.picky_der_core.specs.Tree.{ListKind, Tree, Trees}
 use Rattle.picky_der_core.specs.Shape.{Shape, Layout, IsOf}
 use Rattle.picky_der_core.specs.Wrapper.{wrapper_tag}
 use Rattle.picky_der_core.specs.Encoding.{der, implicit_content, tree_bytes, encodings, content, list_tag}
-use Rattle.picky_der_core.specs.EncodingLaws.{der-plain, der-choice, der-wrapped_present, der-element, implicit_content-plain, implicit_content-other, is_absent-readable, list_content-in_order}
+use Rattle.picky_der_core.specs.EncodingLaws.{der-plain, der-choice, der-wrapped_present, der-element}
+use Rattle.picky_der_core.specs.EncodingLaws.{implicit_content-plain, implicit_content-other, is_absent-readable}
+use Rattle.picky_der_core.specs.EncodingLaws.{list_content-in_order}
 use Rattle.picky_der_core.specs.OpenWrappers.{wrapped_content}
 use Rattle.picky_der_core.specs.Readable.{IsReadable, AreReadable}
 use Rattle.picky_asn1_der.specs.declared.parts.Header.{Header}
-use Rattle.picky_asn1_der.specs.Parts.{tree_at, members_of, inside_wrapper, inside_implicit, part_at, HasMember, IsHeaderOf, IsPiece, has_first_member, first_member_of, WithoutTag}
+use Rattle.picky_asn1_der.specs.Parts.{tree_at, members_of, inside_wrapper, inside_implicit, part_at, HasMember}
+use Rattle.picky_asn1_der.specs.Parts.{IsHeaderOf, IsPiece, has_first_member, first_member_of, WithoutTag}
 
 -- ---- headers
 
@@ -31,18 +37,27 @@ module _ (bytes : List ℕ) (tag : ℕ) (content rest : List ℕ) (is : bytes �
   split = is ∙ ap (λ s. tag ∷ s) (append_assoc (length_octets (length content)) content rest)
 
   pub content_small : length bytes < 2 ^ 64 → length content < 2 ^ 64
-  content_small h = omega (arith, ap length split, length-append (length_octets (length content)) (content ++ rest), length-append content rest)
+  content_small h = omega (
+    arith,
+    ap length split,
+    length-append (length_octets (length content)) (content ++ rest),
+    length-append content rest,
+  )
 
-  pub after_tag : 1 ≤ length bytes → slice_range bytes 1 (length bytes) ≡ length_octets (length content) ++ (content ++ rest)
+  pub after_tag : 1 ≤ length bytes
+      → slice_range bytes 1 (length bytes) ≡ length_octets (length content) ++ (content ++ rest)
   after_tag some =
-      let e : get_or bytes 0 0 ∷ slice_range bytes 1 (length bytes) ≡ tag ∷ (length_octets (length content) ++ (content ++ rest)) = sym (first_rest bytes 0 some) ∙ split in
+      let e : get_or bytes 0 0 ∷ slice_range bytes 1 (length bytes)
+      ≡ tag ∷ (length_octets (length content) ++ (content ++ rest)) = sym (first_rest bytes 0 some) ∙ split in
       cc
 
   pub some_length : 1 ≤ length bytes → length bytes < 2 ^ 64
       → ((n : ℕ) → n < 2 ^ 64 → IsPrefix (length_octets n) (slice_range bytes 1 (length bytes)) → ⊥) → ⊥
-  some_length some small none = none (length content) (content_small small) (record { rest = content ++ rest; is = after_tag some })
+  some_length some small none =
+      none (length content) (content_small small) (record { rest = content ++ rest; is = after_tag some })
 
-  module _ (some : 1 ≤ length bytes) (n : ℕ) (left : List ℕ) (read : slice_range bytes 1 (length bytes) ≡ length_octets n ++ left) where
+  module _ (some : 1 ≤ length bytes) (n : ℕ) (left : List ℕ) (read : slice_range bytes 1 (length bytes)
+      ≡ length_octets n ++ left) where
     parts : (n ≡ length content) × (left ≡ content ++ rest)
     parts = length_octets_prefix n (length content) left (content ++ rest) (sym read ∙ after_tag some)
 
@@ -51,13 +66,20 @@ module _ (bytes : List ℕ) (tag : ℕ) (content rest : List ℕ) (is : bytes �
 
     pub header_found : (h : Header) → h.len ≡ length bytes - length left → h.content_len ≡ n → IsHeaderOf content h
     header_found h len content_len = record {
-      len = omega (arith, len, ap length split, length-append (length_octets (length content)) (content ++ rest), ap length parts.1);
+      len = omega (
+        arith,
+        len,
+        ap length split,
+        length-append (length_octets (length content)) (content ++ rest),
+        ap length parts.1,
+      );
       content_len = content_len ∙ parts.0;
     }
 
 -- ---- elements
 
-length-element : (tag : ℕ) (content : List ℕ) → length (tlv tag content) ≡ 1 + length (length_octets (length content)) + length content
+length-element : (tag : ℕ) (content : List ℕ)
+    → length (tlv tag content) ≡ 1 + length (length_octets (length content)) + length content
 unfolding tlv
 length-element tag content = omega (arith, length-append (length_octets (length content)) content)
 
@@ -65,8 +87,10 @@ range_to_end : (bytes : List ℕ) (k : ℕ) → slice_range bytes k (length byte
 range_to_end bytes k = ap (λ n. take n (drop k bytes)) (sym (length-drop k bytes)) ∙ take-length (drop k bytes)
 
 -- the header of an element at the front says where this ends
-pub element_ends : (element content : List ℕ) (tag : ℕ) (h : Header) → element ≡ tlv tag content → IsHeaderOf content h → h.len + h.content_len ≡ length element
-element_ends element content tag h is header = omega (arith, header.len, header.content_len, ap length is, length-element tag content)
+pub element_ends : (element content : List ℕ) (tag : ℕ) (h : Header) → element ≡ tlv tag content → IsHeaderOf content h
+    → h.len + h.content_len ≡ length element
+element_ends element content tag h is header =
+    omega (arith, header.len, header.content_len, ap length is, length-element tag content)
 
 module _ (element rest bytes : List ℕ) (n : ℕ) (is : bytes ≡ element ++ rest) (size : n ≡ length element) where
   pub front_is : take n bytes ≡ element
@@ -76,7 +100,8 @@ module _ (element rest bytes : List ℕ) (n : ℕ) (is : bytes ≡ element ++ re
   back_is = ap (λ k. drop k bytes) size ∙ ap (drop (length element)) is ∙ drop-append_seam element rest
 
 -- what is after the header of an element is its content
-pub content_is : (element content : List ℕ) (tag : ℕ) (h : Header) → element ≡ tlv tag content → IsHeaderOf content h → drop h.len element ≡ content
+pub content_is : (element content : List ℕ) (tag : ℕ) (h : Header) → element ≡ tlv tag content → IsHeaderOf content h
+    → drop h.len element ≡ content
 unfolding tlv
 content_is element content tag h is header =
     back_is (tag ∷ length_octets (length content)) content element h.len is (omega (arith, header.len))
@@ -85,7 +110,8 @@ content_is element content tag h is header =
 
 -- what a loop knows that has skipped so many members
 pub record Skips (element : List ℕ) (index i : ℕ) (rest : List ℕ) : Type 0 where
-  pub found : (tag : ℕ) (content member : List ℕ) → element ≡ tlv tag content → HasMember index content member → HasMember (index - i) rest member
+  pub found : (tag : ℕ) (content member : List ℕ) → element ≡ tlv tag content → HasMember index content member
+      → HasMember (index - i) rest member
   pub front : List ℕ
   pub is : element ≡ front ++ rest
 
@@ -93,11 +119,13 @@ pub record Skips (element : List ℕ) (index i : ℕ) (rest : List ℕ) : Type 0
 abbrev pub FirstOf : ℕ → List ℕ → List ℕ → Type 0
 FirstOf n bytes member = (e more : List ℕ) × IsElement e × (bytes ≡ e ++ more) × HasMember (n - 1) more member
 
-first_of : (n : ℕ) (bytes member : List ℕ) → 0 < n → (before : List (List ℕ)) (has : HasMember n bytes member) → before ≡ has.before → FirstOf n bytes member
+first_of : (n : ℕ) (bytes member : List ℕ) → 0 < n → (before : List (List ℕ)) (has : HasMember n bytes member)
+    → before ≡ has.before → FirstOf n bytes member
 first_of n bytes member some [] has e = absurd (omega (arith, has.count, ap length e))
 first_of n bytes member some (b ∷ before) has e =
     let all : AllByRecursion IsElement (b ∷ before) = subst (AllByRecursion IsElement) (sym e) has.elements in
-    let is : bytes ≡ concat (b ∷ before) ++ (member ++ concat has.after) = has.is ∙ ap (λ ms. concat ms ++ (member ++ concat has.after)) (sym e) in (
+    let is : bytes ≡ concat (b ∷ before) ++ (member ++ concat has.after) =
+    has.is ∙ ap (λ ms. concat ms ++ (member ++ concat has.after)) (sym e) in (
       b,
       concat before ++ (member ++ concat has.after),
       all.0,
@@ -115,18 +143,22 @@ first_of n bytes member some (b ∷ before) has e =
 pub first_member : (n : ℕ) (bytes member : List ℕ) → 0 < n → HasMember n bytes member → FirstOf n bytes member
 first_member n bytes member some has = first_of n bytes member some has.before has refl
 
-last_of : (bytes member : List ℕ) (before : List (List ℕ)) (has : HasMember 0 bytes member) → before ≡ has.before → (more : List ℕ) × (bytes ≡ member ++ more)
-last_of bytes member [] has e = (concat has.after, has.is ∙ ap (λ ms. concat ms ++ (member ++ concat has.after)) (sym e))
+last_of : (bytes member : List ℕ) (before : List (List ℕ)) (has : HasMember 0 bytes member) → before ≡ has.before
+    → (more : List ℕ) × (bytes ≡ member ++ more)
+last_of bytes member [] has e =
+    (concat has.after, has.is ∙ ap (λ ms. concat ms ++ (member ++ concat has.after)) (sym e))
 last_of bytes member (b ∷ before) has e = absurd (omega (arith, has.count, ap length e))
 
 pub at_member : (bytes member : List ℕ) → HasMember 0 bytes member → (more : List ℕ) × (bytes ≡ member ++ more)
 at_member bytes member has = last_of bytes member has.before has refl
 
 module _ (element : List ℕ) (index : ℕ) where
-  pub none_skipped : (h : Header) → ((tag : ℕ) (content rest : List ℕ) → element ≡ tlv tag content ++ rest → IsHeaderOf content h) → Skips element index 0 (slice_range element h.len (length element))
+  pub none_skipped : (h : Header) → ((tag : ℕ) (content rest : List ℕ) → element ≡ tlv tag content ++ rest
+      → IsHeaderOf content h) → Skips element index 0 (slice_range element h.len (length element))
   none_skipped h header = subst (Skips element index 0) (sym (range_to_end element h.len)) (record {
     found = λ tag content member is has.
-        let same = content_is element content tag h is (header tag content [] (is ∙ sym (append-nil (tlv tag content)))) in
+        let same = content_is element content tag h is
+        (header tag content [] (is ∙ sym (append-nil (tlv tag content)))) in
         let all : index ≡ index - 0 = omega arith in
         subst (λ n. HasMember n (drop h.len element) member) all (subst (λ b. HasMember index b member) (sym same) has);
     front = take h.len element;
@@ -135,41 +167,53 @@ module _ (element : List ℕ) (index : ℕ) where
 
   module _ (i : ℕ) (rest : List ℕ) (s : Skips element index i rest) where
     -- one that could be there is found
-    pub one_more : (pair : List ℕ × List ℕ) → i < index → ((e more : List ℕ) → IsElement e → rest ≡ e ++ more → (pair.0 ≡ e) × (pair.1 ≡ more)) → rest ≡ pair.0 ++ pair.1
+    pub one_more : (pair : List ℕ × List ℕ) → i < index
+        → ((e more : List ℕ) → IsElement e → rest ≡ e ++ more → (pair.0 ≡ e) × (pair.1 ≡ more))
+        → rest ≡ pair.0 ++ pair.1
         → Skips element index (i + 1) pair.1
     one_more pair less splits all = record {
       found = λ tag content member is has.
           let first = first_member (index - i) rest member (omega arith) (s.found tag content member is has) in
           let same = (splits first.0 first.1 first.2 first.3).1 in
           let next : index - i - 1 ≡ index - (i + 1) = omega arith in
-          subst (λ n. HasMember n pair.1 member) next (subst (λ b. HasMember (index - i - 1) b member) (sym same) first.4);
+          subst (λ n. HasMember n pair.1 member) next
+          (subst (λ b. HasMember (index - i - 1) b member) (sym same) first.4);
       front = s.front ++ pair.0;
       is = s.is ∙ ap (λ b. s.front ++ b) all ∙ sym (append_assoc s.front pair.0 pair.1);
     }
 
-    pub some_more : i < index → ((e more : List ℕ) → IsElement e → rest ≡ e ++ more → ⊥) → (tag : ℕ) (content member : List ℕ) → element ≡ tlv tag content → HasMember index content member → ⊥
+    pub some_more : i < index → ((e more : List ℕ) → IsElement e → rest ≡ e ++ more → ⊥)
+        → (tag : ℕ) (content member : List ℕ) → element ≡ tlv tag content → HasMember index content member → ⊥
     some_more less none tag content member is has =
         let first = first_member (index - i) rest member (omega arith) (s.found tag content member is has) in
         none first.0 first.1 first.2 first.3
 
-    reached : index ≤ i → (tag : ℕ) (content member : List ℕ) → element ≡ tlv tag content → HasMember index content member → IsElement member × (more : List ℕ) × (rest ≡ member ++ more)
+    reached : index ≤ i → (tag : ℕ) (content member : List ℕ) → element ≡ tlv tag content
+        → HasMember index content member → IsElement member × (more : List ℕ) × (rest ≡ member ++ more)
     reached here tag content member is has =
         let none : index - i ≡ 0 = omega arith in
-        let at : HasMember 0 rest member = subst (λ n. HasMember n rest member) none (s.found tag content member is has) in
+        let at : HasMember 0 rest member =
+        subst (λ n. HasMember n rest member) none (s.found tag content member is has) in
         let ahead = at_member rest member at in
         (at.element, ahead.0, ahead.1)
 
-    pub member_there : index ≤ i → ((e more : List ℕ) → IsElement e → rest ≡ e ++ more → ⊥) → (tag : ℕ) (content member : List ℕ) → element ≡ tlv tag content → HasMember index content member → ⊥
-    member_there here none tag content member is has = let r = reached here tag content member is has in none member r.1 r.0 r.2
+    pub member_there : index ≤ i → ((e more : List ℕ) → IsElement e → rest ≡ e ++ more → ⊥)
+        → (tag : ℕ) (content member : List ℕ) → element ≡ tlv tag content → HasMember index content member → ⊥
+    member_there here none tag content member is has = let r = reached here tag content member is has in
+        none member r.1 r.0 r.2
 
-    pub member_is : index ≤ i → (pair : List ℕ × List ℕ) → ((e more : List ℕ) → IsElement e → rest ≡ e ++ more → (pair.0 ≡ e) × (pair.1 ≡ more))
-        → (tag : ℕ) (content member : List ℕ) → element ≡ tlv tag content → HasMember index content member → pair.0 ≡ member
-    member_is here pair splits tag content member is has = let r = reached here tag content member is has in (splits member r.1 r.0 r.2).0
+    pub member_is : index ≤ i → (pair : List ℕ × List ℕ)
+        → ((e more : List ℕ) → IsElement e → rest ≡ e ++ more → (pair.0 ≡ e) × (pair.1 ≡ more))
+        → (tag : ℕ) (content member : List ℕ) → element ≡ tlv tag content → HasMember index content member
+        → pair.0 ≡ member
+    member_is here pair splits tag content member is has = let r = reached here tag content member is has in
+        (splits member r.1 r.0 r.2).0
 
     pub rest_within : length rest ≤ length element
     rest_within = omega (arith, ap length s.is, length-append s.front rest)
 
-    pub member_piece : (pair : List ℕ × List ℕ) → rest ≡ pair.0 ++ pair.1 → IsPiece element (length element - length rest) pair.0
+    pub member_piece : (pair : List ℕ × List ℕ) → rest ≡ pair.0 ++ pair.1
+        → IsPiece element (length element - length rest) pair.0
     member_piece pair all = record {
       before = s.front;
       after = pair.1;
@@ -200,17 +244,25 @@ list_holds kind ts r = record {
   readable = r.1;
 }
 
-holds_one : (tag : ℕ) (t : Tree) (bytes content : List ℕ) → IsReadable t → bytes ≡ tlv tag content → content ≡ der t → Holds bytes (Trees.more t Trees.none)
-holds_one tag t bytes content r is e = record { tag = tag; is = is ∙ ap (tlv tag) (e ∙ sym (one_tree t)); readable = (r, tt) }
+holds_one : (tag : ℕ) (t : Tree) (bytes content : List ℕ) → IsReadable t → bytes ≡ tlv tag content → content ≡ der t
+    → Holds bytes (Trees.more t Trees.none)
+holds_one tag t bytes content r is e = record {
+  tag = tag;
+  is = is ∙ ap (tlv tag) (e ∙ sym (one_tree t));
+  readable =
+      (r, tt);
+}
 
-implicit_holds : (tag : ℕ) (t : Tree) (bytes : List ℕ) → IsReadable t → bytes ≡ tlv tag (implicit_content t) → (ts : Trees) → inside_implicit t ≡ Some ts → Holds bytes ts
+implicit_holds : (tag : ℕ) (t : Tree) (bytes : List ℕ) → IsReadable t → bytes ≡ tlv tag (implicit_content t)
+    → (ts : Trees) → inside_implicit t ≡ Some ts → Holds bytes ts
 implicit_holds tag (Tree.list kind us) bytes r is ts e =
     let same : us ≡ ts = cc in
     let content = implicit_content-plain (Tree.list kind us) refl ∙ list_content-in_order kind (encodings us) r.0 in
     subst (Holds bytes) same (record { tag = tag; is = is ∙ ap (tlv tag) content; readable = r.1 })
 implicit_holds tag (Tree.wrapped w t) bytes r is ts e =
     let same : Trees.more (Tree.wrapped w t) Trees.none ≡ ts = cc in
-    subst (Holds bytes) same (holds_one tag (Tree.wrapped w t) bytes _ r is (implicit_content-other (Tree.wrapped w t) refl tt))
+    subst (Holds bytes) same
+    (holds_one tag (Tree.wrapped w t) bytes _ r is (implicit_content-other (Tree.wrapped w t) refl tt))
 implicit_holds tag (Tree.raw s) bytes r is ts e =
     let same : Trees.more (Tree.raw s) Trees.none ≡ ts = cc in
     subst (Holds bytes) same (holds_one tag (Tree.raw s) bytes _ r is (implicit_content-other (Tree.raw s) refl tt))
@@ -218,23 +270,30 @@ implicit_holds tag (Tree.primitive p) bytes r is ts e = cc
 implicit_holds tag (Tree.choice t) bytes r is ts e = cc
 implicit_holds tag Tree.absent bytes r is ts e = cc
 
-wrapper_holds : (w : Wrapper) (t : Tree) (bytes : List ℕ) → IsReadable t → bytes ≡ tlv (wrapper_tag w) (wrapped_content w t) → (ts : Trees) → inside_wrapper w t ≡ Some ts → Holds bytes ts
-wrapper_holds OctetContainer t bytes r is ts e = let same : Trees.more t Trees.none ≡ ts = cc in subst (Holds bytes) same (holds_one 0x04 t bytes _ r is refl)
+wrapper_holds : (w : Wrapper) (t : Tree) (bytes : List ℕ) → IsReadable t
+    → bytes ≡ tlv (wrapper_tag w) (wrapped_content w t) → (ts : Trees) → inside_wrapper w t ≡ Some ts → Holds bytes ts
+wrapper_holds OctetContainer t bytes r is ts e = let same : Trees.more t Trees.none ≡ ts = cc in
+    subst (Holds bytes) same (holds_one 0x04 t bytes _ r is refl)
 wrapper_holds BitContainer t bytes r is ts e = cc
-wrapper_holds (Explicit n) t bytes r is ts e = let same : Trees.more t Trees.none ≡ ts = cc in subst (Holds bytes) same (holds_one (0xA0 + n) t bytes _ r is refl)
+wrapper_holds (Explicit n) t bytes r is ts e = let same : Trees.more t Trees.none ≡ ts = cc in
+    subst (Holds bytes) same (holds_one (0xA0 + n) t bytes _ r is refl)
 wrapper_holds (Implicit n) t bytes r is ts e = implicit_holds (0x80 + n) t bytes r is ts e
-wrapper_holds (Application n) t bytes r is ts e = let same : Trees.more t Trees.none ≡ ts = cc in subst (Holds bytes) same (holds_one (0x60 + n) t bytes _ r is refl)
+wrapper_holds (Application n) t bytes r is ts e = let same : Trees.more t Trees.none ≡ ts = cc in
+    subst (Holds bytes) same (holds_one (0x60 + n) t bytes _ r is refl)
 wrapper_holds (ImplicitList tag) t bytes r is ts e = implicit_holds tag t bytes r is ts e
 
 members_held : (t : Tree) → IsReadable t → (ts : Trees) → members_of t ≡ Some ts → Holds (der t) ts
-members_held (Tree.list kind us) r ts e = let same : us ≡ ts = cc in subst (Holds (der (Tree.list kind us))) same (list_holds kind us r)
-members_held (Tree.wrapped w t) r ts e = wrapper_holds w t (der (Tree.wrapped w t)) r.2 (der-wrapped_present w t (is_absent-readable t r.2)) ts e
+members_held (Tree.list kind us) r ts e = let same : us ≡ ts = cc in
+    subst (Holds (der (Tree.list kind us))) same (list_holds kind us r)
+members_held (Tree.wrapped w t) r ts e =
+    wrapper_holds w t (der (Tree.wrapped w t)) r.2 (der-wrapped_present w t (is_absent-readable t r.2)) ts e
 members_held (Tree.choice t) r ts e = subst (λ b. Holds b ts) (sym (der-choice t)) (members_held t r ts e)
 members_held (Tree.primitive p) r ts e = cc
 members_held (Tree.raw s) r ts e = cc
 members_held Tree.absent r ts e = cc
 
-tree_found : (n : ℕ) (ts : Trees) (u : Tree) → AreReadable ts → tree_at n ts ≡ Some u → HasMember n (concat (encodings ts)) (der u) × IsReadable u
+tree_found : (n : ℕ) (ts : Trees) (u : Tree) → AreReadable ts → tree_at n ts ≡ Some u
+    → HasMember n (concat (encodings ts)) (der u) × IsReadable u
 tree_found n Trees.none u r e = cc
 tree_found zero (Trees.more t ts) u r e =
     let same : t ≡ u = cc in
@@ -258,20 +317,23 @@ tree_found (suc n) (Trees.more t ts) u r e =
         elements = (der-element t r.0, has.elements);
         element = has.element;
         count = ap suc has.count;
-        is = ap concat (encodings_more t ts) ∙ ap (λ b. der t ++ b) has.is ∙ sym (append_assoc (der t) (concat has.before) (der u ++ concat has.after));
+        is = ap concat (encodings_more t ts) ∙ ap (λ b. der t ++ b) has.is
+            ∙ sym (append_assoc (der t) (concat has.before) (der u ++ concat has.after));
       },
       later.1,
     )
 
 -- ---- parts at a path
 
-and_then_some : {A B : Type 0} (o : Option A) (f : A → Option B) (b : B) → option_and_then f o ≡ Some b → (a : A) × (o ≡ Some a) × (f a ≡ Some b)
+and_then_some : {A B : Type 0} (o : Option A) (f : A → Option B) (b : B) → option_and_then f o ≡ Some b
+    → (a : A) × (o ≡ Some a) × (f a ≡ Some b)
 and_then_some None f b e = cc
 and_then_some (Some a) f b e = (a, refl, e)
 
 -- what a loop over a path knows after so many steps
 pub record Descends (encoding path : List ℕ) (i start : ℕ) (part : List ℕ) : Type 0 where
-  pub found : (t u : Tree) → IsReadable t → encoding ≡ der t → part_at path t ≡ Some u → (v : Tree) × IsReadable v × (part ≡ der v) × (part_at (drop i path) v ≡ Some u)
+  pub found : (t u : Tree) → IsReadable t → encoding ≡ der t → part_at path t ≡ Some u
+      → (v : Tree) × IsReadable v × (part ≡ der v) × (part_at (drop i path) v ≡ Some u)
   pub piece : IsPiece encoding start part
 
 pub at_start : (encoding path : List ℕ) → Descends encoding path 0 0 encoding
@@ -284,23 +346,28 @@ module _ (encoding path : List ℕ) (i start : ℕ) (part : List ℕ) (d : Desce
   module _ (index : ℕ) (here : drop i path ≡ index ∷ drop (i + 1) path) where
     -- the member to which the path leads
     next_part : (t u : Tree) → IsReadable t → encoding ≡ der t → part_at path t ≡ Some u
-        → (w : Tree) × IsReadable w × (part_at (drop (i + 1) path) w ≡ Some u) × (tag : ℕ) × (content : List ℕ) × (part ≡ tlv tag content) × HasMember index content (der w)
+        → (w : Tree) × IsReadable w × (part_at (drop (i + 1) path) w ≡ Some u) × (tag : ℕ) × (content : List ℕ)
+        × (part ≡ tlv tag content) × HasMember index content (der w)
     next_part t u r is e =
         let now = d.found t u r is e in
         let v = now.0 in
-        let goes : option_and_then (part_at (drop (i + 1) path)) (option_and_then (tree_at index) (members_of v)) ≡ Some u = subst (λ p. part_at p v ≡ Some u) here now.3 in
+        let goes : option_and_then (part_at (drop (i + 1) path)) (option_and_then (tree_at index) (members_of v))
+        ≡ Some u = subst (λ p. part_at p v ≡ Some u) here now.3 in
         let to = and_then_some (option_and_then (tree_at index) (members_of v)) (part_at (drop (i + 1) path)) u goes in
         let from = and_then_some (members_of v) (tree_at index) to.0 to.1 in
         let held = members_held v now.1 from.0 from.1 in
         let there = tree_found index from.0 to.0 held.readable from.2 in
         (to.0, there.1, to.2, held.tag, concat (encodings from.0), now.2 ∙ held.is, there.0)
 
-    pub no_next : ((tag : ℕ) (content member : List ℕ) → part ≡ tlv tag content → HasMember index content member → ⊥) → (t u : Tree) → IsReadable t → encoding ≡ der t → part_at path t ≡ Some u → ⊥
+    pub no_next : ((tag : ℕ) (content member : List ℕ) → part ≡ tlv tag content → HasMember index content member → ⊥)
+        → (t u : Tree) → IsReadable t → encoding ≡ der t → part_at path t ≡ Some u → ⊥
     no_next none t u r is e =
         let next = next_part t u r is e in
         none next.3 next.4 (der next.0) next.5 next.6
 
-    pub goes_down : (before : ℕ) (member : List ℕ) → ((tag : ℕ) (content m : List ℕ) → part ≡ tlv tag content → HasMember index content m → member ≡ m) → IsPiece part before member
+    pub goes_down : (before : ℕ) (member : List ℕ)
+        → ((tag : ℕ) (content m : List ℕ) → part ≡ tlv tag content → HasMember index content m → member ≡ m)
+        → IsPiece part before member
         → Descends encoding path (i + 1) (start + before) member
     goes_down before member found inner = record {
       found = λ t u r is e.
@@ -310,7 +377,8 @@ module _ (encoding path : List ℕ) (i start : ℕ) (part : List ℕ) (d : Desce
         before = d.piece.before ++ inner.before;
         after = inner.after ++ d.piece.after;
         count = omega (arith, length-append d.piece.before inner.before, d.piece.count, inner.count);
-        is = d.piece.is ∙ ap (λ b. d.piece.before ++ (b ++ d.piece.after)) inner.is ∙ pieces d.piece.before inner.before member inner.after d.piece.after;
+        is = d.piece.is ∙ ap (λ b. d.piece.before ++ (b ++ d.piece.after)) inner.is
+            ∙ pieces d.piece.before inner.before member inner.after d.piece.after;
       };
     }
       where
@@ -318,7 +386,13 @@ module _ (encoding path : List ℕ) (i start : ℕ) (part : List ℕ) (d : Desce
         pieces a b m c e = simp append_assoc
 
   pub piece_within : start + length part ≤ length encoding
-  piece_within = omega (arith, ap length d.piece.is, length-append d.piece.before (part ++ d.piece.after), length-append part d.piece.after, d.piece.count)
+  piece_within = omega (
+    arith,
+    ap length d.piece.is,
+    length-append d.piece.before (part ++ d.piece.after),
+    length-append part d.piece.after,
+    d.piece.count,
+  )
 
   piece_is : slice_range encoding start (start + length part) ≡ part
   piece_is =
@@ -326,7 +400,8 @@ module _ (encoding path : List ℕ) (i start : ℕ) (part : List ℕ) (d : Desce
       let front = back_is d.piece.before (part ++ d.piece.after) encoding start d.piece.is (sym d.piece.count) in
       ap (λ k. take k (drop start encoding)) size ∙ ap (take (length part)) front ∙ take-append_seam part d.piece.after
 
-  pub arrives : length path ≤ i → (t u : Tree) → IsReadable t → encoding ≡ der t → part_at path t ≡ Some u → slice_range encoding start (start + length part) ≡ der u
+  pub arrives : length path ≤ i → (t u : Tree) → IsReadable t → encoding ≡ der t → part_at path t ≡ Some u
+      → slice_range encoding start (start + length part) ≡ der u
   arrives ended t u r is e =
       let now = d.found t u r is e in
       let nothing : drop i path ≡ [] = drop_all i path ended in
@@ -336,12 +411,14 @@ module _ (encoding path : List ℕ) (i start : ℕ) (part : List ℕ) (d : Desce
 
 -- ---- first members
 
-list_first : (kind : ListKind) (s : Shape) (l : Layout) (t : Tree) → IsOf (Shape.fields kind (Layout.required s l)) t → part_at (0 ∷ []) t ≡ Some (first_member_of t)
+list_first : (kind : ListKind) (s : Shape) (l : Layout) (t : Tree) → IsOf (Shape.fields kind (Layout.required s l)) t
+    → part_at (0 ∷ []) t ≡ Some (first_member_of t)
 list_first kind s l (Tree.list x (Trees.more u us)) h = refl
 list_first kind s l (Tree.list x Trees.none) h = absurd h.1
 list_first kind s l _ h = absurd h
 
-pub first_part : (s : Shape) (t : Tree) → has_first_member s ≡ true → IsOf s t → part_at (0 ∷ []) t ≡ Some (first_member_of t)
+pub first_part : (s : Shape) (t : Tree) → has_first_member s ≡ true → IsOf s t
+    → part_at (0 ∷ []) t ≡ Some (first_member_of t)
 first_part (Shape.fields kind (Layout.required s l)) t e h = list_first kind s l t h
 first_part (Shape.fields kind _) t e h = cc
 first_part _ t e h = cc
@@ -353,5 +430,6 @@ unfolding tlv
 without_tag tag kind ts =
     let t = Tree.list kind ts in
     let listed : der t ≡ tlv (list_tag kind) (content t) = der-plain t refl in
-    let tagged : der (Tree.wrapped (ImplicitList tag) t) ≡ tlv tag (implicit_content t) = der-wrapped_present (ImplicitList tag) t refl in
+    let tagged : der (Tree.wrapped (ImplicitList tag) t) ≡ tlv tag (implicit_content t) =
+    der-wrapped_present (ImplicitList tag) t refl in
     ap (drop 1) (tagged ∙ ap (tlv tag) (implicit_content-plain t refl)) ∙ sym (ap (drop 1) listed)

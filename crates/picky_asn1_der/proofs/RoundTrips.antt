@@ -1,5 +1,6 @@
 -- What is written of a readable value is read again.
-use Rattle.std.proofs.Common.{◌≡◌, ◌≢◌, ℕ, ◌^◌, ◌<◌, ◌≤◌, List, [], ◌++◌, length, Bool, sym, ap, ◌∙◌, arith, append-nil, length-append}
+use Rattle.std.proofs.Common.{◌≡◌, ◌≢◌, ℕ, ◌^◌, ◌<◌, ◌≤◌, List, [], ◌++◌, length, Bool, sym, ap, ◌∙◌, arith, append-nil}
+use Rattle.std.proofs.Common.{length-append}
 use Rattle.picky_der_core.specs.declared.error.Asn1DerError.{Asn1DerError}
 use Rattle.picky_der_core.specs.declared.error.Asn1DerError.TheVariants.{OutOfMemory}
 use Rattle.picky_der_core.specs.Tree.{Tree}
@@ -11,7 +12,9 @@ use Rattle.picky_der_core.specs.Reading.{ReadsFrom}
 use Rattle.picky_der_ser.specs.Calls.{MemoryExcuse}
 use Rattle.picky_der_de.specs.Facts.{Facts, Proved, is_lawful}
 
-pub reads_encoding : {V : Type 0} {meaning : V → Tree} {eq : V → V → Bool} {s : Shape} (facts : Facts V s) → Proved facts meaning eq → (v : V) (bytes : List ℕ) → IsReadable (meaning v) → bytes ≡ der (meaning v) → ReadsFrom meaning s bytes (length bytes) v
+pub reads_encoding : {V : Type 0} {meaning : V → Tree} {eq : V → V → Bool} {s : Shape} (facts : Facts V s)
+    → Proved facts meaning eq → (v : V) (bytes : List ℕ) → IsReadable (meaning v) → bytes ≡ der (meaning v)
+    → ReadsFrom meaning s bytes (length bytes) v
 reads_encoding {meaning = meaning} facts proved v bytes readable is = record {
   of_shape = (is_lawful facts proved).has_shape v readable;
   readable = readable;
@@ -21,6 +24,9 @@ reads_encoding {meaning = meaning} facts proved v bytes readable is = record {
 }
 
 -- a value that was read can be written, but for an allocation that fails
-pub read_is_written : {V : Type 0} (meaning : V → Tree) {s : Shape} (bytes : List ℕ) {v : V} {e : Asn1DerError} → length bytes < 2 ^ 64 → ReadsFrom meaning s bytes (length bytes) v → MemoryExcuse (IsWritable (meaning v)) e → e ≢ OutOfMemory → ⊥
+pub read_is_written : {V : Type 0} (meaning : V → Tree) {s : Shape} (bytes : List ℕ) {v : V} {e : Asn1DerError}
+    → length bytes < 2 ^ 64 → ReadsFrom meaning s bytes (length bytes) v → MemoryExcuse (IsWritable (meaning v)) e
+    → e ≢ OutOfMemory → ⊥
 read_is_written meaning bytes small h (MemoryExcuse.no_room is) other = other is
-read_is_written meaning bytes {v = v} small h (MemoryExcuse.no_way is impossible) other = impossible (readable-writable (meaning v) h.readable (omega (arith, small, h.within)))
+read_is_written meaning bytes {v = v} small h (MemoryExcuse.no_way is impossible) other =
+    impossible (readable-writable (meaning v) h.readable (omega (arith, small, h.within)))

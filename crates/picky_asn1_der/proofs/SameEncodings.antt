@@ -8,8 +8,10 @@ use Rattle.picky_der_core.specs.Shape.{Shape}
 use Rattle.picky_der_core.specs.Tree.{Tree}
 use Rattle.picky_der_de.specs.Facts.{Facts, Proved, is_lawful}
 
-module _ {V : Type 0} {meaning : V → Tree} {eq : V → V → Bool} {s : Shape} (known : Facts V s) (proved : Proved known meaning eq) where
-  pub equal_encodings : ((x y : V) → eq x y ≡ true → meaning x ≡ meaning y) → (x y : V) → IsReadable (meaning x) → IsReadable (meaning y)
+module _ {V : Type 0} {meaning : V → Tree} {eq : V → V → Bool} {s : Shape} (known : Facts V s)
+    (proved : Proved known meaning eq) where
+  pub equal_encodings : ((x y : V) → eq x y ≡ true → meaning x ≡ meaning y) → (x y : V) → IsReadable (meaning x)
+      → IsReadable (meaning y)
       → (eq x y ≡ true) ↔ (der (meaning x) ≡ der (meaning y))
   equal_encodings respects x y r q = (
     λ h. ap der (respects x y h),

@@ -1,8 +1,10 @@
 -- Parts of an encoding, each found by a path from the whole.
-use Rattle.std.specs.Prelude.{◌≡◌, ℕ, zero, suc, ◌+◌, List, [], ◌∷◌, ◌++◌, length, drop, Bool, true, false, Option, Some, None, option_and_then}
+use Rattle.std.specs.Prelude.{◌≡◌, ℕ, zero, suc, ◌+◌, List, [], ◌∷◌, ◌++◌, length, drop, Bool, true, false, Option}
+use Rattle.std.specs.Prelude.{Some, None, option_and_then}
 use Rattle.std.specs.List.{AllByRecursion, concat}
 use Rattle.picky_der_core.specs.declared.asn1.wrapper.Wrapper.{Wrapper}
-use Rattle.picky_der_core.specs.declared.asn1.wrapper.Wrapper.TheVariants.{OctetContainer, BitContainer, Explicit, Implicit, Application, ImplicitList}
+use Rattle.picky_der_core.specs.declared.asn1.wrapper.Wrapper.TheVariants.{OctetContainer, BitContainer, Explicit}
+use Rattle.picky_der_core.specs.declared.asn1.wrapper.Wrapper.TheVariants.{Implicit, Application, ImplicitList}
 use Rattle.picky_der_core.specs.Element.{length_octets, IsElement}
 use Rattle.picky_der_core.specs.Tree.{ListKind, Tree, Trees}
 use Rattle.picky_der_core.specs.Encoding.{der}
@@ -36,7 +38,8 @@ inside_wrapper (Implicit n) t = inside_implicit t
 inside_wrapper (Application n) t = only t
 inside_wrapper (ImplicitList tag) t = inside_implicit t
 
--- the trees whose encodings, one after another, are the content of a tree's element: the members of a list, and what is in a tag or an octet string
+-- the trees whose encodings, one after another, are the content of a tree's element: the members of a list, and what is
+-- in a tag or an octet string
 abbrev pub members_of : Tree → Option Trees
 members_of (Tree.list kind ts) = Some ts
 members_of (Tree.wrapped w t) = inside_wrapper w t
@@ -64,7 +67,8 @@ has_first_member _ = false
 
 -- a list under another tag is written as the list is, but for the first byte
 abbrev pub WithoutTag : Type 0
-WithoutTag = (tag : ℕ) (kind : ListKind) (ts : Trees) → drop 1 (der (Tree.wrapped (ImplicitList tag) (Tree.list kind ts))) ≡ drop 1 (der (Tree.list kind ts))
+WithoutTag = (tag : ℕ) (kind : ListKind) (ts : Trees)
+    → drop 1 (der (Tree.wrapped (ImplicitList tag) (Tree.list kind ts))) ≡ drop 1 (der (Tree.list kind ts))
 
 -- ---- parts of bytes
 

@@ -5,7 +5,8 @@ ghost use lib.Pointwise.{pointwise};
 ghost use Rattle.picky_der_core.specs.declared.asn1.wrapper.Wrapper.TheVariants.{Application};
 ghost use Rattle.picky_der_core.specs.Tree.{Tree};
 ghost use Rattle.picky_der_de.specs.Examples.{null_element, null_element_readable};
-ghost use Rattle.picky_der_de.specs.Faithful.{plain_sameness, plain_members, wrapped_sameness, bytes_respect, others_respect};
+ghost use Rattle.picky_der_de.specs.Faithful.{plain_sameness, plain_members, wrapped_sameness, bytes_respect};
+ghost use Rattle.picky_der_de.specs.Faithful.{others_respect};
 ghost use Rattle.picky_der_de.specs.OtherLaws.{others_of};
 
 use crate::application_tag::ApplicationTag;
@@ -19,7 +20,8 @@ impl<V: Faithful + Debug, const T: u8> Faithful for ApplicationTag<V, T> {
 }
 
 impl Faithful for Asn1RawDer {
-    ghost sameness = { plain_sameness (λ x y. pointwise eqb x.0.items y.0.items) (λ it. Tree.raw it.0.items) (bytes_respect Tree.raw (λ it. it.0.items)) };
+    ghost sameness = { plain_sameness (λ x y. pointwise eqb x.0.items y.0.items) (λ it. Tree.raw it.0.items)
+        (bytes_respect Tree.raw (λ it. it.0.items)) };
 
     ghost respects = { Prim.assumption };
 }
@@ -29,7 +31,9 @@ impl Inhabited for Asn1RawDer {
 }
 
 impl<A: Alternatives> FaithfulMembers for LaterMembers<A> {
-    ghost sameness = { plain_members (λ x y. pointwise (λ a b. pointwise eqb a.0.items b.0.items) x.elements.items y.elements.items ∷ []) (λ it. others_of (λ raw. raw.0.items) it.elements.items) (others_respect (λ raw. raw.0.items) (λ it. it.elements.items)) };
+    ghost sameness = { plain_members (λ x y. pointwise (λ a b. pointwise eqb a.0.items b.0.items) x.elements.items y.elements.items
+        ∷ []) (λ it. others_of (λ raw. raw.0.items) it.elements.items)
+        (others_respect (λ raw. raw.0.items) (λ it. it.elements.items)) };
 
     ghost respects = { Prim.assumption };
 }

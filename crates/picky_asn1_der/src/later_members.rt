@@ -17,12 +17,12 @@ use picky_der_ser::{SerializeMember, SerializeMembers};
 use std::alloc::Global;
 use std::marker::PhantomData;
 
-/// The members that are left after the members of a struct, as elements: the members of a later version of an extensible
-/// SEQUENCE (X.680, 25.1), in their order. They are the last member of the struct.
+/// The members that are left after the members of a struct, as elements: the members of a later version of an
+/// extensible SEQUENCE (X.680, 25.1), in their order. They are the last member of the struct.
 ///
-/// `A` has the types of the members directly before them that may be absent. After an `Optional<B>` and an `Optional<C>` it is
-/// `OneOf<B, OneOf<C, NoneOf>>`. After a member that is always there it is `NoneOf`. The first element begins with no byte that
-/// begins a value of these types.
+/// `A` has the types of the members directly before them that may be absent. After an `Optional<B>` and an
+/// `Optional<C>` it is `OneOf<B, OneOf<C, NoneOf>>`. After a member that is always there it is `NoneOf`. The first
+/// element begins with no byte that begins a value of these types.
 #[derive(Drop)]
 #[derive_where(Debug, PartialEq, Eq)]
 pub struct LaterMembers<A: Alternatives> {

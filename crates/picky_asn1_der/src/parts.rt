@@ -1,11 +1,13 @@
 //! Where a part of an encoding is, such as the signed part of a certificate.
-ghost use Rattle.std.specs.Prelude.{◌≡◌, ℕ, ◌+◌, ◌^◌, ◌<◌, ◌≤◌, ◌++◌, List, length, true, Some, IfSome, IfNone, IsSomeAnd, IfOk, IfErr, slice_range};
+ghost use Rattle.std.specs.Prelude.{◌≡◌, ℕ, ◌+◌, ◌^◌, ◌<◌, ◌≤◌, ◌++◌, List, length, true, Some, IfSome, IfNone};
+ghost use Rattle.std.specs.Prelude.{IsSomeAnd, IfOk, IfErr, slice_range};
 ghost use Rattle.picky_der_core.specs.Element.{length_octets, tlv, IsElement, IsPrefix};
 ghost use Rattle.picky_der_core.specs.Encoding.{der};
 ghost use Rattle.picky_der_core.specs.Readable.{IsReadable};
 ghost use Rattle.picky_der_core.specs.Tree.{Tree};
 ghost use Rattle.picky_der_de.specs.Whole.{IsWhole, IsNoEncoding};
-ghost use Rattle.picky_asn1_der.specs.Parts.{first_member_of, has_first_member, part_at, WithoutTag, HasMember, IsHeaderOf, IsPiece};
+ghost use Rattle.picky_asn1_der.specs.Parts.{first_member_of, has_first_member, part_at, WithoutTag, HasMember};
+ghost use Rattle.picky_asn1_der.specs.Parts.{IsHeaderOf, IsPiece};
 
 use crate::{DecodeError, Deserialize, Length, from_der};
 use std::alloc::Global;

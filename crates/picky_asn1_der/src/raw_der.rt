@@ -19,13 +19,13 @@ use picky_der_ser::{Serialize, Serializer};
 use std::fmt;
 use std::hash::Hash;
 
-/// One element, whatever its tag, by its bytes with the header (X.690, 8.1.1). The bytes are written as they are. If they
-/// aren't exactly one element, they can't be read back as this type.
+/// One element, whatever its tag, by its bytes with the header (X.690, 8.1.1). The bytes are written as they are. If
+/// they aren't exactly one element, they can't be read back as this type.
 #[derive(Clone, Drop, PartialEq, Eq, PartialOrd, Hash)]
 pub struct Asn1RawDer(pub Vec<u8>);
 
-/// Raw elements are equal exactly if their bytes are the same. They are ordered like their bytes, at the first index where
-/// these differ, and hashed like a list of their bytes. A copy has the same bytes.
+/// Raw elements are equal exactly if their bytes are the same. They are ordered like their bytes, at the first index
+/// where these differ, and hashed like a list of their bytes. A copy has the same bytes.
 pub fn comparisons()
     ensures equal { IsEqualityOf ⟦<Asn1RawDer as PartialEq>⟧.eq (λ raw. raw.0.items) }
     ensures order { IsThatOf ⟦<Asn1RawDer as PartialOrd>⟧.partial_cmp (λ raw. raw.0.items)

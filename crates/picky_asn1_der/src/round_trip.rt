@@ -1,5 +1,5 @@
-//! Decoding the encoding of a readable value gives an equal value, and no other bytes decode to it. Here this is the contract
-//! of functions that only write and read.
+//! Decoding the encoding of a readable value gives an equal value, and no other bytes decode to it. Here this is the
+//! contract of functions that only write and read.
 ghost use Rattle.std.specs.Prelude.{◌≡◌, ◌≢◌, ◌↔◌, length, true, IsTrue, IfOk, IfErr};
 ghost use Rattle.picky_der_core.specs.Element.{IsPrefix};
 ghost use Rattle.picky_der_core.specs.Encoding.{der};

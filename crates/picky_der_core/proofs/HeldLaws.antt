@@ -6,8 +6,10 @@ use Rattle.picky_der_core.specs.Element.{tlv, length_octets}
 use Rattle.picky_der_core.specs.Wrapper.{wrapper_front, keeps_header, wrapper_tag}
 use Rattle.picky_der_core.specs.Tree.{Tree, Trees, is_plain}
 use Rattle.picky_der_core.specs.Encoding.{der, implicit_content, tree_bytes, encodings, content, plain_tag, with_header}
-use Rattle.picky_der_core.specs.EncodingLaws.{der-plain, der-raw, der-choice, der-wrapped_present, implicit_content-plain}
-use Rattle.picky_der_core.specs.EncodingLaws.{implicit_content-other, is_absent-readable, length-list_content, length-der}
+use Rattle.picky_der_core.specs.EncodingLaws.{der-plain, der-raw, der-choice, der-wrapped_present}
+use Rattle.picky_der_core.specs.EncodingLaws.{implicit_content-plain}
+use Rattle.picky_der_core.specs.EncodingLaws.{implicit_content-other, is_absent-readable, length-list_content}
+use Rattle.picky_der_core.specs.EncodingLaws.{length-der}
 use Rattle.picky_der_core.specs.OpenWrappers.{wrapped_content}
 use Rattle.picky_der_core.specs.Readable.{IsReadable, AreReadable, IsNoChoice}
 use Rattle.picky_der_core.specs.Held.{held, all_held}

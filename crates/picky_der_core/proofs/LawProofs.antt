@@ -1,8 +1,10 @@
 -- Why the laws hold.
 use Rattle.std.proofs.Common.{sym, [], ◌∙◌, append-nil, ap, refl, ◌≡◌, List, ◌∷◌, map, ℕ}
 use Rattle.picky_der_core.specs.ElementLaws.{length_octets_prefix}
-use Rattle.picky_der_core.specs.Laws.{LengthBothWays, WrapperLengths, FirstsTell, UniqueReadability, OneValue, RoundTrip, SameBytes, OneInside, SetOrder}
-use Rattle.picky_der_core.specs.EncodingLaws.{der-wrapped, der-list, der-wrapped_present, implicit_content-plain, encodings-trees}
+use Rattle.picky_der_core.specs.Laws.{LengthBothWays, WrapperLengths, FirstsTell, UniqueReadability, OneValue}
+use Rattle.picky_der_core.specs.Laws.{RoundTrip, SameBytes, OneInside, SetOrder}
+use Rattle.picky_der_core.specs.EncodingLaws.{der-wrapped, der-list, der-wrapped_present, implicit_content-plain}
+use Rattle.picky_der_core.specs.EncodingLaws.{encodings-trees}
 use Rattle.picky_der_core.specs.WrapperLaws.{wrapper_tag_number}
 use Rattle.picky_der_core.specs.FirstLaws.{begins_in}
 use Rattle.picky_der_core.specs.Encoding.{der, list_tag, list_content}
@@ -29,11 +31,13 @@ pub firsts_tell : FirstsTell
 firsts_tell s t p r = let b = begins_in s t p r in (b.first, b.others, b.is, b.listed)
 
 pub unique_readability : UniqueReadability
-unique_readability s sound t u p q r v b = (same_tree s sound t u p q r v b.rest [] (sym b.is ∙ sym (append-nil (der u)))).0
+unique_readability s sound t u p q r v b =
+    (same_tree s sound t u p q r v b.rest [] (sym b.is ∙ sym (append-nil (der u)))).0
 
 pub one_value : OneValue
 one_value s sound input limit t u r v =
-    let same = same_tree s sound t u r.of_shape v.of_shape r.readable v.readable r.front.rest v.front.rest (sym r.front.is ∙ v.front.is) in
+    let same = same_tree s sound t u r.of_shape v.of_shape r.readable v.readable r.front.rest v.front.rest
+    (sym r.front.is ∙ v.front.is) in
     (same.0, ap der same.0)
 
 pub round_trip : RoundTrip
@@ -42,7 +46,8 @@ round_trip s sound t rest limit p r small = (
   λ u v. same_tree s sound u t v.of_shape p v.readable r v.front.rest rest (sym v.front.is),
 )
 
-same_lists : (s : Shape) → IsSound s → (ts us : List Tree) → AllByRecursion (λ t. IsOf s t × IsReadable t) ts → AllByRecursion (λ t. IsOf s t × IsReadable t) us → concat (map der ts) ≡ concat (map der us) → ts ≡ us
+same_lists : (s : Shape) → IsSound s → (ts us : List Tree) → AllByRecursion (λ t. IsOf s t × IsReadable t) ts
+    → AllByRecursion (λ t. IsOf s t × IsReadable t) us → concat (map der ts) ≡ concat (map der us) → ts ≡ us
 same_lists s sound [] [] p q e = refl
 same_lists s sound [] (u ∷ us) p q e = absurd (not_empty u (concat (map der us)) q.0.1 (sym e))
 same_lists s sound (t ∷ ts) [] p q e = absurd (not_empty t (concat (map der ts)) p.0.1 e)
@@ -57,7 +62,8 @@ same_bytes s sound ts us p q = (same_lists s sound ts us p q, λ e. ap (λ l. co
 
 pub one_inside : OneInside
 one_inside s sound rest ahead t u r v =
-    same_tree_at (Place.under_implicit ahead) s sound t u r.of_shape v.of_shape r.readable v.readable r.may_be_there v.may_be_there r.front.rest v.front.rest (sym r.front.is ∙ v.front.is)
+    same_tree_at (Place.under_implicit ahead) s sound t u r.of_shape v.of_shape r.readable v.readable r.may_be_there
+    v.may_be_there r.front.rest v.front.rest (sym r.front.is ∙ v.front.is)
 
 pub set_order : SetOrder
 set_order ts us moved =
@@ -66,13 +72,17 @@ set_order ts us moved =
 
 -- ---- a list under another tag: its encoding, with that tag in place of its own
 
-pub implicit_list : (tag : ℕ) (kind : ListKind) (ts : List Tree) → der (Tree.wrapped (ImplicitList tag) (Tree.list kind (trees ts))) ≡ tlv tag (list_content kind (map der ts))
+pub implicit_list : (tag : ℕ) (kind : ListKind) (ts : List Tree)
+    → der (Tree.wrapped (ImplicitList tag) (Tree.list kind (trees ts))) ≡ tlv tag (list_content kind (map der ts))
 implicit_list tag kind ts =
     der-wrapped_present (ImplicitList tag) (Tree.list kind (trees ts)) refl
-    ∙ ap (tlv tag) (implicit_content-plain (Tree.list kind (trees ts)) refl ∙ ap (list_content kind) (encodings-trees ts))
+    ∙ ap (tlv tag) (implicit_content-plain (Tree.list kind (trees ts)) refl
+    ∙ ap (list_content kind) (encodings-trees ts))
 
 -- sets of the same members, each as often, in any order, have one encoding under the tag, too
-pub implicit_list_set_order : (tag : ℕ) (ts us : List Tree) → IsPermutation ts us → der (Tree.wrapped (ImplicitList tag) (Tree.list ListKind.set (trees ts))) ≡ der (Tree.wrapped (ImplicitList tag) (Tree.list ListKind.set (trees us)))
+pub implicit_list_set_order : (tag : ℕ) (ts us : List Tree) → IsPermutation ts us
+    → der (Tree.wrapped (ImplicitList tag) (Tree.list ListKind.set (trees ts)))
+    ≡ der (Tree.wrapped (ImplicitList tag) (Tree.list ListKind.set (trees us)))
 implicit_list_set_order tag ts us moved =
     let same = in_ascending_order-permuted (map der ts) (map der us) (IsPermutation-map der ts us moved) in
     implicit_list tag ListKind.set ts ∙ ap (λ l. tlv tag (concat l)) same ∙ sym (implicit_list tag ListKind.set us)

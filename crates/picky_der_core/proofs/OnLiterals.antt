@@ -8,7 +8,8 @@ use Rattle.picky_der_core.specs.Order.{in_ascending_order}
 use Rattle.picky_der_core.specs.Encoding.{plain_encoding, wrapper_encoding, tree_bytes, der, implicit_content}
 
 unfoldable pub der_on_literals : ⊤
-unfolding big_endian length_octets tlv in_ascending_order unsigned_content plain_encoding wrapper_encoding tree_bytes der implicit_content
+unfolding big_endian length_octets tlv in_ascending_order unsigned_content plain_encoding wrapper_encoding tree_bytes
+    der implicit_content
 der_on_literals = tt
 
 unfoldable pub text_on_literals : ⊤

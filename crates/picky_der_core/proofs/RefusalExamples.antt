@@ -2,7 +2,9 @@
 use Rattle.std.proofs.Common.{◌≡◌, true, false, [], ◌∷◌, replicate, refl, Some, None, Ok, Err}
 use Rattle.picky_der_core.specs.declared.error.Asn1DerError.TheVariants.{TruncatedData, InvalidData, UnsupportedValue}
 use Rattle.picky_der_core.specs.declared.asn1.wrapper.Wrapper.TheVariants.{Explicit}
-use Rattle.picky_der_core.specs.Refusal.{length_of, error_of, plain_refusal, inside_refusal, header_refusal, wrapper_header, refusal_of, element_refusal, boolean_error, unsigned_error, null_error, text_error, character_error, bytes_error}
+use Rattle.picky_der_core.specs.Refusal.{length_of, error_of, plain_refusal, inside_refusal, header_refusal}
+use Rattle.picky_der_core.specs.Refusal.{wrapper_header, refusal_of, element_refusal, boolean_error, unsigned_error}
+use Rattle.picky_der_core.specs.Refusal.{null_error, text_error, character_error, bytes_error}
 use Rattle.picky_der_core.proofs.OnLiterals.{text_on_literals}
 
 -- ---- lengths
@@ -36,13 +38,15 @@ whole_length = refl
 
 -- ---- numbers, before a soft end
 
-needless_zero : error_of (plain_refusal 0x02 (unsigned_error 255) false 4 (0x02 ∷ 0x02 ∷ 0x00 ∷ 0x7F ∷ [])) ≡ Some InvalidData
+needless_zero : error_of (plain_refusal 0x02 (unsigned_error 255) false 4 (0x02 ∷ 0x02 ∷ 0x00 ∷ 0x7F ∷ []))
+    ≡ Some InvalidData
 needless_zero = refl
 
 negative : error_of (plain_refusal 0x02 (unsigned_error 255) false 3 (0x02 ∷ 0x01 ∷ 0x80 ∷ [])) ≡ Some UnsupportedValue
 negative = refl
 
-too_large : error_of (plain_refusal 0x02 (unsigned_error 255) false 4 (0x02 ∷ 0x02 ∷ 0x01 ∷ 0x00 ∷ [])) ≡ Some UnsupportedValue
+too_large : error_of (plain_refusal 0x02 (unsigned_error 255) false 4 (0x02 ∷ 0x02 ∷ 0x01 ∷ 0x00 ∷ []))
+    ≡ Some UnsupportedValue
 too_large = refl
 
 empty_number : error_of (plain_refusal 0x02 (unsigned_error 255) false 2 (0x02 ∷ 0x00 ∷ [])) ≡ Some TruncatedData
@@ -51,7 +55,8 @@ empty_number = refl
 tag_alone : error_of (plain_refusal 0x02 (unsigned_error 255) false 1 (0x02 ∷ [])) ≡ Some TruncatedData
 tag_alone = refl
 
-long_length_of_one : error_of (plain_refusal 0x02 (unsigned_error 255) false 4 (0x02 ∷ 0x81 ∷ 0x01 ∷ 0x07 ∷ [])) ≡ Some InvalidData
+long_length_of_one : error_of (plain_refusal 0x02 (unsigned_error 255) false 4 (0x02 ∷ 0x81 ∷ 0x01 ∷ 0x07 ∷ []))
+    ≡ Some InvalidData
 long_length_of_one = refl
 
 foreign_tag : error_of (plain_refusal 0x02 (unsigned_error 255) false 3 (0x01 ∷ 0x01 ∷ 0xFF ∷ [])) ≡ Some InvalidData
@@ -60,10 +65,12 @@ foreign_tag = refl
 needed_zero : error_of (plain_refusal 0x02 (unsigned_error 255) false 4 (0x02 ∷ 0x02 ∷ 0x00 ∷ 0x80 ∷ [])) ≡ None
 needed_zero = refl
 
-greatest : error_of (plain_refusal 0x02 (unsigned_error 0xFFFF_FFFF_FFFF_FFFF_FFFF_FFFF_FFFF_FFFF) false 19 (0x02 ∷ 0x11 ∷ 0x00 ∷ replicate 16 0xFF)) ≡ None
+greatest : error_of (plain_refusal 0x02 (unsigned_error 0xFFFF_FFFF_FFFF_FFFF_FFFF_FFFF_FFFF_FFFF) false 19
+    (0x02 ∷ 0x11 ∷ 0x00 ∷ replicate 16 0xFF)) ≡ None
 greatest = refl
 
-past_greatest : error_of (plain_refusal 0x02 (unsigned_error 0xFFFF_FFFF_FFFF_FFFF_FFFF_FFFF_FFFF_FFFF) false 20 (0x02 ∷ 0x12 ∷ 0x00 ∷ replicate 17 0xFF)) ≡ Some UnsupportedValue
+past_greatest : error_of (plain_refusal 0x02 (unsigned_error 0xFFFF_FFFF_FFFF_FFFF_FFFF_FFFF_FFFF_FFFF) false 20
+    (0x02 ∷ 0x12 ∷ 0x00 ∷ replicate 17 0xFF)) ≡ Some UnsupportedValue
 past_greatest = refl
 
 -- ---- bools and null
@@ -102,16 +109,20 @@ cut_content = refl
 
 -- ---- what is left after the consumed bytes
 
-after_foreign_tag : plain_refusal 0x02 (unsigned_error 255) false 5 (0x01 ∷ 0x01 ∷ 0xFF ∷ 0x05 ∷ 0x00 ∷ []) ≡ Some (InvalidData, 0x01 ∷ 0xFF ∷ 0x05 ∷ 0x00 ∷ [])
+after_foreign_tag : plain_refusal 0x02 (unsigned_error 255) false 5 (0x01 ∷ 0x01 ∷ 0xFF ∷ 0x05 ∷ 0x00 ∷ [])
+    ≡ Some (InvalidData, 0x01 ∷ 0xFF ∷ 0x05 ∷ 0x00 ∷ [])
 after_foreign_tag = refl
 
-after_long_length : plain_refusal 0x02 (unsigned_error 255) false 4 (0x02 ∷ 0x81 ∷ 0x01 ∷ 0x07 ∷ []) ≡ Some (InvalidData, 0x07 ∷ [])
+after_long_length : plain_refusal 0x02 (unsigned_error 255) false 4 (0x02 ∷ 0x81 ∷ 0x01 ∷ 0x07 ∷ [])
+    ≡ Some (InvalidData, 0x07 ∷ [])
 after_long_length = refl
 
-after_content : plain_refusal 0x02 (unsigned_error 255) false 5 (0x02 ∷ 0x01 ∷ 0x80 ∷ 0x05 ∷ 0x00 ∷ []) ≡ Some (UnsupportedValue, 0x05 ∷ 0x00 ∷ [])
+after_content : plain_refusal 0x02 (unsigned_error 255) false 5 (0x02 ∷ 0x01 ∷ 0x80 ∷ 0x05 ∷ 0x00 ∷ [])
+    ≡ Some (UnsupportedValue, 0x05 ∷ 0x00 ∷ [])
 after_content = refl
 
-after_length_past_end : plain_refusal 0x04 bytes_error true 4 (0x04 ∷ 0x03 ∷ 0xAA ∷ 0xBB ∷ []) ≡ Some (InvalidData, 0xAA ∷ 0xBB ∷ [])
+after_length_past_end : plain_refusal 0x04 bytes_error true 4 (0x04 ∷ 0x03 ∷ 0xAA ∷ 0xBB ∷ [])
+    ≡ Some (InvalidData, 0xAA ∷ 0xBB ∷ [])
 after_length_past_end = refl
 
 -- ---- directly under an implicit tag, headers and whole elements
@@ -131,7 +142,8 @@ sequence_header = refl
 sequence_header_alone : error_of (header_refusal 0x30 false 5 (0x30 ∷ 0x03 ∷ [])) ≡ None
 sequence_header_alone = refl
 
-explicit_of_32 : refusal_of (wrapper_header (Explicit 32) false 2 (0xC0 ∷ 0x00 ∷ [])) ≡ Some (UnsupportedValue, 0xC0 ∷ 0x00 ∷ [])
+explicit_of_32 : refusal_of (wrapper_header (Explicit 32) false 2 (0xC0 ∷ 0x00 ∷ []))
+    ≡ Some (UnsupportedValue, 0xC0 ∷ 0x00 ∷ [])
 explicit_of_32 = refl
 
 raw_of_long_tag : error_of (element_refusal false 4 (0x1F ∷ 0x81 ∷ 0x00 ∷ 0x00 ∷ [])) ≡ Some UnsupportedValue
@@ -150,7 +162,8 @@ no_character : error_of (plain_refusal 0x0C character_error false 2 (0x0C ∷ 0x
 unfolding text_on_literals
 no_character = refl
 
-two_characters : error_of (plain_refusal 0x0C character_error false 4 (0x0C ∷ 0x02 ∷ 0x41 ∷ 0x42 ∷ [])) ≡ Some InvalidData
+two_characters : error_of (plain_refusal 0x0C character_error false 4 (0x0C ∷ 0x02 ∷ 0x41 ∷ 0x42 ∷ []))
+    ≡ Some InvalidData
 unfolding text_on_literals
 two_characters = refl
 

@@ -1,5 +1,6 @@
 -- Lengths and elements (X.690, 8.1.1 to 8.1.3 and 10.1).
-use Rattle.std.specs.Prelude.{◌≡◌, ℕ, zero, suc, ◌+◌, ◌/◌, ◌%◌, ◌<◌, true, false, List, [], ◌∷◌, ◌++◌, length, nat_lt, ◌==◌, if◌then◌else◌}
+use Rattle.std.specs.Prelude.{◌≡◌, ℕ, zero, suc, ◌+◌, ◌/◌, ◌%◌, ◌<◌, true, false, List, [], ◌∷◌, ◌++◌, length, nat_lt}
+use Rattle.std.specs.Prelude.{◌==◌, if◌then◌else◌}
 use Rattle.std.specs.List.{AllByRecursion}
 use Rattle.picky_der_core.specs.Tag.{number_of, IsTagNumber}
 
@@ -10,7 +11,8 @@ AreBytes s = AllByRecursion (λ b. b < 256) s
 -- at most `most` of the last bytes of a number
 abbrev pub big_endian_within : ℕ → ℕ → List ℕ
 big_endian_within zero n = []
-big_endian_within (suc most) n = elim (n == 0) [ true ↦ [] | false ↦ big_endian_within most (n / 256) ++ (n % 256 ∷ []) ]
+big_endian_within (suc most) n =
+    elim (n == 0) [ true ↦ [] | false ↦ big_endian_within most (n / 256) ++ (n % 256 ∷ []) ]
 
 -- the bytes of a number, the most significant first and no 0 in front: none for 0
 unfoldable pub big_endian : ℕ → List ℕ

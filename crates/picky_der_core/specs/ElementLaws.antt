@@ -1,5 +1,6 @@
 -- A length and an element say where they end, and what they hold.
-use Rattle.std.proofs.Common.{◌≡◌, ℕ, ◌+◌, ◌^◌, ◌<◌, ◌≤◌, Bool, true, false, cond, List, [], ◌∷◌, ◌++◌, length, nat_lt, refl, ap, arith, append_assoc, length-append, lt-ltb, ltb-true, inl, inr}
+use Rattle.std.proofs.Common.{◌≡◌, ℕ, ◌+◌, ◌^◌, ◌<◌, ◌≤◌, Bool, true, false, cond, List, [], ◌∷◌, ◌++◌, length, nat_lt}
+use Rattle.std.proofs.Common.{refl, ap, arith, append_assoc, length-append, lt-ltb, ltb-true, inl, inr}
 use Rattle.std.proofs.lemmas.Bool.{ltb-false, cases_lt}
 use Rattle.picky_der_core.specs.Element.{big_endian, length_octets, tlv, AreBytes}
 use Rattle.picky_der_core.specs.BigEndianLaws.{big_endian-same, length-big_endian, AreBytes-big_endian}
@@ -42,7 +43,9 @@ pub length_octets_prefix : (m n : ℕ) (a b : List ℕ) → length_octets m ++ a
 unfolding length_octets
 length_octets_prefix m n a b = by_form (nat_lt m 0x80) (nat_lt n 0x80) refl refl
   where
-    by_form : (p q : Bool) → nat_lt m 0x80 ≡ p → nat_lt n 0x80 ≡ q → cond p (m ∷ []) ((0x80 + length (big_endian m)) ∷ big_endian m) ++ a ≡ cond q (n ∷ []) ((0x80 + length (big_endian n)) ∷ big_endian n) ++ b → (m ≡ n) × (a ≡ b)
+    by_form : (p q : Bool) → nat_lt m 0x80 ≡ p → nat_lt n 0x80 ≡ q
+        → cond p (m ∷ []) ((0x80 + length (big_endian m)) ∷ big_endian m) ++ a ≡ cond q (n ∷ [])
+        ((0x80 + length (big_endian n)) ∷ big_endian n) ++ b → (m ≡ n) × (a ≡ b)
     by_form true true s t e = (cc, cc)
     by_form true false s t e = let h : m ≡ 0x80 + length (big_endian n) = cc in absurd (omega (arith, ltb-true))
     by_form false true s t e = let h : n ≡ 0x80 + length (big_endian m) = cc in absurd (omega (arith, ltb-true))
@@ -88,7 +91,10 @@ second_bytes (x ∷ xs) ys h = second_bytes xs ys h.1
 pub length_bytes : (n : ℕ) → n < 2 ^ 64 → AreBytes (length_octets n)
 length_bytes n small = elim (cases_lt n 0x80) [
   | inl short ↦ rw (length_octets-short n short) (omega arith, tt)
-  | inr long ↦ rw (length_octets-long n long) (omega (arith, length-big_endian 8 n (omega arith)), AreBytes-big_endian n)
+  | inr long ↦ rw (length_octets-long n long) (
+    omega (arith, length-big_endian 8 n (omega arith)),
+    AreBytes-big_endian n,
+  )
 ]
 
 -- an element is made of bytes if its content is

@@ -7,8 +7,8 @@ use Rattle.picky_der_core.specs.Primitive.{primitive_tag, primitive_content}
 use Rattle.picky_der_core.specs.Wrapper.{wrapper_tag, wrapper_front, keeps_header, can_vanish}
 use Rattle.picky_der_core.specs.Tree.{ListKind, Tree, Trees, is_absent}
 
--- the content of a list, from the encodings of its members: one after another, in a sequence as they are given (8.9, 8.10), and in a
--- set in ascending order (8.11, 8.12, 11.6)
+-- the content of a list, from the encodings of its members: one after another, in a sequence as they are given (8.9,
+-- 8.10), and in a set in ascending order (8.11, 8.12, 11.6)
 abbrev pub list_content : ListKind → List (List ℕ) → List ℕ
 list_content ListKind.sequence members = concat members
 list_content ListKind.set members = concat (in_ascending_order members)
@@ -32,7 +32,8 @@ unfoldable mutual
   pub tree_bytes : Bool → Tree → List ℕ
   tree_bytes header (Tree.primitive p) = plain_encoding header (primitive_tag p) (primitive_content p)
   tree_bytes header (Tree.list kind ts) = plain_encoding header (list_tag kind) (list_content kind (encodings ts))
-  tree_bytes header (Tree.wrapped w t) = wrapper_encoding (can_vanish w && is_absent t) (wrapper_tag w) (wrapper_front w ++ tree_bytes (keeps_header w) t)
+  tree_bytes header (Tree.wrapped w t) =
+      wrapper_encoding (can_vanish w && is_absent t) (wrapper_tag w) (wrapper_front w ++ tree_bytes (keeps_header w) t)
   tree_bytes header (Tree.raw s) = s
   tree_bytes header (Tree.choice t) = tree_bytes header t
   tree_bytes header Tree.absent = []
@@ -46,7 +47,8 @@ unfoldable mutual
 unfoldable pub der : Tree → List ℕ
 der t = tree_bytes true t
 
--- what is directly under an implicit tag: a plain tree's content, for a choice that of its alternative, else the whole encoding
+-- what is directly under an implicit tag: a plain tree's content, for a choice that of its alternative, else the whole
+-- encoding
 unfoldable pub implicit_content : Tree → List ℕ
 implicit_content t = tree_bytes false t
 

@@ -1,5 +1,6 @@
 -- The encoding of each kind of tree, and how encodings distinguish each other.
-use Rattle.std.proofs.Common.{◌≡◌, ℕ, ◌<◌, Bool, true, false, ◌&&◌, List, [], ◌∷◌, ◌++◌, length, map, refl, sym, ap, ◌∙◌, arith}
+use Rattle.std.proofs.Common.{◌≡◌, ℕ, ◌<◌, Bool, true, false, ◌&&◌, List, [], ◌∷◌, ◌++◌, length, map, refl, sym, ap}
+use Rattle.std.proofs.Common.{◌∙◌, arith}
 use Rattle.std.specs.List.{concat}
 use Rattle.picky_der_core.specs.declared.asn1.wrapper.Wrapper.{Wrapper}
 use Rattle.picky_der_core.specs.Tag.{number_of, IsTagNumber}
@@ -9,7 +10,8 @@ use Rattle.picky_der_core.specs.PrimitiveLaws.{primitive_tag_number}
 use Rattle.picky_der_core.specs.Wrapper.{wrapper_tag, wrapper_front, keeps_header, can_vanish}
 use Rattle.picky_der_core.specs.WrapperLaws.{wrapper_tag_number}
 use Rattle.picky_der_core.specs.Tree.{ListKind, Tree, trees, is_plain, is_absent}
-use Rattle.picky_der_core.specs.Encoding.{list_content, list_tag, plain_encoding, wrapper_encoding, tree_bytes, encodings, der, implicit_content, with_header, content, plain_tag}
+use Rattle.picky_der_core.specs.Encoding.{list_content, list_tag, plain_encoding, wrapper_encoding, tree_bytes}
+use Rattle.picky_der_core.specs.Encoding.{encodings, der, implicit_content, with_header, content, plain_tag}
 use Rattle.picky_der_core.specs.Readable.{IsReadable, IsInOrder, IsNoChoice}
 use Rattle.picky_der_core.specs.OpenWrappers.{wrapped_content}
 use Rattle.picky_der_core.specs.ElementLaws.{tlv_prefix}
@@ -55,12 +57,15 @@ never_absent true absent h = h
 never_absent false absent h = refl
 
 -- a wrapper that doesn't vanish is one element with exactly what it holds
-pub der-wrapped : (w : Wrapper) (t : Tree) → (can_vanish w && is_absent t) ≡ false → der (Tree.wrapped w t) ≡ tlv (wrapper_tag w) (wrapped_content w t)
+pub der-wrapped : (w : Wrapper) (t : Tree) → (can_vanish w && is_absent t) ≡ false
+    → der (Tree.wrapped w t) ≡ tlv (wrapper_tag w) (wrapped_content w t)
 unfolding der tree_bytes
-der-wrapped w t h = wrapper_encoding-present _ _ _ h ∙ ap (λ c. tlv (wrapper_tag w) (wrapper_front w ++ c)) (with_header-bytes (keeps_header w) t)
+der-wrapped w t h = wrapper_encoding-present _ _ _ h ∙ ap (λ c. tlv (wrapper_tag w) (wrapper_front w ++ c))
+    (with_header-bytes (keeps_header w) t)
 
 -- as around something
-pub der-wrapped_present : (w : Wrapper) (t : Tree) → is_absent t ≡ false → der (Tree.wrapped w t) ≡ tlv (wrapper_tag w) (wrapped_content w t)
+pub der-wrapped_present : (w : Wrapper) (t : Tree) → is_absent t ≡ false
+    → der (Tree.wrapped w t) ≡ tlv (wrapper_tag w) (wrapped_content w t)
 der-wrapped_present w t h = der-wrapped w t (never_absent (can_vanish w) (is_absent t) h)
 
 pub der-raw : (s : List ℕ) → der (Tree.raw s) ≡ s
@@ -94,19 +99,22 @@ unfolding der tree_bytes
 encodings-trees [] = refl
 encodings-trees (t ∷ ts) = ap (λ l. der t ∷ l) (encodings-trees ts)
 
-pub der-list : (kind : ListKind) (ts : List Tree) → der (Tree.list kind (trees ts)) ≡ tlv (list_tag kind) (list_content kind (map der ts))
+pub der-list : (kind : ListKind) (ts : List Tree)
+    → der (Tree.list kind (trees ts)) ≡ tlv (list_tag kind) (list_content kind (map der ts))
 unfolding der tree_bytes plain_encoding
 der-list kind ts = ap (λ l. tlv (list_tag kind) (list_content kind l)) (encodings-trees ts)
 
 -- ---- the content of a list
 
 -- members in order are written as they are
-pub list_content-in_order : (kind : ListKind) (members : List (List ℕ)) → IsInOrder kind members → list_content kind members ≡ concat members
+pub list_content-in_order : (kind : ListKind) (members : List (List ℕ)) → IsInOrder kind members
+    → list_content kind members ≡ concat members
 list_content-in_order ListKind.sequence members h = refl
 list_content-in_order ListKind.set members h = ap concat (in_ascending_order-same members h)
 
 -- it is as long as they are in all, in whatever order
-pub length-list_content : (kind : ListKind) (members : List (List ℕ)) → length (list_content kind members) ≡ length (concat members)
+pub length-list_content : (kind : ListKind) (members : List (List ℕ))
+    → length (list_content kind members) ≡ length (concat members)
 length-list_content ListKind.sequence members = refl
 length-list_content ListKind.set members = length-in_ascending_order members
 
@@ -127,9 +135,27 @@ list_tag_number ListKind.set = omega arith
 -- the encoding of a readable tree is one element
 pub der-element : (t : Tree) → IsReadable t → IsElement (der t)
 unfolding der tree_bytes plain_encoding
-der-element (Tree.primitive p) r = record { tag = primitive_tag p; content = primitive_content p; number = primitive_tag_number p r; is = refl }
-der-element (Tree.list kind ts) r = record { tag = list_tag kind; content = list_content kind (encodings ts); number = list_tag_number kind; is = refl }
-der-element (Tree.wrapped w t) r = record { tag = wrapper_tag w; content = wrapped_content w t; number = wrapper_tag_number w r.0; is = der-wrapped_present w t (is_absent-readable t r.2) }
+der-element (Tree.primitive p) r = record {
+  tag = primitive_tag p;
+  content = primitive_content p;
+  number =
+      primitive_tag_number p r;
+  is = refl;
+}
+der-element (Tree.list kind ts) r = record {
+  tag = list_tag kind;
+  content = list_content kind (encodings ts);
+  number =
+      list_tag_number kind;
+  is = refl;
+}
+der-element (Tree.wrapped w t) r = record {
+  tag = wrapper_tag w;
+  content = wrapped_content w t;
+  number =
+      wrapper_tag_number w r.0;
+  is = der-wrapped_present w t (is_absent-readable t r.2);
+}
 der-element (Tree.raw s) r = r.0
 der-element (Tree.choice t) r = der-element t r
 der-element Tree.absent r = absurd r
@@ -137,14 +163,16 @@ der-element Tree.absent r = absurd r
 -- no element begins another
 pub same_element : (b c x y : List ℕ) → IsElement b → IsElement c → b ++ x ≡ c ++ y → (b ≡ c) × (x ≡ y)
 same_element b c x y p q e =
-    let h : tlv p.tag p.content ++ x ≡ tlv q.tag q.content ++ y = ap (λ z. z ++ x) (sym p.is) ∙ e ∙ ap (λ z. z ++ y) q.is in
+    let h : tlv p.tag p.content ++ x ≡ tlv q.tag q.content ++ y = ap (λ z. z ++ x) (sym p.is) ∙ e
+    ∙ ap (λ z. z ++ y) q.is in
     let parts = tlv_prefix p.tag q.tag p.content q.content x y h in
     let tag : p.tag ≡ q.tag = parts.0 in
     let content : p.content ≡ q.content = parts.1 in
     (p.is ∙ (cc) ∙ sym q.is, parts.2)
 
 -- so no encoding of a readable tree begins another
-pub same_encoding : (t u : Tree) (a b : List ℕ) → IsReadable t → IsReadable u → der t ++ a ≡ der u ++ b → (der t ≡ der u) × (a ≡ b)
+pub same_encoding : (t u : Tree) (a b : List ℕ) → IsReadable t → IsReadable u → der t ++ a ≡ der u ++ b
+    → (der t ≡ der u) × (a ≡ b)
 same_encoding t u a b r q e = same_element (der t) (der u) a b (der-element t r) (der-element u q) e
 
 -- it isn't empty

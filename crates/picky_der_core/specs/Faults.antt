@@ -18,7 +18,8 @@ pub record FaultOf (T : Type 0) : Type 0 where
 
 abbrev pub fault_of_code : {T : Type 0} → Coded T → Coded (FaultOf T)
 fault_of_code {T} device =
-    code_by (ErrorKind × T) (coded× error_kind.the_row.coded device) (λ f. (f.kind, f.device)) (λ p. record { kind = p.0; device = p.1 }) (λ _. refl)
+    code_by (ErrorKind × T) (coded× error_kind.the_row.coded device) (λ f. (f.kind, f.device))
+    (λ p. record { kind = p.0; device = p.1 }) (λ _. refl)
 
 -- the last first
 abbrev pub faults_in : {T : Type 0} → Faults T → List (FaultOf T)
@@ -41,4 +42,5 @@ pub record WatchedState (T : Type 0) : Type 0 where
 
 abbrev pub watching_code : {T : Type 0} → Coded T → Coded (WatchedState T)
 watching_code {T} inner =
-    code_by (T × List (FaultOf T)) (coded× inner (coded_list (fault_of_code inner))) (λ w. (w.inner, w.faults)) (λ p. record { inner = p.0; faults = p.1 }) (λ _. refl)
+    code_by (T × List (FaultOf T)) (coded× inner (coded_list (fault_of_code inner))) (λ w. (w.inner, w.faults))
+    (λ p. record { inner = p.0; faults = p.1 }) (λ _. refl)

@@ -1,5 +1,6 @@
 -- The contents of an INTEGER (X.690, 8.3), which are also the contents of an ENUMERATED (8.4), and what numbers mean.
-use Rattle.std.specs.Prelude.{ℕ, ◌-◌, ◌^◌, Bool, true, false, not, ◌||◌, ◌==◌, nat_lt, List, [], ◌∷◌, length, map, ℤ, pos, negsuc, ◌-ℤ◌, if◌then◌else◌}
+use Rattle.std.specs.Prelude.{ℕ, ◌-◌, ◌^◌, Bool, true, false, not, ◌||◌, ◌==◌, nat_lt, List, [], ◌∷◌, length, map, ℤ}
+use Rattle.std.specs.Prelude.{pos, negsuc, ◌-ℤ◌, if◌then◌else◌}
 use Rattle.std.specs.Int.{complement_if}
 use Rattle.std.specs.Int.Digits.{number_from_digits}
 use Rattle.picky_der_core.specs.declared.asn1.wrapper.Wrapper.TheVariants.{Explicit}
@@ -67,7 +68,8 @@ fits_unsigned k (negsuc n) = false
 abbrev pub integer_tree : ℤ → Tree
 integer_tree z = Tree.primitive (Primitive.bytes 0x02 (integer_content z))
 
--- The content of a number of a type. In place of one that the type doesn't have is a list that is no INTEGER's content, and not of bytes.
+-- The content of a number of a type. In place of one that the type doesn't have is a list that is no INTEGER's content,
+-- and not of bytes.
 abbrev pub content_within : (ℤ → Bool) → ℤ → List ℕ
 content_within fits z = if fits z then integer_content z else 0xFF ∷ 0x100 ∷ integer_content z
 

@@ -25,7 +25,8 @@ LengthBothWays = (n k : ℕ) (rest : List ℕ) → IsPrefix (length_octets n) (l
 -- a wrapper whose tag can be written, and that doesn't vanish, is one element, which holds exactly what it should
 abbrev pub WrapperLengths : Type 0
 WrapperLengths =
-    (w : Wrapper) (t : Tree) → HasTagNumber w → IsFalse (can_vanish w && is_absent t) → IsTagNumber (number_of (wrapper_tag w)) × (der (Tree.wrapped w t) ≡ tlv (wrapper_tag w) (wrapped_content w t))
+    (w : Wrapper) (t : Tree) → HasTagNumber w → IsFalse (can_vanish w && is_absent t)
+    → IsTagNumber (number_of (wrapper_tag w)) × (der (Tree.wrapped w t) ≡ tlv (wrapper_tag w) (wrapped_content w t))
 
 -- the encoding of a readable tree isn't empty, and its first byte is one of its shape's
 abbrev pub FirstsTell : Type 0
@@ -35,12 +36,14 @@ FirstsTell =
 -- two readable trees are one tree if the encoding of one begins the other's
 abbrev pub UniqueReadability : Type 0
 UniqueReadability =
-    (s : Shape) → IsSound s → (t u : Tree) → IsOf s t → IsOf s u → IsReadable t → IsReadable u → IsPrefix (der t) (der u) → t ≡ u
+    (s : Shape) → IsSound s → (t u : Tree) → IsOf s t → IsOf s u → IsReadable t → IsReadable u
+    → IsPrefix (der t) (der u) → t ≡ u
 
 -- one tree alone is at the front of an input
 abbrev pub OneValue : Type 0
 OneValue =
-    (s : Shape) → IsSound s → (input : List ℕ) (limit : ℕ) (t u : Tree) → IsFirstOf s input limit t → IsFirstOf s input limit u → (t ≡ u) × (der t ≡ der u)
+    (s : Shape) → IsSound s → (input : List ℕ) (limit : ℕ) (t u : Tree) → IsFirstOf s input limit t
+    → IsFirstOf s input limit u → (t ≡ u) × (der t ≡ der u)
 
 -- an encoding is read back as its tree alone, and what follows it is left
 abbrev pub RoundTrip : Type 0
@@ -60,11 +63,13 @@ SameBytes =
 abbrev pub OneInside : Type 0
 OneInside =
     (s : Shape) → IsSound s → (rest : List ℕ) (ahead : ℕ) (t u : Tree)
-    → IsAtFront (Place.under_implicit ahead) s rest ahead t → IsAtFront (Place.under_implicit ahead) s rest ahead u → t ≡ u
+    → IsAtFront (Place.under_implicit ahead) s rest ahead t → IsAtFront (Place.under_implicit ahead) s rest ahead u
+    → t ≡ u
 
 -- sets of the same members, each as often, in any order, have one encoding
 abbrev pub SetOrder : Type 0
-SetOrder = (ts us : List Tree) → IsPermutation ts us → der (Tree.list ListKind.set (trees ts)) ≡ der (Tree.list ListKind.set (trees us))
+SetOrder = (ts us : List Tree) → IsPermutation ts us
+    → der (Tree.list ListKind.set (trees ts)) ≡ der (Tree.list ListKind.set (trees us))
 
 -- a readable tree holds less than twice its encoding
 abbrev pub NoAmplification : Type 0

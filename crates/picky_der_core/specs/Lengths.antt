@@ -1,7 +1,8 @@
 -- What reading and writing a length does.
 use Rattle.std.specs.Prelude.{◌≡◌, ℕ, ◌+◌, ◌<◌, ◌≤◌, List, Option, Some, None, Ok, Err, ⊤}
 use Rattle.picky_der_core.specs.declared.error.Asn1DerError.{Asn1DerError}
-use Rattle.picky_der_core.specs.declared.error.Asn1DerError.TheVariants.{InvalidData, UnsupportedValue, Other, OutOfMemory}
+use Rattle.picky_der_core.specs.declared.error.Asn1DerError.TheVariants.{InvalidData, UnsupportedValue, Other}
+use Rattle.picky_der_core.specs.declared.error.Asn1DerError.TheVariants.{OutOfMemory}
 use Rattle.picky_der_core.specs.Refusal.{ReadOutcome}
 
 -- known bytes were read as the outcome says, and what it leaves is left
@@ -11,7 +12,8 @@ IsReadAs read (Some bs) None a = ⊥
 IsReadAs read (Some bs) (Some left) a = read bs ≡ Ok (a, left)
 
 -- known bytes were refused as the outcome says, and what it leaves is left
-abbrev pub IsRefusedAs : {A : Type 0} → (List ℕ → ReadOutcome A) → Option (List ℕ) → Option (List ℕ) → Asn1DerError → Type 0
+abbrev pub IsRefusedAs : {A : Type 0} → (List ℕ → ReadOutcome A) → Option (List ℕ) → Option (List ℕ) → Asn1DerError
+    → Type 0
 IsRefusedAs read None new e = ⊤
 IsRefusedAs read (Some bs) None e = ⊥
 IsRefusedAs read (Some bs) (Some left) e = read bs ≡ Err (e, left)

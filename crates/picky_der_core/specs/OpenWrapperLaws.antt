@@ -45,7 +45,8 @@ pub record AreAlike (t u : Tree) : Type 0 where
 pub alike-wrapped : (w : Wrapper) (t u : Tree) → AreAlike t u → AreAlike (Tree.wrapped w t) (Tree.wrapped w u)
 unfolding tree_bytes
 alike-wrapped w t u a = record {
-  written_same = λ h. ap₂ (λ b c. wrapper_encoding (can_vanish w && b) (wrapper_tag w) (wrapper_front w ++ c)) a.absent_same (a.written_same (keeps_header w));
+  written_same = λ h. ap₂ (λ b c. wrapper_encoding (can_vanish w && b) (wrapper_tag w) (wrapper_front w ++ c))
+      a.absent_same (a.written_same (keeps_header w));
   absent_same = ap (λ b. can_vanish w && b) a.absent_same;
   numbers_same = ap (λ b. has_tag_number w && b) a.numbers_same;
 }
@@ -56,7 +57,12 @@ alike-under [] t u a = a
 alike-under (w ∷ ws) t u a = alike-wrapped w (under ws t) (under ws u) (alike-under ws t u a)
 
 pub alike-sym : (t u : Tree) → AreAlike t u → AreAlike u t
-alike-sym t u a = record { written_same = λ h. sym (a.written_same h); absent_same = sym a.absent_same; numbers_same = sym a.numbers_same }
+alike-sym t u a = record {
+  written_same = λ h. sym (a.written_same h);
+  absent_same = sym a.absent_same;
+  numbers_same =
+      sym a.numbers_same;
+}
 
 pub der-alike : (t u : Tree) → AreAlike t u → der t ≡ der u
 unfolding der
@@ -68,6 +74,7 @@ unfolding tree_bytes
 alike-choice t = record { written_same = λ h. refl; absent_same = refl; numbers_same = refl }
 
 -- a primitive value is written as bytes with its tag
-pub alike-bytes : (p : Primitive) → AreAlike (Tree.primitive (Primitive.bytes (primitive_tag p) (primitive_content p))) (Tree.primitive p)
+pub alike-bytes : (p : Primitive) → AreAlike (Tree.primitive (Primitive.bytes (primitive_tag p) (primitive_content p)))
+    (Tree.primitive p)
 unfolding tree_bytes
 alike-bytes p = record { written_same = λ h. refl; absent_same = refl; numbers_same = refl }

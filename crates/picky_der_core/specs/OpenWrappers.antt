@@ -3,7 +3,8 @@ use Rattle.std.specs.Prelude.{ℕ, ◌++◌, ⊤, List, [], ◌∷◌, Option, N
 use Rattle.picky_der_core.specs.declared.asn1.newtype.Newtype.{Newtype}
 use Rattle.picky_der_core.specs.declared.asn1.newtype.Newtype.TheVariants as newtype
 use Rattle.picky_der_core.specs.declared.asn1.wrapper.Wrapper.{Wrapper}
-use Rattle.picky_der_core.specs.declared.asn1.wrapper.Wrapper.TheVariants.{OctetContainer, BitContainer, Explicit, Implicit}
+use Rattle.picky_der_core.specs.declared.asn1.wrapper.Wrapper.TheVariants.{OctetContainer, BitContainer, Explicit}
+use Rattle.picky_der_core.specs.declared.asn1.wrapper.Wrapper.TheVariants.{Implicit}
 use Rattle.picky_der_core.specs.Wrapper.{wrapper_front, keeps_header, HasTagNumber}
 use Rattle.picky_der_core.specs.Tree.{Tree}
 use Rattle.picky_der_core.specs.Encoding.{with_header}

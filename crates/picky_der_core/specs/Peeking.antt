@@ -1,5 +1,6 @@
 -- What contracts see of a reader that can be peeked.
-use Rattle.std.specs.Prelude.{ℕ, zero, suc, ◌+◌, ◌-◌, ◌^◌, ◌<◌, ◌≡◌, Bool, true, false, min, take, List, [], ◌∷◌, Option, None, Some, IfSome, ⊤, refl}
+use Rattle.std.specs.Prelude.{ℕ, zero, suc, ◌+◌, ◌-◌, ◌^◌, ◌<◌, ◌≡◌, Bool, true, false, min, take, List, [], ◌∷◌}
+use Rattle.std.specs.Prelude.{Option, None, Some, IfSome, ⊤, refl}
 use Rattle.std.specs.Coded.{Coded, code_by, coded×, coded_option, coded_bool, coded_ℕ}
 
 pub record PeekableState (R : Type 0) : Type 0 where

@@ -1,5 +1,6 @@
 -- The primitive kinds: their tags and contents (X.690, 8.2, 8.3, 8.7, 8.8, 8.23), and which values a type has.
-use Rattle.std.specs.Prelude.{◌≡◌, ℕ, ◌^◌, ◌<◌, ◌≤◌, Bool, true, false, List, [], ◌∷◌, length, nat_lt, IsUtf8, chars, ⊤, if◌then◌else◌}
+use Rattle.std.specs.Prelude.{◌≡◌, ℕ, ◌^◌, ◌<◌, ◌≤◌, Bool, true, false, List, [], ◌∷◌, length, nat_lt, IsUtf8, chars, ⊤}
+use Rattle.std.specs.Prelude.{if◌then◌else◌}
 use Rattle.picky_der_core.specs.Tag.{number_of, IsTagNumber}
 use Rattle.picky_der_core.specs.Element.{AreBytes, big_endian}
 
@@ -43,7 +44,8 @@ primitive_content Primitive.null = []
 primitive_content (Primitive.text s) = s
 primitive_content (Primitive.bytes tag s) = s
 
--- A tag number is at most 30. As in every value that a program has, each byte of a content is a byte and each text is UTF-8.
+-- A tag number is at most 30. As in every value that a program has, each byte of a content is a byte and each text is
+-- UTF-8.
 abbrev pub IsReadablePrimitive : Primitive → Type 0
 IsReadablePrimitive (Primitive.boolean b) = ⊤
 IsReadablePrimitive (Primitive.unsigned n) = ⊤

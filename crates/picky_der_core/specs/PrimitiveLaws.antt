@@ -4,11 +4,14 @@ use Rattle.std.specs.Int.Digits.{number_from_digits}
 use Rattle.picky_der_core.specs.Tag.{number_of, IsTagNumber}
 use Rattle.picky_der_core.specs.Element.{big_endian}
 use Rattle.picky_der_core.specs.BigEndianLaws.{number-big_endian}
-use Rattle.picky_der_core.specs.Primitive.{Primitive, PrimitiveShape, primitive_tag, primitive_content, IsPrimitive, IsReadablePrimitive, shape_tag, boolean_content, as_positive, unsigned_content}
+use Rattle.picky_der_core.specs.Primitive.{Primitive, PrimitiveShape, primitive_tag, primitive_content, IsPrimitive}
+use Rattle.picky_der_core.specs.Primitive.{IsReadablePrimitive, shape_tag, boolean_content, as_positive}
+use Rattle.picky_der_core.specs.Primitive.{unsigned_content}
 
 -- ---- contents
 
-padded : (p : Bool) (b : ℕ) (bs : List ℕ) → number_from_digits 256 (cond p (b ∷ bs) (0 ∷ b ∷ bs)) ≡ number_from_digits 256 (b ∷ bs)
+padded : (p : Bool) (b : ℕ) (bs : List ℕ) → number_from_digits 256 (cond p (b ∷ bs) (0 ∷ b ∷ bs)) ≡ number_from_digits
+    256 (b ∷ bs)
 padded true b bs = refl
 padded false b bs = refl
 
@@ -22,7 +25,8 @@ unfolding unsigned_content
 number-unsigned_content n = number-as_positive (big_endian n) ∙ number-big_endian n
 
 pub unsigned_content-same : (m n : ℕ) → unsigned_content m ≡ unsigned_content n → m ≡ n
-unsigned_content-same m n e = sym (number-unsigned_content m) ∙ ap (number_from_digits 256) e ∙ number-unsigned_content n
+unsigned_content-same m n e = sym (number-unsigned_content m) ∙ ap (number_from_digits 256) e
+    ∙ number-unsigned_content n
 
 boolean_content-same : (b c : Bool) → boolean_content b ≡ boolean_content c → b ≡ c
 boolean_content-same true true e = refl
@@ -47,10 +51,13 @@ primitive_tag-shape (PrimitiveShape.bytes tag) (Primitive.bytes x s) h = h.0
 primitive_tag-shape _ _ h = absurd h
 
 -- values of one shape with the same content are the same
-pub primitive_content-same : (k : PrimitiveShape) (p q : Primitive) → IsPrimitive k p → IsPrimitive k q → primitive_content p ≡ primitive_content q → p ≡ q
-primitive_content-same PrimitiveShape.boolean (Primitive.boolean b) (Primitive.boolean c) h j e = ap Primitive.boolean (boolean_content-same b c e)
+pub primitive_content-same : (k : PrimitiveShape) (p q : Primitive) → IsPrimitive k p → IsPrimitive k q
+    → primitive_content p ≡ primitive_content q → p ≡ q
+primitive_content-same PrimitiveShape.boolean (Primitive.boolean b) (Primitive.boolean c) h j e =
+    ap Primitive.boolean (boolean_content-same b c e)
 primitive_content-same PrimitiveShape.boolean (Primitive.boolean b) _ h j e = absurd j
-primitive_content-same (PrimitiveShape.unsigned most) (Primitive.unsigned m) (Primitive.unsigned n) h j e = ap Primitive.unsigned (unsigned_content-same m n e)
+primitive_content-same (PrimitiveShape.unsigned most) (Primitive.unsigned m) (Primitive.unsigned n) h j e =
+    ap Primitive.unsigned (unsigned_content-same m n e)
 primitive_content-same (PrimitiveShape.unsigned most) (Primitive.unsigned m) _ h j e = absurd j
 primitive_content-same PrimitiveShape.null Primitive.null Primitive.null h j e = refl
 primitive_content-same PrimitiveShape.null Primitive.null _ h j e = absurd j
@@ -58,6 +65,7 @@ primitive_content-same PrimitiveShape.character (Primitive.text b) (Primitive.te
 primitive_content-same PrimitiveShape.character (Primitive.text b) _ h j e = absurd j
 primitive_content-same PrimitiveShape.text (Primitive.text b) (Primitive.text c) h j e = ap Primitive.text e
 primitive_content-same PrimitiveShape.text (Primitive.text b) _ h j e = absurd j
-primitive_content-same (PrimitiveShape.bytes tag) (Primitive.bytes x b) (Primitive.bytes y c) h j e = let f : x ≡ y = h.0 ∙ sym j.0 in cc
+primitive_content-same (PrimitiveShape.bytes tag) (Primitive.bytes x b) (Primitive.bytes y c) h j e = let f : x ≡ y =
+    h.0 ∙ sym j.0 in cc
 primitive_content-same (PrimitiveShape.bytes tag) (Primitive.bytes x b) _ h j e = absurd j
 primitive_content-same _ _ _ h j e = absurd h

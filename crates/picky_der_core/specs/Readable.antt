@@ -23,9 +23,9 @@ abbrev pub IsInOrder : ListKind → List (List ℕ) → Type 0
 IsInOrder ListKind.sequence members = ⊤
 IsInOrder ListKind.set members = IsAscending members
 
--- Nothing in it is absent. Each raw part is one element. Each tag number is at most 30. Each tag in place of a list's own is constructed. No choice is directly
--- under an implicit tag. The members of each set are in ascending order. Each byte of a content or of a raw part is a byte, and each text is UTF-8, as in every
--- value of a program.
+-- Nothing in it is absent. Each raw part is one element. Each tag number is at most 30. Each tag in place of a list's
+-- own is constructed. No choice is directly under an implicit tag. The members of each set are in ascending order. Each
+-- byte of a content or of a raw part is a byte, and each text is UTF-8, as in every value of a program.
 abbrev mutual
   pub IsReadable : Tree → Type 0
   IsReadable (Tree.primitive p) = IsReadablePrimitive p

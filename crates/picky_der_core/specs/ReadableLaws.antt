@@ -14,7 +14,8 @@ mutual
   tag_numbers : (t : Tree) → IsReadable t → IsTrue (has_tag_numbers t)
   tag_numbers (Tree.primitive p) r = le-leb (number_of (primitive_tag p)) 30 (primitive_tag_number p r)
   tag_numbers (Tree.list kind ts) r = all_numbers ts r.1
-  tag_numbers (Tree.wrapped w t) r = let e : has_tag_number w ≡ true = has_tag_number-true w r.0 in rw e (tag_numbers t r.2)
+  tag_numbers (Tree.wrapped w t) r = let e : has_tag_number w ≡ true = has_tag_number-true w r.0 in
+      rw e (tag_numbers t r.2)
   tag_numbers (Tree.raw s) r = refl
   tag_numbers (Tree.choice t) r = tag_numbers t r
   tag_numbers Tree.absent r = absurd r

@@ -1,5 +1,6 @@
 -- What a read of one byte does.
-use Rattle.std.specs.Prelude.{◌≡◌, ℕ, ◌≤◌, List, [], ◌∷◌, length, drop, Option, None, Some, MatchOption, Result, MatchResult}
+use Rattle.std.specs.Prelude.{◌≡◌, ℕ, ◌≤◌, List, [], ◌∷◌, length, drop, Option, None, Some, MatchOption, Result}
+use Rattle.std.specs.Prelude.{MatchResult}
 use Rattle.std.specs.Io.KnownBytes.{Consumes, Keeps, IsAtEnd}
 use Rattle.std.specs.IoError.{error_kind}
 use Rattle.std.specs.declared.io.Error.{Error}
@@ -16,7 +17,8 @@ GivesByte old new r = MatchResult r (λ b. Consumes old new (b ∷ [])) (λ _. K
 -- the next byte was consumed; at the end of the input there is none, and an error consumes none
 abbrev pub GivesNext : Option (List ℕ) → Option (List ℕ) → Result (Option ℕ) Error → Type 0
 GivesNext old new r =
-    MatchResult r (λ next. MatchOption next (Keeps old new × IsAtEnd new) (λ b. Consumes old new (b ∷ []))) (λ _. Keeps old new)
+    MatchResult r (λ next. MatchOption next (Keeps old new × IsAtEnd new) (λ b. Consumes old new (b ∷ [])))
+    (λ _. Keeps old new)
 
 -- the first n bytes were consumed
 abbrev pub ConsumesFirst : Option (List ℕ) → Option (List ℕ) → ℕ → Type 0
@@ -35,7 +37,9 @@ pub data IsFaultOrEnd (before left : Option (List ℕ)) (old new : List Fault) (
 abbrev pub CountsFault : Option (List ℕ) → Option (List ℕ) → List Fault → List Fault → Result ℕ Error → Type 0
 CountsFault before left old new r = MatchResult r (λ _. new ≡ old) (IsFaultOrEnd before left old new)
 
--- the reader failed exactly once, the error is what that I/O error becomes, and nothing was consumed after it; or it didn't fail
+-- the reader failed exactly once, the error is what that I/O error becomes, and nothing was consumed after it; or it
+-- didn't fail
 pub data ReportsFault (old new : List Fault) (left : Option (List ℕ)) (e : Asn1DerError) : Type 0 where
-  fault : (kind : ErrorKind) → new ≡ record { kind = kind; left = left } ∷ old → e ≡ error_of_kind kind → ReportsFault old new left e
+  fault : (kind : ErrorKind) → new ≡ record { kind = kind; left = left } ∷ old → e ≡ error_of_kind kind
+      → ReportsFault old new left e
   no_fault : new ≡ old → ReportsFault old new left e

@@ -18,8 +18,8 @@ abbrev pub written_at : Place → Tree → List ℕ
 written_at Place.whole t = der t
 written_at (Place.under_implicit ahead) t = implicit_content t
 
--- Directly under an implicit tag no choice is read, since its first byte isn't there to choose by. A plain value fills the tag's content, since its length
--- isn't there.
+-- Directly under an implicit tag no choice is read, since its first byte isn't there to choose by. A plain value fills
+-- the tag's content, since its length isn't there.
 pub record FillsTag (ahead : ℕ) (t : Tree) : Type 0 where
   pub no_choice : IsNoChoice t
   pub filled : IsTrue (is_plain t) → length (implicit_content t) ≡ ahead
@@ -40,12 +40,13 @@ pub record IsAtFront (place : Place) (s : Shape) (bs : List ℕ) (limit : ℕ) (
 abbrev pub ReadsFrom : {V : Type 0} → (V → Tree) → Shape → List ℕ → ℕ → V → Type 0
 ReadsFrom meaning s input limit v = IsAtFront Place.whole s input limit (meaning v)
 
--- more bytes after b could make a value of the type of it: of some value, of at most `limit` bytes, b is the beginning, or
--- it is the beginning of b
-pub record IsMendable {V : Type 0} (meaning : V → Tree) (s : Shape) (place : Place) (b : List ℕ) (limit : ℕ) : Type 0 where
-  pub value : V
-  pub of_shape : IsOf s (meaning value)
-  pub readable : IsReadable (meaning value)
-  pub may_be_there : MayBeAt place (meaning value)
-  pub within : length (written_at place (meaning value)) ≤ limit
-  pub agrees : IsPrefix (written_at place (meaning value)) b ⊎ IsPrefix b (written_at place (meaning value))
+-- more bytes after b could make a value of the type of it: of some value, of at most `limit` bytes, b is the beginning,
+-- or it is the beginning of b
+pub record IsMendable {V : Type 0} (meaning : V → Tree) (s : Shape) (place : Place) (b : List ℕ) (limit : ℕ) : Type 0
+  where
+    pub value : V
+    pub of_shape : IsOf s (meaning value)
+    pub readable : IsReadable (meaning value)
+    pub may_be_there : MayBeAt place (meaning value)
+    pub within : length (written_at place (meaning value)) ≤ limit
+    pub agrees : IsPrefix (written_at place (meaning value)) b ⊎ IsPrefix b (written_at place (meaning value))

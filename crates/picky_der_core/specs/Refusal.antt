@@ -1,5 +1,6 @@
 -- Which reads are refused, and with which error.
-use Rattle.std.specs.Prelude.{ℕ, ℤ, ◌+◌, ◌-◌, Bool, true, not, ◌&&◌, ◌||◌, List, [], ◌∷◌, length, take, drop, nat_lt, ◌==◌, Option, Some, None, Result, Ok, Err, chars, if◌then◌else◌}
+use Rattle.std.specs.Prelude.{ℕ, ℤ, ◌+◌, ◌-◌, Bool, true, not, ◌&&◌, ◌||◌, List, [], ◌∷◌, length, take, drop, nat_lt}
+use Rattle.std.specs.Prelude.{◌==◌, Option, Some, None, Result, Ok, Err, chars, if◌then◌else◌}
 use Rattle.std.specs.Option.{option_map}
 use Rattle.std.specs.Int.Digits.{number_from_digits}
 use Rattle.std.specs.Str.{is_utf8}
@@ -47,14 +48,16 @@ length_of lacking (b ∷ bs) =
     else (if b == 0x80 then Err (InvalidData, bs)
     else (if nat_lt 0x88 b then Err (UnsupportedValue, bs)
     else (if nat_lt (length bs) (b - 0x80) then Err (lacking, [])
-    else long_length (number_from_digits 256 (take (b - 0x80) bs)) (begins_with_zero (take (b - 0x80) bs)) (drop (b - 0x80) bs))))
+    else long_length (number_from_digits 256 (take (b - 0x80) bs)) (begins_with_zero (take (b - 0x80) bs))
+    (drop (b - 0x80) bs))))
 
 -- ---- headers
 
 -- the length after the tag, if it doesn't reach past the innermost end
 abbrev pub within_end : Bool → ℕ → List ℕ → ReadOutcome ℕ → ReadOutcome ℕ
 within_end hard ahead rest (Err e) = Err e
-within_end hard ahead rest (Ok (n, left)) = if nat_lt (ahead - (length rest - length left)) n then Err (error_past_end hard, left) else Ok (n, left)
+within_end hard ahead rest (Ok (n, left)) =
+    if nat_lt (ahead - (length rest - length left)) n then Err (error_past_end hard, left) else Ok (n, left)
 
 abbrev pub length_after : Bool → ℕ → List ℕ → List ℕ → ReadOutcome ℕ
 length_after hard ahead rest after = within_end hard ahead rest (length_of (missing_byte hard ahead rest) after)
@@ -65,16 +68,19 @@ header_with tag hard ahead (b ∷ bs) = if b == tag then length_after hard ahead
 
 -- the header of an element with this tag: the length of the content, and the bytes from there on
 abbrev pub header : ℕ → Bool → ℕ → List ℕ → ReadOutcome ℕ
-header tag hard ahead rest = if is_tag_number (number_of tag) then header_with tag hard ahead rest else Err (UnsupportedValue, rest)
+header tag hard ahead rest = if is_tag_number (number_of tag) then header_with tag hard ahead rest else Err
+    (UnsupportedValue, rest)
 
 -- the same of a wrapper
 abbrev pub wrapper_header : Wrapper → Bool → ℕ → List ℕ → ReadOutcome ℕ
-wrapper_header w hard ahead rest = if has_tag_number w then header_with (wrapper_tag w) hard ahead rest else Err (UnsupportedValue, rest)
+wrapper_header w hard ahead rest = if has_tag_number w then header_with (wrapper_tag w) hard ahead rest else Err
+    (UnsupportedValue, rest)
 
 -- the header of any element
 abbrev pub any_header : Bool → ℕ → List ℕ → ReadOutcome ℕ
 any_header hard ahead [] = Err (missing_byte hard ahead [], [])
-any_header hard ahead (b ∷ bs) = if is_tag_number (number_of b) then length_after hard ahead (b ∷ bs) bs else Err (UnsupportedValue, bs)
+any_header hard ahead (b ∷ bs) = if is_tag_number (number_of b) then length_after hard ahead (b ∷ bs) bs else Err
+    (UnsupportedValue, bs)
 
 abbrev pub refusal_of : ReadOutcome ℕ → Option Refusal
 refusal_of (Ok read) = None
@@ -93,19 +99,23 @@ boolean_error (b ∷ c ∷ bs) = Some InvalidData
 
 -- bytes of a number, without a leading 00
 abbrev pub number_error : ℕ → Judge
-number_error most bs = if nat_lt 16 (length bs) || nat_lt most (number_from_digits 256 bs) then Some UnsupportedValue else None
+number_error most bs = if nat_lt 16 (length bs) || nat_lt most (number_from_digits 256 bs) then Some UnsupportedValue
+    else None
 
 abbrev pub unsigned_error : ℕ → Judge
 unsigned_error most [] = Some TruncatedData
 unsigned_error most (b ∷ []) = if nat_lt b 0x80 then number_error most (b ∷ []) else Some UnsupportedValue
 unsigned_error most (b ∷ c ∷ bs) =
-    if nat_lt b 0x80 then (if b == 0 then (if nat_lt c 0x80 then Some InvalidData else number_error most (c ∷ bs)) else number_error most (b ∷ c ∷ bs))
+    if nat_lt b 0x80 then (if b == 0 then (if nat_lt c 0x80 then Some InvalidData else number_error most (c ∷ bs)) else
+    number_error most (b ∷ c ∷ bs))
     else Some UnsupportedValue
 
--- A content that isn't one of an INTEGER is invalid, and a number that a type doesn't have isn't supported. No type has one of more
--- than 17 bytes.
+-- A content that isn't one of an INTEGER is invalid, and a number that a type doesn't have isn't supported. No type has
+-- one of more than 17 bytes.
 abbrev pub int_error : (ℤ → Bool) → Judge
-int_error fits bs = if is_integer bs then (if nat_lt 17 (length bs) || not (fits (integer_value bs)) then Some UnsupportedValue else None) else Some InvalidData
+int_error fits bs =
+    if is_integer bs then (if nat_lt 17 (length bs) || not (fits (integer_value bs)) then Some UnsupportedValue else
+    None) else Some InvalidData
 
 abbrev pub null_error : Judge
 null_error [] = None
@@ -141,7 +151,8 @@ refusal_leaving (Some e) left = Some (e, left)
 -- the content, which is consumed whole before it is judged
 abbrev pub content_refusal : Judge → ReadOutcome ℕ → Option Refusal
 content_refusal judge (Err e) = Some e
-content_refusal judge (Ok (n, rest)) = if nat_lt (length rest) n then Some (TruncatedData, []) else refusal_leaving (judge (take n rest)) (drop n rest)
+content_refusal judge (Ok (n, rest)) = if nat_lt (length rest) n then Some (TruncatedData, []) else refusal_leaving
+    (judge (take n rest)) (drop n rest)
 
 -- how a plain value with this tag is refused, if it is
 abbrev pub plain_refusal : ℕ → Judge → Bool → ℕ → List ℕ → Option Refusal

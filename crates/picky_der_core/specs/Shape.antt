@@ -1,5 +1,6 @@
 -- The shapes of types, which trees are of a shape, and with which bytes their encodings begin.
-use Rattle.std.specs.Prelude.{◌≡◌, ℕ, zero, suc, Bool, true, not, ◌⊎◌, List, [], ◌∷◌, ◌++◌, ◌==◌, ⊤, IsTrue, if◌then◌else◌}
+use Rattle.std.specs.Prelude.{◌≡◌, ℕ, zero, suc, Bool, true, not, ◌⊎◌, List, [], ◌∷◌, ◌++◌, ◌==◌, ⊤, IsTrue}
+use Rattle.std.specs.Prelude.{if◌then◌else◌}
 use Rattle.std.specs.List.{list_any, list_all, filter}
 use Rattle.picky_der_core.specs.declared.asn1.wrapper.Wrapper.{Wrapper}
 use Rattle.picky_der_core.specs.Tag.{number_of, is_tag_number}
@@ -33,7 +34,8 @@ mutual
     required : Shape → Layout → Layout
     -- a member that may be missing, and the members after it
     maybe : Shape → Layout → Layout
-    -- any further elements, of which the first begins with none of these bytes: elements of a later version (X.680, 25.1)
+    -- any further elements, of which the first begins with none of these bytes: elements of a later version (X.680,
+    -- 25.1)
     others : List ℕ → Layout
 
 abbrev pub shapes : List Shape → Shapes

@@ -22,4 +22,5 @@ faults_of s = count_of s.faults
 -- it writes to the same vector, and what lies past its bytes stays
 abbrev pub IsLater : BufSink → BufSink → Type 0
 IsLater s t =
-    ((vector_of t).ghost_name ≡ (vector_of s).ghost_name) × (position_of s ≤ position_of t) × (drop (position_of t) (vector_of t).now.items ≡ drop (position_of t) (vector_of s).now.items)
+    ((vector_of t).ghost_name ≡ (vector_of s).ghost_name) × (position_of s ≤ position_of t)
+    × (drop (position_of t) (vector_of t).now.items ≡ drop (position_of t) (vector_of s).now.items)

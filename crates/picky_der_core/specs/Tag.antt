@@ -1,7 +1,8 @@
 -- The parts of an identifier byte (X.690, 8.1.2).
 use Rattle.std.specs.Prelude.{◌≡◌, ℕ, ◌/◌, ◌%◌, ◌≤◌, Bool, ◌&&◌, nat_le, ◌==◌, if◌then◌else◌}
 use Rattle.picky_der_core.specs.declared.asn1.tag.TagClass.{TagClass}
-use Rattle.picky_der_core.specs.declared.asn1.tag.TagClass.TheVariants.{Universal, Application, ContextSpecific, Private}
+use Rattle.picky_der_core.specs.declared.asn1.tag.TagClass.TheVariants.{Universal, Application, ContextSpecific}
+use Rattle.picky_der_core.specs.declared.asn1.tag.TagClass.TheVariants.{Private}
 
 -- bits 8 and 7 of a byte
 abbrev pub class_of : ℕ → TagClass

@@ -1,7 +1,8 @@
 -- The wrappers, each one element around one value (X.690, 8.6.2, 8.7, 8.14). Each table has a line for each of them.
 use Rattle.std.specs.Prelude.{ℕ, ◌+◌, Bool, true, false, List, [], ◌∷◌, ⊤, if◌then◌else◌}
 use Rattle.picky_der_core.specs.declared.asn1.wrapper.Wrapper.{Wrapper}
-use Rattle.picky_der_core.specs.declared.asn1.wrapper.Wrapper.TheVariants.{OctetContainer, BitContainer, Explicit, Implicit, Application, ImplicitList}
+use Rattle.picky_der_core.specs.declared.asn1.wrapper.Wrapper.TheVariants.{OctetContainer, BitContainer, Explicit}
+use Rattle.picky_der_core.specs.declared.asn1.wrapper.Wrapper.TheVariants.{Implicit, Application, ImplicitList}
 use Rattle.picky_der_core.specs.Tag.{number_of, is_tag_number, IsTagNumber, is_constructed_tag, IsConstructedTag}
 
 abbrev pub wrapper_tag : Wrapper → ℕ

@@ -3,11 +3,14 @@ use Rattle.std.proofs.Common.{◌≡◌, ℕ, Bool, true, false, ◌⊎◌, inl,
 use Rattle.std.specs.Prelude.{if◌then◌else◌}
 use Rattle.std.proofs.lemmas.Bool.Decides.{leb_tells, eqb_tells}
 use Rattle.picky_der_core.specs.declared.asn1.wrapper.Wrapper.{Wrapper}
-use Rattle.picky_der_core.specs.declared.asn1.wrapper.Wrapper.TheVariants.{OctetContainer, BitContainer, Explicit, Implicit, Application, ImplicitList}
+use Rattle.picky_der_core.specs.declared.asn1.wrapper.Wrapper.TheVariants.{OctetContainer, BitContainer, Explicit}
+use Rattle.picky_der_core.specs.declared.asn1.wrapper.Wrapper.TheVariants.{Implicit, Application, ImplicitList}
 use Rattle.picky_der_core.specs.Tag.{number_of, is_tag_number, IsTagNumber, IsConstructedTag, is_constructed_tag}
-use Rattle.picky_der_core.specs.Wrapper.{wrapper_tag, wrapper_number, wrapper_front, counts_unused_bits, keeps_header, HasTagNumber, has_tag_number}
+use Rattle.picky_der_core.specs.Wrapper.{wrapper_tag, wrapper_number, wrapper_front, counts_unused_bits, keeps_header}
+use Rattle.picky_der_core.specs.Wrapper.{HasTagNumber, has_tag_number}
 
-pub constructed_tag_tells : (tag : ℕ) → ((is_constructed_tag tag ≡ true) × IsConstructedTag tag) ⊎ ((is_constructed_tag tag ≡ false) × (IsConstructedTag tag → ⊥))
+pub constructed_tag_tells : (tag : ℕ) → ((is_constructed_tag tag ≡ true) × IsConstructedTag tag)
+    ⊎ ((is_constructed_tag tag ≡ false) × (IsConstructedTag tag → ⊥))
 constructed_tag_tells tag = elim (leb_tells (number_of tag) 30) [
   | inl few ↦ elim (eqb_tells (tag / 32 % 2) 1) [
     | inl one ↦ inl (rw (few.0, one.0) refl, (few.1, one.1))
@@ -41,7 +44,8 @@ number_tells n = elim (leb_tells n 30) [
 ]
 
 -- the test decides it
-pub tag_number_tells : (w : Wrapper) → ((has_tag_number w ≡ true) × HasTagNumber w) ⊎ ((has_tag_number w ≡ false) × (HasTagNumber w → ⊥))
+pub tag_number_tells : (w : Wrapper) → ((has_tag_number w ≡ true) × HasTagNumber w) ⊎ ((has_tag_number w ≡ false)
+    × (HasTagNumber w → ⊥))
 tag_number_tells OctetContainer = inl (refl, tt)
 tag_number_tells BitContainer = inl (refl, tt)
 tag_number_tells (Explicit n) = number_tells n
@@ -55,7 +59,8 @@ has_tag_number-true w h = elim (tag_number_tells w) [ inl proved ↦ proved.0 | 
 pub has_tag_number-false : (w : Wrapper) → (HasTagNumber w → ⊥) → has_tag_number w ≡ false
 has_tag_number-false w h = elim (tag_number_tells w) [ inl proved ↦ absurd (h proved.1) | inr refuted ↦ refuted.0 ]
 
-after_count : (counts : Bool) (c d : List ℕ) → (if counts then 0x00 ∷ [] else []) ++ c ≡ (if counts then 0x00 ∷ [] else []) ++ d → c ≡ d
+after_count : (counts : Bool) (c d : List ℕ)
+    → (if counts then 0x00 ∷ [] else []) ++ c ≡ (if counts then 0x00 ∷ [] else []) ++ d → c ≡ d
 after_count true c d e = let f : 0x00 ∷ c ≡ 0x00 ∷ d = e in cc
 after_count false c d e = e
 

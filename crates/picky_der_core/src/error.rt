@@ -12,8 +12,8 @@ use thiserror::Error;
 /// It prints as the name of its variant; `Message` and `Other` show what they hold.
 #[derive(Debug, Clone, Copy, PartialEq, Eq, Error)]
 pub enum Asn1DerError {
-    /// The data ended too early: the input, a content that can't be empty, or a sequence that lacks a member. A value that is
-    /// only cut short gives no other error.
+    /// The data ended too early: the input, a content that can't be empty, or a sequence that lacks a member. A value
+    /// that is only cut short gives no other error.
     #[error("TruncatedData")]
     TruncatedData,
 
@@ -33,8 +33,8 @@ pub enum Asn1DerError {
     #[error("InvalidSink")]
     InvalidSink,
 
-    /// A message from a hand-written implementation. It is `failed before` if an earlier call failed with a message. It is
-    /// printed as it is.
+    /// A message from a hand-written implementation. It is `failed before` if an earlier call failed with a message. It
+    /// is printed as it is.
     #[error("Message(\"{0}\")")]
     Message(&'static str),
 
@@ -56,8 +56,8 @@ impl Asn1DerError {
     }
 }
 
-/// `UnexpectedEof` becomes `TruncatedData`, and `WriteZero` becomes `InvalidSink`. `OutOfMemory` stays `OutOfMemory`. Any other
-/// kind becomes `Other`.
+/// `UnexpectedEof` becomes `TruncatedData`, and `WriteZero` becomes `InvalidSink`. `OutOfMemory` stays `OutOfMemory`.
+/// Any other kind becomes `Other`.
 impl From<io::Error> for Asn1DerError {
     ghost from_gives = { λ e k. k ≡ error_of_kind (error_kind e) };
 

@@ -5,7 +5,8 @@ ghost use Rattle.picky_der_core.specs.Failure.{failure_of};
 use crate::Asn1DerError;
 use std::io::ErrorKind;
 
-/// The kind of the error that a serializer or a deserializer has failed with: the error without the text of its message.
+/// The kind of the error that a serializer or a deserializer has failed with: the error without the text of its
+/// message.
 #[derive(Debug, Clone, Copy, PartialEq, Eq)]
 pub enum Failure {
     /// Of `Asn1DerError::TruncatedData`.

@@ -1,9 +1,10 @@
-//! The laws of canonical DER: each is the contract of a function without arguments, over the definitions alone. The submodules
-//! have the laws of `==` and of copies.
+//! The laws of canonical DER: each is the contract of a function without arguments, over the definitions alone. The
+//! submodules have the laws of `==` and of copies.
 ghost use Rattle.std.specs.Prelude.{◌≡◌, ℤ, List, ℕ, true};
 ghost use Rattle.picky_der_core.specs.Element.{AreBytes};
 ghost use Rattle.picky_der_core.specs.Integer.{is_integer, integer_content, integer_value, twos_complement};
-ghost use Rattle.picky_der_core.specs.Laws.{LengthBothWays, WrapperLengths, FirstsTell, UniqueReadability, OneValue, RoundTrip};
+ghost use Rattle.picky_der_core.specs.Laws.{LengthBothWays, WrapperLengths, FirstsTell, UniqueReadability, OneValue};
+ghost use Rattle.picky_der_core.specs.Laws.{RoundTrip};
 ghost use Rattle.picky_der_core.specs.Laws.{SameBytes, OneInside, SetOrder, NoAmplification};
 
 pub mod copies;
@@ -14,8 +15,8 @@ pub fn length_both_ways()
     ensures { LengthBothWays }
 {}
 
-/// Around something, a wrapper whose tag can be written is one element that holds exactly what it should, at every depth. An
-/// application tag is one around anything.
+/// Around something, a wrapper whose tag can be written is one element that holds exactly what it should, at every
+/// depth. An application tag is one around anything.
 #[tactic(auto, using(crate::proofs::LawProofs::wrapper_lengths))]
 pub fn wrapper_lengths()
     ensures { WrapperLengths }
@@ -38,7 +39,8 @@ pub fn one_value()
     ensures { OneValue }
 {}
 
-/// Reading the encoding of a readable tree of a sound shape gives this tree and no other. What follows the encoding is left.
+/// Reading the encoding of a readable tree of a sound shape gives this tree and no other. What follows the encoding is
+/// left.
 pub fn round_trip()
     ensures { RoundTrip }
 {}
@@ -60,15 +62,16 @@ pub fn set_order()
     ensures { SetOrder }
 {}
 
-/// What a readable tree holds is less than twice its encoding: the bytes of its contents and raw parts, and one for each member of
-/// a list. So a value that is read holds at most twice what was consumed. What vectors reserve isn't counted.
+/// What a readable tree holds is less than twice its encoding: the bytes of its contents and raw parts, and one for
+/// each member of a list. So a value that is read holds at most twice what was consumed. What vectors reserve isn't
+/// counted.
 #[tactic(auto, using(crate::proofs::HeldLaws::no_amplification))]
 pub fn no_amplification()
     ensures { NoAmplification }
 {}
 
-/// Each whole number has one content, and each content that passes the test is that of a number. The bits of a number's content
-/// count as its value (X.690, 8.3).
+/// Each whole number has one content, and each content that passes the test is that of a number. The bits of a number's
+/// content count as its value (X.690, 8.3).
 pub fn integers()
     ensures made { (z : ℤ) → is_integer (integer_content z) ≡ true }
     ensures all { (bs : List ℕ) → AreBytes bs → is_integer bs ≡ true

@@ -1,5 +1,6 @@
 -- Ends, opened and closed.
-use Rattle.std.proofs.Common.{◌≡◌, ℕ, ◌+◌, ◌<◌, ◌≤◌, ◌^◌, Bool, true, false, if◌then◌else◌, ◌==◌, List, [], ◌++◌, length, take, drop, Option, Some, None, refl, sym, ◌∙◌, ap, subst, arith}
+use Rattle.std.proofs.Common.{◌≡◌, ℕ, ◌+◌, ◌<◌, ◌≤◌, ◌^◌, Bool, true, false, if◌then◌else◌, ◌==◌, List, [], ◌++◌}
+use Rattle.std.proofs.Common.{length, take, drop, Option, Some, None, refl, sym, ◌∙◌, ap, subst, arith}
 use Rattle.std.specs.Bool.{then_some}
 use Rattle.std.proofs.lemmas.Grind.{common_steps}
 use Rattle.picky_der_core.specs.declared.error.Asn1DerError.{Asn1DerError}
@@ -13,7 +14,8 @@ use Rattle.picky_der_de.specs.Order.{order_of, sets_inside, cut_at}
 use Rattle.picky_der_de.proofs.Order.{put_back}
 use Rattle.picky_der_de.specs.Reading.{Concerns, now, ever}
 use Rattle.picky_der_de.specs.Headers.{header_bytes, BeginsContent}
-use Rattle.picky_der_de.specs.Ends.{EnclosingEnd, innermost, with_inner_end, with_outer_end, Closes, OpensList, list_refusal_in, list_refusal}
+use Rattle.picky_der_de.specs.Ends.{EnclosingEnd, innermost, with_inner_end, with_outer_end, Closes, OpensList}
+use Rattle.picky_der_de.specs.Ends.{list_refusal_in, list_refusal}
 use Rattle.picky_der_de.proofs.Steps.{consumes_beside, fails_beside}
 use Rattle.picky_der_de.proofs.KnownBytes.{front_of}
 use Rattle.picky_der_de.proofs.Headers.{header-read}
@@ -22,14 +24,19 @@ use Rattle.picky_der_de.proofs.PlainReads.{fits_below}
 -- ---- an end that was opened
 
 -- known bytes with a header in front aren't refused
-header_not_refused : (d : Option ℕ) (tag n q : ℕ) (s : State) (y : List ℕ) → IsTagNumber (number_of tag) → n < 2 ^ 64 → s.until_end ≡ length (header_bytes d tag n) + q → n ≤ q → list_refusal_in d tag s (header_bytes d tag n ++ y) ≡ None
-header_not_refused None tag n q s y i small r l = ap refusal_of (header-read tag (is_hard s.end) s.until_end n q y i small r l)
+header_not_refused : (d : Option ℕ) (tag n q : ℕ) (s : State) (y : List ℕ) → IsTagNumber (number_of tag) → n < 2 ^ 64
+    → s.until_end ≡ length (header_bytes d tag n) + q → n ≤ q
+    → list_refusal_in d tag s (header_bytes d tag n ++ y) ≡ None
+header_not_refused None tag n q s y i small r l =
+    ap refusal_of (header-read tag (is_hard s.end) s.until_end n q y i small r l)
 header_not_refused (Some number) tag n q s y i small r l = refl
 
-not_refused : {tag n : ℕ} {a b : State} {bs : List ℕ} → IsTagNumber (number_of tag) → BeginsContent tag a b n → a.input ≡ Some bs → list_refusal tag a (take a.until_end bs) ≡ None
+not_refused : {tag n : ℕ} {a b : State} {bs : List ℕ} → IsTagNumber (number_of tag) → BeginsContent tag a b n
+    → a.input ≡ Some bs → list_refusal tag a (take a.until_end bs) ≡ None
 not_refused {tag} {n} {a} {b} i h k =
     let f = front_of h.consumes k in
-    ap (list_refusal tag a) f.before ∙ header_not_refused a.implicit_tag tag n b.until_end a (take b.until_end f.rest) i (fits_below h) h.consumes.until_end h.fits
+    ap (list_refusal tag a) f.before ∙ header_not_refused a.implicit_tag tag n b.until_end a (take b.until_end f.rest) i
+    (fits_below h) h.consumes.until_end h.fits
 
 -- of a set, all that is kept is before the first member
 abbrev first_of_set : List ℕ → OpenSets
@@ -41,17 +48,24 @@ kept_before kept =
     let all : take (length kept) kept ≡ kept = grind (arith, common_steps) in
     rw (none, all) refl
 
-order_begun_if : (start : Option ℕ) (kept : List ℕ) (l : OpenSets) (set : Bool) → cut_at start kept ≡ sets_inside None l → cut_at (then_some set (length kept)) kept ≡ sets_inside (if set then Some [] else None) l
-order_begun_if (Some s) kept l set q = absurd (let r : Some (drop s kept) ≡ None = ap (λ (o : OpenSets). o.last) q in cc)
+order_begun_if : (start : Option ℕ) (kept : List ℕ) (l : OpenSets) (set : Bool) → cut_at start kept ≡ sets_inside None l
+    → cut_at (then_some set (length kept)) kept ≡ sets_inside (if set then Some [] else None) l
+order_begun_if (Some s) kept l set q = absurd (let r : Some (drop s kept) ≡ None = ap (λ (o : OpenSets). o.last) q in
+    cc)
 order_begun_if None kept l false q = q
 order_begun_if None kept l true q = kept_before kept ∙ ap first_of_set (ap (λ (o : OpenSets). o.around) q)
 
 -- the order of a set's members is tested from here on
-pub order_begun : (start : Option ℕ) (kept : List ℕ) (l : OpenSets) (tag : ℕ) (first : Option ℕ) {set : Bool} → set ≡ (tag == 0x31) → first ≡ then_some set (length kept) → cut_at start kept ≡ sets_inside None l → cut_at first kept ≡ sets_inside (order_of tag) l
-order_begun start kept l tag first is same q = ap (λ f. cut_at f kept) (same ∙ ap (λ b. then_some b (length kept)) is) ∙ order_begun_if start kept l (tag == 0x31) q
+pub order_begun : (start : Option ℕ) (kept : List ℕ) (l : OpenSets) (tag : ℕ) (first : Option ℕ) {set : Bool}
+    → set ≡ (tag == 0x31) → first ≡ then_some set (length kept) → cut_at start kept ≡ sets_inside None l
+    → cut_at first kept ≡ sets_inside (order_of tag) l
+order_begun start kept l tag first is same q = ap (λ f. cut_at f kept) (same ∙ ap (λ b. then_some b (length kept)) is)
+    ∙ order_begun_if start kept l (tag == 0x31) q
 
 -- the end of a list was opened after its header
-pub opens_list : {tag n : ℕ} {a b c : State} {outer : EnclosingEnd} → IsTagNumber (number_of tag) → BeginsContent tag a b n → c ≡ record (with_inner_end b n Soft) { sets = sets_inside (order_of tag) b.sets } → outer ≡ innermost b → OpensList tag a c outer
+pub opens_list : {tag n : ℕ} {a b c : State} {outer : EnclosingEnd} → IsTagNumber (number_of tag)
+    → BeginsContent tag a b n → c ≡ record (with_inner_end b n Soft) { sets = sets_inside (order_of tag) b.sets }
+    → outer ≡ innermost b → OpensList tag a c outer
 opens_list {n = n} {b = b} i h opened back = record {
   mid = b;
   size = n;
@@ -64,25 +78,33 @@ opens_list {n = n} {b = b} i h opened back = record {
 -- ---- before an end that was opened
 
 -- bytes to which a refusal applies, where the end is nearer
-pub concerns_with_inner_end : {b c : State} {e : Asn1DerError} {n left : ℕ} {seen : List ℕ} → Concerns b c e left seen → Concerns (with_inner_end b n Soft) c e n seen
+pub concerns_with_inner_end : {b c : State} {e : Asn1DerError} {n left : ℕ} {seen : List ℕ} → Concerns b c e left seen
+    → Concerns (with_inner_end b n Soft) c e n seen
 concerns_with_inner_end (now i r) = now i refl
 concerns_with_inner_end (ever w r d y left i q f) = ever w refl d y left i q f
 
-pub concerns_room : {b c : State} {e : Asn1DerError} {left : ℕ} {seen : List ℕ} → b.end ≡ Soft → Concerns b c e left seen → left ≡ b.until_end
+pub concerns_room : {b c : State} {e : Asn1DerError} {left : ℕ} {seen : List ℕ} → b.end ≡ Soft
+    → Concerns b c e left seen → left ≡ b.until_end
 concerns_room soft (now i r) = r
 concerns_room {b} soft (ever w r d y left i q f) = r ∙ ap (λ (z : End). mendable_within z b.until_end) soft
 
-pub judged_with_inner_end : {b c : State} {e : Asn1DerError} (n : ℕ) (kind : End) → IsJudged b c e → IsJudged (with_inner_end b n kind) c e
+pub judged_with_inner_end : {b c : State} {e : Asn1DerError} (n : ℕ) (kind : End) → IsJudged b c e
+    → IsJudged (with_inner_end b n kind) c e
 judged_with_inner_end n kind j = record { had_not_failed = j.had_not_failed; faults = j.faults; memory = j.memory }
 
 -- a call that failed before a nearer end failed before the one around it
-pub fails_without_inner_end : {b c : State} {e : Asn1DerError} {n : ℕ} {kind : End} → n ≤ b.until_end → Fails (with_inner_end b n kind) c e → Fails b c e
+pub fails_without_inner_end : {b c : State} {e : Asn1DerError} {n : ℕ} {kind : End} → n ≤ b.until_end
+    → Fails (with_inner_end b n kind) c e → Fails b c e
 fails_without_inner_end l f = fails_beside l f
 
 -- what was consumed up to an end that is closed was consumed before the one around it
-pub closes_after : {b c d : State} {n : ℕ} {kind : End} {outer : EnclosingEnd} {bytes : List ℕ} → n ≤ b.until_end → outer ≡ innermost b → Consumed (with_inner_end b n kind) c bytes → Closes outer c d → Consumed b d bytes × (length bytes ≡ n)
+pub closes_after : {b c d : State} {n : ℕ} {kind : End} {outer : EnclosingEnd} {bytes : List ℕ} → n ≤ b.until_end
+    → outer ≡ innermost b → Consumed (with_inner_end b n kind) c bytes → Closes outer c d
+    → Consumed b d bytes × (length bytes ≡ n)
 closes_after {b} {c} {d} {n} {kind} {outer} {bytes} l back t k =
     let size : length bytes ≡ n = omega (arith, t.until_end, k.reached) in
     let position : outer.position ≡ b.consumed + b.until_end = ap (λ (o : EnclosingEnd). o.position) back in
-    let consumes : Consumed b (with_outer_end outer c) bytes = consumes_beside (omega (arith, t.consumed, t.until_end, position, l)) (ap (λ (o : EnclosingEnd). o.kind) back) (put_back b back t.sets) t in
+    let consumes : Consumed b (with_outer_end outer c) bytes =
+    consumes_beside (omega (arith, t.consumed, t.until_end, position, l)) (ap (λ (o : EnclosingEnd). o.kind) back)
+    (put_back b back t.sets) t in
     (subst (λ z. Consumed b z bytes) (sym k.same) consumes, size)

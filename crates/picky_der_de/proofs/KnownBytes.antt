@@ -1,5 +1,6 @@
 -- Known bytes before the innermost end, and how they are refused.
-use Rattle.std.proofs.Common.{◌≡◌, ℕ, ◌+◌, ◌<◌, true, List, [], ◌++◌, length, take, drop, Option, Some, None, ◌==◌, refl, sym, ◌∙◌, ap, arith, append-nil, ne_eqb}
+use Rattle.std.proofs.Common.{◌≡◌, ℕ, ◌+◌, ◌<◌, true, List, [], ◌++◌, length, take, drop, Option, Some, None, ◌==◌}
+use Rattle.std.proofs.Common.{refl, sym, ◌∙◌, ap, arith, append-nil, ne_eqb}
 use Rattle.std.proofs.lemmas.Bool.Decides.{nat_tests}
 use Rattle.std.proofs.lemmas.Grind.{common_steps}
 use Rattle.std.specs.Io.KnownBytes.{Consumes, Keeps}
@@ -13,7 +14,8 @@ use Rattle.picky_der_de.specs.declared.end.End.{End}
 use Rattle.picky_der_de.specs.declared.end.End.TheVariants.{Limit, Soft, Hard}
 use Rattle.picky_der_core.specs.Peeking.{count_of_any}
 use Rattle.picky_der_de.specs.State.{State}
-use Rattle.picky_der_de.specs.Steps.{Consumed, IsMissing, end_is_here, input_ended, IsCut, failed_with, is_hard, error_at_end}
+use Rattle.picky_der_de.specs.Steps.{Consumed, IsMissing, end_is_here, input_ended, IsCut, failed_with, is_hard}
+use Rattle.picky_der_de.specs.Steps.{error_at_end}
 use Rattle.picky_der_de.specs.Reading.{IsJustRefused}
 use Rattle.picky_der_de.proofs.Refusals.{front_consumed, at_end_of}
 
@@ -26,7 +28,8 @@ pub record ConsumedFront (left : Option (List ℕ)) (r q : ℕ) (h bs : List ℕ
   pub before : take r bs ≡ h ++ take q rest
   pub past : drop r bs ≡ drop q rest
 
-pub front : (i j : Option (List ℕ)) {r q : ℕ} {h bs : List ℕ} → Consumes i j h → r ≡ length h + q → i ≡ Some bs → ConsumedFront j r q h bs
+pub front : (i j : Option (List ℕ)) {r q : ℕ} {h bs : List ℕ} → Consumes i j h → r ≡ length h + q → i ≡ Some bs
+    → ConsumedFront j r q h bs
 front i j {r} {q} {h} {bs} c e k =
     let p = front_consumed i j h bs c k in
     record {
@@ -36,7 +39,8 @@ front i j {r} {q} {h} {bs} c e k =
       past = ap (drop r) p.2 ∙ ap (λ n. drop n (h ++ p.0)) e ∙ drop-append-add h p.0 q;
     }
 
-pub front_of : {a b : State} {h bs : List ℕ} → Consumed a b h → a.input ≡ Some bs → ConsumedFront b.input a.until_end b.until_end h bs
+pub front_of : {a b : State} {h bs : List ℕ} → Consumed a b h → a.input ≡ Some bs
+    → ConsumedFront b.input a.until_end b.until_end h bs
 front_of {a} {b} t k = front a.input b.input t.input t.until_end k
 
 -- ---- where a byte is missing
@@ -57,7 +61,9 @@ missing_before Limit r h l = refl
 missing_before Soft r h l = refl
 missing_before Hard r h l = rw (ne_eqb (length h) r (λ e. omega arith)) refl
 
-pub missing_of : {mid : State} {e : Asn1DerError} (r : ℕ) (h bs : List ℕ) → IsMissing mid e → r ≡ length h + mid.until_end → ConsumedFront mid.input r mid.until_end h bs → AllConsumed mid.end mid.input r h bs e
+pub missing_of : {mid : State} {e : Asn1DerError} (r : ℕ) (h bs : List ℕ) → IsMissing mid e
+    → r ≡ length h + mid.until_end → ConsumedFront mid.input r mid.until_end h bs
+    → AllConsumed mid.end mid.input r h bs e
 missing_of {mid} {e} r h bs (end_is_here z is) l f =
     let none : take mid.until_end f.rest ≡ [] = ap (λ n. take n f.rest) z in
     let all : drop mid.until_end f.rest ≡ f.rest = ap (λ n. drop n f.rest) z in
@@ -69,7 +75,8 @@ missing_of {mid} {e} r h bs (end_is_here z is) l f =
 missing_of {mid} {e} r h bs (input_ended some ended is) l f =
     let nothing : f.rest ≡ [] = at_end_of mid.input f.rest ended f.known in
     let none : take mid.until_end f.rest ≡ [] = ap (λ x. take mid.until_end x) nothing ∙ take_nothing mid.until_end in
-    let all : drop mid.until_end f.rest ≡ f.rest = ap (λ x. drop mid.until_end x) nothing ∙ drop_nothing mid.until_end ∙ sym nothing in
+    let all : drop mid.until_end f.rest ≡ f.rest = ap (λ x. drop mid.until_end x) nothing ∙ drop_nothing mid.until_end
+    ∙ sym nothing in
     record {
       is = missing_before mid.end r h (omega arith) ∙ sym is;
       before = f.before ∙ ap (λ x. h ++ x) none ∙ append-nil h;
@@ -95,15 +102,19 @@ none_peeked None e = refl
 none_peeked (Some b) e = absurd (omega arith)
 
 -- a peeked byte is still there if none was consumed
-pub peeked_kept : {a b : State} (c : State) {h : List ℕ} → Consumed a b h → c.consumed ≡ b.consumed → c.peeked ≡ b.peeked → c.consumed ≡ a.consumed → c.peeked ≡ a.peeked
+pub peeked_kept : {a b : State} (c : State) {h : List ℕ} → Consumed a b h → c.consumed ≡ b.consumed
+    → c.peeked ≡ b.peeked → c.consumed ≡ a.consumed → c.peeked ≡ a.peeked
 peeked_kept {a} {b} c t n p same = p ∙ t.unpeeked ∙ sym (none_peeked a.peeked (omega (arith, t.fetched, n)))
 
 -- a byte was missing after the consumed ones
-pub just_cut : (refusal : List ℕ → Option Refusal) {a c : State} {n : ℕ} {bs : List ℕ} {e : Asn1DerError} → (m : IsCut a c n e) → a.input ≡ Some bs
-    → (missing_byte (is_hard a.end) a.until_end m.bytes ≡ e → refusal m.bytes ≡ Some (e, [])) → IsJustRefused refusal a c e bs
+pub just_cut : (refusal : List ℕ → Option Refusal) {a c : State} {n : ℕ} {bs : List ℕ} {e : Asn1DerError}
+    → (m : IsCut a c n e) → a.input ≡ Some bs
+    → (missing_byte (is_hard a.end) a.until_end m.bytes ≡ e → refusal m.bytes ≡ Some (e, []))
+    → IsJustRefused refusal a c e bs
 just_cut refusal {a} {c} {n} {bs} {e} m k w =
     let q = missing_of a.until_end m.bytes bs m.missing m.consumes.until_end (front_of m.consumes k) in
-    let hard : missing_byte (is_hard m.mid.end) a.until_end m.bytes ≡ missing_byte (is_hard a.end) a.until_end m.bytes = ap (λ (z : End). missing_byte (is_hard z) a.until_end m.bytes) m.consumes.end in
+    let hard : missing_byte (is_hard m.mid.end) a.until_end m.bytes ≡ missing_byte (is_hard a.end) a.until_end m.bytes =
+    ap (λ (z : End). missing_byte (is_hard z) a.until_end m.bytes) m.consumes.end in
     record {
       left = [];
       refused = ap refusal q.before ∙ w (sym hard ∙ q.is);
@@ -113,11 +124,13 @@ just_cut refusal {a} {c} {n} {bs} {e} m k w =
     }
 
 -- what was consumed was refused
-pub just_consumed : (refusal : List ℕ → Option Refusal) {a b c : State} {h bs : List ℕ} {e : Asn1DerError} → Consumed a b h → c ≡ failed_with b e → a.input ≡ Some bs
+pub just_consumed : (refusal : List ℕ → Option Refusal) {a b c : State} {h bs : List ℕ} {e : Asn1DerError}
+    → Consumed a b h → c ≡ failed_with b e → a.input ≡ Some bs
     → ((y : List ℕ) → refusal (h ++ y) ≡ Some (e, y)) → IsJustRefused refusal a c e bs
 just_consumed refusal {a} {b} {c} {h} {bs} {e} t same k w =
     let f = front_of t k in
-    let both : f.rest ≡ take b.until_end f.rest ++ drop a.until_end bs = sym (take-append-drop b.until_end f.rest) ∙ ap (λ x. take b.until_end f.rest ++ x) (sym f.past) in
+    let both : f.rest ≡ take b.until_end f.rest ++ drop a.until_end bs = sym (take-append-drop b.until_end f.rest)
+    ∙ ap (λ x. take b.until_end f.rest ++ x) (sym f.past) in
     record {
       left = take b.until_end f.rest;
       refused = ap refusal f.before ∙ w (take b.until_end f.rest);
@@ -127,7 +140,9 @@ just_consumed refusal {a} {b} {c} {h} {bs} {e} t same k w =
     }
 
 -- nothing was consumed, and nothing but the failure changed
-pub just_unconsumed : (refusal : List ℕ → Option Refusal) {a c : State} {bs : List ℕ} {e : Asn1DerError} → c ≡ failed_with a e → a.input ≡ Some bs → ((rest : List ℕ) → refusal rest ≡ Some (e, rest)) → IsJustRefused refusal a c e bs
+pub just_unconsumed : (refusal : List ℕ → Option Refusal) {a c : State} {bs : List ℕ} {e : Asn1DerError}
+    → c ≡ failed_with a e → a.input ≡ Some bs → ((rest : List ℕ) → refusal rest ≡ Some (e, rest))
+    → IsJustRefused refusal a c e bs
 just_unconsumed refusal {a} {bs = bs} same k w = record {
   left = take a.until_end bs;
   refused = w (take a.until_end bs);
@@ -137,7 +152,8 @@ just_unconsumed refusal {a} {bs = bs} same k w = record {
 }
 
 -- a byte was missing, and none was consumed
-pub just_missing : (refusal : List ℕ → Option Refusal) {a c : State} {bs : List ℕ} {e : Asn1DerError} → IsMissing a e → Keeps a.input c.input → c.consumed ≡ a.consumed → c.peeked ≡ a.peeked → a.input ≡ Some bs
+pub just_missing : (refusal : List ℕ → Option Refusal) {a c : State} {bs : List ℕ} {e : Asn1DerError} → IsMissing a e
+    → Keeps a.input c.input → c.consumed ≡ a.consumed → c.peeked ≡ a.peeked → a.input ≡ Some bs
     → (missing_byte (is_hard a.end) a.until_end [] ≡ e → refusal [] ≡ Some (e, [])) → IsJustRefused refusal a c e bs
 just_missing refusal {a} {c} {bs} {e} m i n p k w =
     let r : a.until_end ≡ length {A = ℕ} [] + a.until_end = omega arith in

@@ -1,5 +1,7 @@
 -- Reads of the reader that failed, and the bytes of a refusal, after the consumed ones.
-use Rattle.std.proofs.Common.{◌≡◌, ℕ, ◌<◌, List, [], Option, Some, None, IfSome, Result, Ok, Err, refl, sym, ◌∙◌, ap, arith, subst, ◌≢◌, ◌+◌, ◌≤◌, ◌^◌, ◌⊎◌, inl, inr, ◌∷◌, ◌++◌, length, append_assoc, length-append}
+use Rattle.std.proofs.Common.{◌≡◌, ℕ, ◌<◌, List, [], Option, Some, None, IfSome, Result, Ok, Err, refl, sym, ◌∙◌, ap}
+use Rattle.std.proofs.Common.{arith, subst, ◌≢◌, ◌+◌, ◌≤◌, ◌^◌, ◌⊎◌, inl, inr, ◌∷◌, ◌++◌, length, append_assoc}
+use Rattle.std.proofs.Common.{length-append}
 use Rattle.std.specs.Io.KnownBytes.{Keeps, Consumes, IsAtEnd}
 use Rattle.std.specs.IoError.{error_kind}
 use Rattle.std.specs.declared.io.Error.{Error}
@@ -11,7 +13,8 @@ use Rattle.picky_der_core.specs.Reader.{FailsOnce, ReportsFault}
 use Rattle.picky_der_core.specs.ReaderLaws.{not_more}
 use Rattle.picky_der_core.specs.Peeking.{count_of_any}
 use Rattle.picky_der_de.specs.State.{State}
-use Rattle.picky_der_de.specs.Steps.{Fails, IsOther, IsMissing, input_ended, HasFetched, Consumed, end_is_here, IsJudged, IsCut, error_at_end, mendable_within, mendable_limit, fetched_count}
+use Rattle.picky_der_de.specs.Steps.{Fails, IsOther, IsMissing, input_ended, HasFetched, Consumed, end_is_here}
+use Rattle.picky_der_de.specs.Steps.{IsJudged, IsCut, error_at_end, mendable_within, mendable_limit, fetched_count}
 use Rattle.picky_der_de.specs.declared.end.End.{End}
 use Rattle.picky_der_de.specs.declared.end.End.TheVariants.{Limit, Soft, Hard}
 use Rattle.picky_der_de.specs.Reading.{Concerns, now, ever, AllConcerned}
@@ -34,7 +37,8 @@ ended_before (Some xs) (Some ys) k h = sym k ∙ h
 
 -- why no byte came: the reader failed, and this is what that I/O error becomes; or the input has ended
 pub data GivesNone (old new : State) (e : Asn1DerError) : Type 0 where
-  fault : (error : Error) → e ≡ error_of_kind (error_kind error) → FailsOnce old.faults new.faults new.input error → GivesNone old new e
+  fault : (error : Error) → e ≡ error_of_kind (error_kind error) → FailsOnce old.faults new.faults new.input error
+      → GivesNone old new e
   end : new.faults ≡ old.faults → e ≡ TruncatedData → IsAtEnd old.input → GivesNone old new e
 
 -- so it has failed, and nothing else changed
@@ -71,11 +75,20 @@ module _ {old new : State} {e : Asn1DerError} (s : StopsAt old new e) where
         faults = tells s.why;
         unpeeked = λ more. peeked ∙ s.unpeeked;
         other = λ w. no_other s.why;
-        took = record { bytes = []; input = keeps_consumes old.input new.input s.input; count = omega (arith, consumed) };
+        took = record {
+          bytes = [];
+          input = keeps_consumes old.input new.input s.input;
+          count =
+              omega (arith, consumed);
+        };
         grows = omega (arith, p, consumed);
         end = omega (arith, consumed, until_end);
         limit = limit;
-        within = λ w. record { end = omega (arith, w.end, consumed, until_end, limit); fetched = omega (arith, w.fetched, p, consumed, limit) };
+        within = λ w. record {
+          end = omega (arith, w.end, consumed, until_end, limit);
+          fetched =
+              omega (arith, w.fetched, p, consumed, limit);
+        };
         there = λ w. fetched_none old.input old.consumed _ (omega (arith, p, z, consumed));
         references = ap (λ (x : State). x.references) s.same;
       }
@@ -88,11 +101,13 @@ module _ {old new : State} {e : Asn1DerError} (s : StopsAt old new e) where
       by_case (end q is left) = input_ended r left is
 
 -- a peeked byte would have been the result
-pub unpeeked_at_error : {A : Type 0} (p : Option ℕ) (error : Error) (answer : ℕ → A) → IfSome p (λ b. ◌≡◌ {A = Result A Error} (Err error) (Ok (answer b))) → p ≡ None
+pub unpeeked_at_error : {A : Type 0} (p : Option ℕ) (error : Error) (answer : ℕ → A)
+    → IfSome p (λ b. ◌≡◌ {A = Result A Error} (Err error) (Ok (answer b))) → p ≡ None
 unpeeked_at_error None error answer h = refl
 unpeeked_at_error (Some b) error answer h = cc
 
-pub unpeeked_at_end : (p : Option ℕ) → IfSome p (λ b. ◌≡◌ {A = Result (Option ℕ) Error} (Ok None) (Ok (Some b))) → p ≡ None
+pub unpeeked_at_end : (p : Option ℕ) → IfSome p (λ b. ◌≡◌ {A = Result (Option ℕ) Error} (Ok None) (Ok (Some b)))
+    → p ≡ None
 unpeeked_at_end None h = refl
 unpeeked_at_end (Some b) h = cc
 
@@ -101,7 +116,8 @@ unpeeked_at_end (Some b) h = cc
 -- ---- lists with a front
 
 -- split after that front
-pub split_after : (d h cs left : List ℕ) → d ++ left ≡ h ++ cs → length h ≤ length d → (e : List ℕ) × (d ≡ h ++ e) × (cs ≡ e ++ left)
+pub split_after : (d h cs left : List ℕ) → d ++ left ≡ h ++ cs → length h ≤ length d
+    → (e : List ℕ) × (d ≡ h ++ e) × (cs ≡ e ++ left)
 split_after d [] cs left e l = (d, refl, sym e)
 split_after [] (x ∷ h) cs left e l = absurd (omega arith)
 split_after (y ∷ d) (x ∷ h) cs left e l =
@@ -111,7 +127,8 @@ split_after (y ∷ d) (x ∷ h) cs left e l =
     (q.0, cc, q.2)
 
 -- known bytes begin with the consumed ones
-pub front_consumed : (i j : Option (List ℕ)) (h bs : List ℕ) → Consumes i j h → i ≡ Some bs → (cs : List ℕ) × (j ≡ Some cs) × (bs ≡ h ++ cs)
+pub front_consumed : (i j : Option (List ℕ)) (h bs : List ℕ) → Consumes i j h → i ≡ Some bs
+    → (cs : List ℕ) × (j ≡ Some cs) × (bs ≡ h ++ cs)
 front_consumed None j h bs c e = absurd (let q : None ≡ Some bs = e in cc)
 front_consumed (Some xs) None h bs c e = absurd c
 front_consumed (Some xs) (Some ys) h bs c e = (ys, refl, cc)
@@ -133,7 +150,8 @@ far_consumes Hard r s n h = omega arith
 
 reach_consumes : {a b : State} {h : List ℕ} → Consumed a b h → mendable_limit a ≤ length h + mendable_limit b
 reach_consumes {a} {b} {h} t =
-    let same : mendable_limit b ≡ mendable_within a.end b.until_end = ap (λ (z : End). mendable_within z b.until_end) t.end in
+    let same : mendable_limit b ≡ mendable_within a.end b.until_end =
+    ap (λ (z : End). mendable_within z b.until_end) t.end in
     omega (arith, far_consumes a.end a.until_end b.until_end (length h) t.until_end, same)
 
 -- what was consumed was consumed
@@ -143,7 +161,8 @@ failed_grows f = omega (arith, f.grows)
 pub cut_grows : {a c : State} {n : ℕ} {k : Asn1DerError} → (m : IsCut a c n k) → m.mid.consumed ≤ fetched_count c
 cut_grows m = omega (arith, m.consumed)
 
-pub concerns_after : {a b c : State} {k : Asn1DerError} {h : List ℕ} {end : ℕ} {bs : List ℕ} → Consumed a b h → b.consumed ≤ fetched_count c → Concerns a c k end bs → ConcernsAfter a b c k h end bs
+pub concerns_after : {a b c : State} {k : Asn1DerError} {h : List ℕ} {end : ℕ} {bs : List ℕ} → Consumed a b h
+    → b.consumed ≤ fetched_count c → Concerns a c k end bs → ConcernsAfter a b c k h end bs
 concerns_after {a} {b} {c} {k} {h} {end} {bs} t f (now e r) =
     let q = front_consumed a.input b.input h bs t.input e in
     record { left = b.until_end; rest = q.0; begins = q.2; concerns = now q.1 refl; ends = omega (arith, t.until_end) }
@@ -153,16 +172,27 @@ concerns_after {a} {b} {c} {k} {h} {end} {bs} t f (ever n r d y left e m g) =
     let i : b.input ≡ Some (p.0 ++ left) = q.1 ∙ ap (λ (z : List ℕ). Some z) p.2 in
     let u : bs ≡ h ++ (p.0 ++ y) = g ∙ ap (λ (z : List ℕ). z ++ y) p.1 ∙ append_assoc h p.0 y in
     let v : length d ≡ length h + length p.0 = ap (λ (z : List ℕ). length z) p.1 ∙ length-append h p.0 in
-    record { left = mendable_limit b; rest = p.0 ++ y; begins = u; concerns = ever n refl p.0 y left i (omega (arith, t.consumed)) refl; ends = omega (arith, reach_consumes t) }
+    record {
+      left = mendable_limit b;
+      rest = p.0 ++ y;
+      begins = u;
+      concerns =
+          ever n refl p.0 y left i (omega (arith, t.consumed)) refl;
+      ends = omega (arith, reach_consumes t);
+    }
 
 -- what is known of the bytes after is known of all
-pub tells_after : {a b c : State} {k : Asn1DerError} {h : List ℕ} (P : ℕ → List ℕ → Type 0) → Consumed a b h → Fails b c k
-    → (IsJudged b c k → (end left : ℕ) (rest : List ℕ) → end ≤ length h + left → Concerns b c k left rest → P end (h ++ rest)) → AllConcerned a c k P
-tells_after P t f p = λ j end bs k. let w = concerns_after t (failed_grows f) k in rw w.begins (p (judged_after t j) end w.left w.rest w.ends w.concerns)
+pub tells_after : {a b c : State} {k : Asn1DerError} {h : List ℕ} (P : ℕ → List ℕ → Type 0) → Consumed a b h
+    → Fails b c k
+    → (IsJudged b c k → (end left : ℕ) (rest : List ℕ) → end ≤ length h + left → Concerns b c k left rest
+    → P end (h ++ rest)) → AllConcerned a c k P
+tells_after P t f p = λ j end bs k. let w = concerns_after t (failed_grows f) k in
+    rw w.begins (p (judged_after t j) end w.left w.rest w.ends w.concerns)
 
 -- ---- ends
 
-error_at_end_final : (e : End) (until_end : ℕ) (k : Asn1DerError) → k ≡ error_at_end e → k ≢ TruncatedData → mendable_within e until_end ≡ until_end
+error_at_end_final : (e : End) (until_end : ℕ) (k : Asn1DerError) → k ≡ error_at_end e → k ≢ TruncatedData
+    → mendable_within e until_end ≡ until_end
 error_at_end_final Limit until_end k e n = absurd (n e)
 error_at_end_final Soft until_end k e n = absurd (n e)
 error_at_end_final Hard until_end k e n = refl
@@ -172,14 +202,17 @@ at_end_of None bs h e = absurd (let q : None ≡ Some bs = e in cc)
 at_end_of (Some xs) bs h e = let p : xs ≡ bs = cc in sym p ∙ h
 
 -- no byte came: the end is here, or nothing is left
-pub missing_here : {b c : State} {k : Asn1DerError} {end : ℕ} {bs : List ℕ} → IsMissing b k → Concerns b c k end bs → (end ≡ 0) ⊎ (bs ≡ [])
+pub missing_here : {b c : State} {k : Asn1DerError} {end : ℕ} {bs : List ℕ} → IsMissing b k → Concerns b c k end bs
+    → (end ≡ 0) ⊎ (bs ≡ [])
 missing_here {b} {c} {k} {end} {bs} (end_is_here z m) (now e r) = inl (r ∙ z)
 missing_here {b} {c} {k} {end} {bs} (input_ended l z m) (now e r) = inr (at_end_of b.input bs z e)
-missing_here {b} {c} {k} {end} {bs} (end_is_here z m) (ever n r d y left e q f) = inl (r ∙ error_at_end_final b.end b.until_end k m n ∙ z)
+missing_here {b} {c} {k} {end} {bs} (end_is_here z m) (ever n r d y left e q f) =
+    inl (r ∙ error_at_end_final b.end b.until_end k m n ∙ z)
 missing_here {b} {c} {k} {end} {bs} (input_ended l z m) (ever n r d y left e q f) = absurd (n m)
 
 -- a length that reaches past the end
-pub past_end : {b c : State} {k : Asn1DerError} {end : ℕ} {bs : List ℕ} {n : ℕ} → k ≡ error_at_end b.end → b.until_end < n → Concerns b c k end bs → end < n
+pub past_end : {b c : State} {k : Asn1DerError} {end : ℕ} {bs : List ℕ} {n : ℕ} → k ≡ error_at_end b.end
+    → b.until_end < n → Concerns b c k end bs → end < n
 past_end {b} {c} {k} {end} {bs} {n} h l (now e r) = omega arith
 past_end {b} {c} {k} {end} {bs} {n} h l (ever w r d y left e q f) =
     let g : end ≡ b.until_end = r ∙ error_at_end_final b.end b.until_end k h w in
@@ -191,15 +224,19 @@ far_below Soft until_end h = h
 far_below Hard until_end h = h
 
 -- ends are 64-bit numbers
-pub end_below : {a c : State} {k : Asn1DerError} {end : ℕ} {bs : List ℕ} → a.until_end < 2 ^ 64 → Concerns a c k end bs → end < 2 ^ 64
+pub end_below : {a c : State} {k : Asn1DerError} {end : ℕ} {bs : List ℕ} → a.until_end < 2 ^ 64 → Concerns a c k end bs
+    → end < 2 ^ 64
 end_below {a} h (now e r) = omega arith
 end_below {a} h (ever n r d y left e q f) = omega (arith, far_below a.end a.until_end h)
 
 -- ---- first bytes
 
-pub missing_first : (s : State) {k : Asn1DerError} {b : ℕ} {left : List ℕ} → IsMissing s k → 0 < s.until_end → s.input ≡ Some (b ∷ left) → ⊥
+pub missing_first : (s : State) {k : Asn1DerError} {b : ℕ} {left : List ℕ} → IsMissing s k → 0 < s.until_end
+    → s.input ≡ Some (b ∷ left) → ⊥
 missing_first s {k} {b} {left} (end_is_here z m) l e = omega arith
 missing_first s {k} {b} {left} (input_ended r z m) l e = let q : b ∷ left ≡ [] = at_end_of s.input (b ∷ left) z e in cc
 
-pub consumed_first : (i j : Option (List ℕ)) (x y : ℕ) (h left : List ℕ) → Consumes i j (x ∷ h) → i ≡ Some (y ∷ left) → y ≡ x
-consumed_first i j x y h left t e = let q = front_consumed i j (x ∷ h) (y ∷ left) t e in let p : y ∷ left ≡ x ∷ (h ++ q.0) = q.2 in cc
+pub consumed_first : (i j : Option (List ℕ)) (x y : ℕ) (h left : List ℕ) → Consumes i j (x ∷ h) → i ≡ Some (y ∷ left)
+    → y ≡ x
+consumed_first i j x y h left t e = let q = front_consumed i j (x ∷ h) (y ∷ left) t e in
+    let p : y ∷ left ≡ x ∷ (h ++ q.0) = q.2 in cc

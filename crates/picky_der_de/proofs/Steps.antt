@@ -1,5 +1,6 @@
 -- Steps of a deserializer, one after another.
-use Rattle.std.proofs.Common.{◌≡◌, ℕ, ◌+◌, ◌≤◌, List, [], ◌++◌, length, Option, Some, None, refl, sym, subst, ◌∙◌, ap, arith, length-append}
+use Rattle.std.proofs.Common.{◌≡◌, ℕ, ◌+◌, ◌≤◌, List, [], ◌++◌, length, Option, Some, None, refl, sym, subst, ◌∙◌, ap}
+use Rattle.std.proofs.Common.{arith, length-append}
 use Rattle.std.specs.Io.KnownBytes.{Consumes}
 use Rattle.std.proofs.KnownBytes.{Consumes-nil, Consumes-trans, Keeps-refl}
 use Rattle.picky_der_core.specs.declared.error.Asn1DerError.{Asn1DerError}
@@ -8,7 +9,8 @@ use Rattle.picky_der_core.specs.Peeking.{count_of_any}
 use Rattle.picky_der_core.specs.Reader.{ReportsFault}
 use Rattle.picky_der_de.specs.declared.end.End.{End}
 use Rattle.picky_der_de.specs.State.{OpenSets, State}
-use Rattle.picky_der_de.specs.Steps.{Consumed, ConsumesSome, Fails, IsWithin, IsUnmoved, HasFetched, IsJudged, fetched_count}
+use Rattle.picky_der_de.specs.Steps.{Consumed, ConsumesSome, Fails, IsWithin, IsUnmoved, HasFetched, IsJudged}
+use Rattle.picky_der_de.specs.Steps.{fetched_count}
 
 pub consumes_then : {a b c : State} {x y : List ℕ} → Consumed a b x → Consumed b c y → Consumed a c (x ++ y)
 consumes_then {a} {b} {c} {x} {y} h k = record {
@@ -48,7 +50,9 @@ abbrev pub beside : State → ℕ → End → OpenSets → Option ℕ → State
 beside s n kind sets tag = record s { until_end = n; end = kind; sets = sets; implicit_tag = tag }
 
 -- what was consumed before one end was consumed before another
-pub consumes_beside : {a c : State} {x : List ℕ} {n m : ℕ} {i j : End} {s u : OpenSets} {d g : Option ℕ} → a.until_end ≡ length x + m → j ≡ a.end → u ≡ a.sets → Consumed (beside a n i s d) c x → Consumed a (beside c m j u g) x
+pub consumes_beside : {a c : State} {x : List ℕ} {n m : ℕ} {i j : End} {s u : OpenSets} {d g : Option ℕ}
+    → a.until_end ≡ length x + m → j ≡ a.end → u ≡ a.sets → Consumed (beside a n i s d) c x
+    → Consumed a (beside c m j u g) x
 consumes_beside ends kind sets t = record {
   input = t.input;
   consumed = t.consumed;
@@ -65,10 +69,12 @@ consumes_beside ends kind sets t = record {
 }
 
 -- a call that failed before a nearer end failed before the one around it
-pub fails_beside : {a c : State} {e : Asn1DerError} {n : ℕ} {i : End} {s : OpenSets} {d : Option ℕ} → n ≤ a.until_end → Fails (beside a n i s d) c e → Fails a c e
+pub fails_beside : {a c : State} {e : Asn1DerError} {n : ℕ} {i : End} {s : OpenSets} {d : Option ℕ} → n ≤ a.until_end
+    → Fails (beside a n i s d) c e → Fails a c e
 fails_beside nearer f = record {
   failed = f.failed;
-  again = λ k w. let q = f.again k w in (q.0, record { input = q.1.input; consumed = q.1.consumed; peeked = q.1.peeked; faults = q.1.faults });
+  again = λ k w. let q = f.again k w in
+      (q.0, record { input = q.1.input; consumed = q.1.consumed; peeked = q.1.peeked; faults = q.1.faults });
   faults = f.faults;
   unpeeked = f.unpeeked;
   other = f.other;
@@ -81,7 +87,8 @@ fails_beside nearer f = record {
   references = f.references;
 }
 
-pub there_after : (i j : Option (List ℕ)) (h : List ℕ) (s t n : ℕ) → Consumes i j h → t ≡ s + length h → HasFetched j t n → HasFetched i s n
+pub there_after : (i j : Option (List ℕ)) (h : List ℕ) (s t n : ℕ) → Consumes i j h → t ≡ s + length h
+    → HasFetched j t n → HasFetched i s n
 there_after None j h s t n c e f = tt
 there_after (Some xs) None h s t n c e f = absurd c
 there_after (Some xs) (Some ys) h s t n c e f = omega (arith, ap length c, length-append h ys)
@@ -89,7 +96,11 @@ there_after (Some xs) (Some ys) h s t n c e f = omega (arith, ap length c, lengt
 pub consumes_within : {a b : State} {x : List ℕ} → Consumed a b x → IsWithin a → IsWithin b
 consumes_within {a} {b} {x} h w =
     let e : count_of_any b.peeked ≡ 0 = ap count_of_any h.unpeeked in
-    record { end = omega (arith, w.end, h.consumed, h.until_end, h.limit); fetched = omega (arith, w.end, h.consumed, h.until_end, h.limit, e) }
+    record {
+      end = omega (arith, w.end, h.consumed, h.until_end, h.limit);
+      fetched =
+          omega (arith, w.end, h.consumed, h.until_end, h.limit, e);
+    }
 
 took_after : {a b c : State} {x : List ℕ} → Consumed a b x → ConsumesSome b c → ConsumesSome a c
 took_after {a} {b} {c} {x} h t = record {
@@ -113,7 +124,8 @@ fails_after {a} {b} {c} {x} {e} h f =
       end = omega (arith, f.end, h.consumed, h.until_end);
       limit = f.limit ∙ h.limit;
       within = λ w. f.within (consumes_within h w);
-      there = λ w. there_after a.input b.input x a.consumed b.consumed (fetched_count c) h.input h.consumed (f.there h.not_failed);
+      there = λ w. there_after a.input b.input x a.consumed b.consumed (fetched_count c) h.input h.consumed
+          (f.there h.not_failed);
       references = f.references ∙ h.references;
     }
 

@@ -22,25 +22,30 @@ module _ {A : Type 0} {s : Shape} (a : Facts A s) (means : A → Tree) (equal : 
   })
 
   abbrev pub list_facts : {V : Type 0} (k : ListKind) (items : V → List A) → Facts V (Shape.list_of k s)
-  list_facts k items = facts_by a means equal (λ v. Tree.list k (trees (map means (items v)))) (λ x y. pointwise equal (items x) (items y)) (λ is. record {
-    has_shape = λ v r. (refl, items_of_shape means s is.has_shape (items v) r.1);
-    injective = λ x y p q r e. list_injective means s equal is.injective (items x) (items y) p.1 q.1 r.1 e;
-    sound = is.sound;
-    begun = λ v b h. h;
-  })
+  list_facts k items =
+      facts_by a means equal (λ v. Tree.list k (trees (map means (items v))))
+      (λ x y. pointwise equal (items x) (items y)) (λ is. record {
+        has_shape = λ v r. (refl, items_of_shape means s is.has_shape (items v) r.1);
+        injective = λ x y p q r e. list_injective means s equal is.injective (items x) (items y) p.1 q.1 r.1 e;
+        sound = is.sound;
+        begun = λ v b h. h;
+      })
 
   abbrev pub array_facts : {V : Type 0} (n : ℕ) (items : V → List A) → Facts V (array_of n s)
-  array_facts n items = facts_by a means equal (λ v. array_meaning n means (items v)) (λ x y. pointwise equal (items x) (items y)) (λ is. record {
-    has_shape = λ v. array_has_shape means s n is.has_shape (items v);
-    injective = λ x y. array_injective means s n equal is.injective (items x) (items y);
-    sound = array_sound n s is.sound;
-    begun = λ v b h. h;
-  })
+  array_facts n items =
+      facts_by a means equal (λ v. array_meaning n means (items v)) (λ x y. pointwise equal (items x) (items y))
+      (λ is. record {
+        has_shape = λ v. array_has_shape means s n is.has_shape (items v);
+        injective = λ x y. array_injective means s n equal is.injective (items x) (items y);
+        sound = array_sound n s is.sound;
+        begun = λ v b h. h;
+      })
 
   abbrev pub wrapped_facts : {V : Type 0} (w : Wrapper) (part : V → A) → Facts V (Shape.wrapped w s)
-  wrapped_facts w part = facts_by a means equal (λ v. Tree.wrapped w (means (part v))) (λ x y. equal (part x) (part y)) (λ is. record {
-    has_shape = λ v r. wrapped_has_shape w (λ x. means (part x)) s (λ x. is.has_shape (part x)) v r;
-    injective = λ x y. wrapped_injective w means s equal is.injective (part x) (part y);
-    sound = is.sound;
-    begun = λ v b h. h;
-  })
+  wrapped_facts w part = facts_by a means equal (λ v. Tree.wrapped w (means (part v))) (λ x y. equal (part x) (part y))
+      (λ is. record {
+        has_shape = λ v r. wrapped_has_shape w (λ x. means (part x)) s (λ x. is.has_shape (part x)) v r;
+        injective = λ x y. wrapped_injective w means s equal is.injective (part x) (part y);
+        sound = is.sound;
+        begun = λ v b h. h;
+      })

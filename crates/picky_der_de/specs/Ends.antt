@@ -12,8 +12,8 @@ use Rattle.picky_der_de.specs.Order.{order_of, sets_inside, last_start, cut_at}
 use Rattle.picky_der_de.specs.Reading.{AreNotRefused}
 use Rattle.picky_der_de.specs.Headers.{BeginsContent, RefusesBegin}
 
--- What is restored when an end is closed: how many bytes are before the end around it, and what this end is. If it is that of a set, also how many bytes are
--- kept before the encoding of its last member.
+-- What is restored when an end is closed: how many bytes are before the end around it, and what this end is. If it is
+-- that of a set, also how many bytes are kept before the encoding of its last member.
 pub record EnclosingEnd : Type 0 where
   pub position : ℕ
   pub kind : End
@@ -29,7 +29,12 @@ with_inner_end s n kind = record s { until_end = n; end = kind; sets = sets_insi
 
 -- the end around the innermost one was put back
 abbrev pub with_outer_end : EnclosingEnd → State → State
-with_outer_end outer s = record s { until_end = outer.position - s.consumed; end = outer.kind; sets = cut_at outer.last_start s.sets.around }
+with_outer_end outer s = record s {
+  until_end = outer.position - s.consumed;
+  end = outer.kind;
+  sets =
+      cut_at outer.last_start s.sets.around;
+}
 
 -- the end was reached, and the one around it is the innermost again
 pub record Closes (outer : EnclosingEnd) (old new : State) : Type 0 where
@@ -66,11 +71,12 @@ pub record RefusesList (tag : ℕ) (old new : State) (e : Asn1DerError) : Type 0
   pub begin : RefusesBegin tag old new e
   pub memory : UsesNoMemory old new e
 
--- A soft end was opened this many bytes from here, or it would have been past the innermost end, and then the deserializer has
--- failed. One that had failed is as it was. No order of members is tested before that end.
+-- A soft end was opened this many bytes from here, or it would have been past the innermost end, and then the
+-- deserializer has failed. One that had failed is as it was. No order of members is tested before that end.
 pub record OpensLazily (size : ℕ) (old new : State) (outer : EnclosingEnd) : Type 0 where
   pub again : (f : Failure) → old.failed ≡ Some f → new ≡ old
   pub past : old.failed ≡ None → old.until_end < size → new ≡ failed_with old (error_at_end old.end)
-  pub opened : old.failed ≡ None → size ≤ old.until_end → new ≡ record (with_inner_end old size Soft) { implicit_tag = None }
+  pub opened : old.failed ≡ None → size ≤ old.until_end
+      → new ≡ record (with_inner_end old size Soft) { implicit_tag = None }
   pub outer_end : old.failed ≡ None → size ≤ old.until_end → outer ≡ innermost old
   pub position : outer.position ≡ old.consumed + old.until_end

@@ -48,7 +48,10 @@ letter_readable = (0x61 ∷ [], (refl, refl))
 -- lists without members
 pub empty_list_readable : (kind : ListKind) → IsReadable (Tree.list kind Trees.none)
 empty_list_readable ListKind.sequence = (tt, tt)
-empty_list_readable ListKind.set = (subst IsAscending (sym (encodings-trees [])) (λ k d h e. absurd (omega (arith, e))), tt)
+empty_list_readable ListKind.set = (
+  subst IsAscending (sym (encodings-trees [])) (λ k d h e. absurd (omega (arith, e))),
+  tt,
+)
 
 -- an octet string without bytes
 pub no_octets_readable : IsReadable (Tree.primitive (Primitive.bytes 0x04 []))

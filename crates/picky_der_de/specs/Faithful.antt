@@ -1,5 +1,6 @@
 -- Values that are equal by the `==` of their type mean the same tree.
-use Rattle.std.specs.Prelude.{◌≡◌, ℕ, ℤ, Bool, true, false, List, [], ◌∷◌, ◌&&◌, Option, Some, None, if◌then◌else◌, length, map, encode_utf8, refl, ⊤}
+use Rattle.std.specs.Prelude.{◌≡◌, ℕ, ℤ, Bool, true, false, List, [], ◌∷◌, ◌&&◌, Option, Some, None, if◌then◌else◌}
+use Rattle.std.specs.Prelude.{length, map, encode_utf8, refl, ⊤}
 use Rattle.std.specs.Option.{option_eq}
 use Rattle.std.specs.Ordering.{int_eq}
 use Rattle.std.proofs.Common.{ap, ◌∙◌, sym, subst, eqb-true, arith}
@@ -25,7 +26,8 @@ abbrev pub Respects : {V : Type 0} → (V → V → Bool) → (V → Tree) → T
 Respects {V} eq meaning = (x y : V) → eq x y ≡ true → meaning x ≡ meaning y
 
 -- a primitive value, whose `==` is that of something that determines its tree
-module _ {V A : Type 0} (eq : A → A → Bool) (same : (a b : A) → eq a b ≡ true → a ≡ b) (make : A → Tree) (part : V → A) where
+module _ {V A : Type 0} (eq : A → A → Bool) (same : (a b : A) → eq a b ≡ true → a ≡ b) (make : A → Tree) (part : V
+    → A) where
   pub made_respects : Respects (λ x y. eq (part x) (part y)) (λ v. make (part v))
   made_respects x y h = ap make (same (part x) (part y) h)
 
@@ -89,7 +91,8 @@ module _ {A : Type 0} {eq : A → A → Bool} {meaning : A → Tree} (same : Res
       cc
 
   module _ {V : Type 0} (items : V → List A) where
-    pub list_respects : (k : ListKind) → Respects (λ x y. pointwise eq (items x) (items y)) (λ v. Tree.list k (trees (map meaning (items v))))
+    pub list_respects : (k : ListKind)
+        → Respects (λ x y. pointwise eq (items x) (items y)) (λ v. Tree.list k (trees (map meaning (items v))))
     list_respects k x y h = ap (Tree.list k) (items_respect (items x) (items y) h)
 
     same_length : (xs ys : List A) → pointwise eq xs ys ≡ true → length xs ≡ length ys
@@ -98,7 +101,8 @@ module _ {A : Type 0} {eq : A → A → Bool} {meaning : A → Tree} (same : Res
     same_length (x ∷ xs) [] h = cc
     same_length (x ∷ xs) (y ∷ ys) h = omega (arith, same_length xs ys (and_parts (eq x y) (pointwise eq xs ys) h).1)
 
-    pub array_respects : (n : ℕ) → Respects (λ x y. pointwise eq (items x) (items y)) (λ v. array_meaning n meaning (items v))
+    pub array_respects : (n : ℕ)
+        → Respects (λ x y. pointwise eq (items x) (items y)) (λ v. array_meaning n meaning (items v))
     array_respects n x y h =
         let e = same_length (items x) (items y) h in
         let f = items_respect (items x) (items y) h in
@@ -119,7 +123,8 @@ module _ {A : Type 0} {eq : A → A → Bool} {meaning : A → Tree} (same : Res
       → RespectsMember (λ x y. eq (part x) (part y)) (λ v. Trees.more (meaning (part v)))
   always_respects part x y h ts = ap (λ t. Trees.more t ts) (same (part x) (part y) h)
 
-  maybe_more_same : (p q : Option A) (ts : Trees) → option_eq eq p q ≡ true → maybe_more meaning p ts ≡ maybe_more meaning q ts
+  maybe_more_same : (p q : Option A) (ts : Trees) → option_eq eq p q ≡ true
+      → maybe_more meaning p ts ≡ maybe_more meaning q ts
   maybe_more_same None None ts h = refl
   maybe_more_same None (Some y) ts h = cc
   maybe_more_same (Some x) None ts h = cc
@@ -142,27 +147,31 @@ module _ {A : Type 0} {eq : A → A → Bool} {meaning : A → Tree} (same : Res
         → RespectsMember (λ x y. eq (value x) (value y)) (λ v. maybe_more meaning (unless_default left_out (value v)))
     default_respects value x y h ts =
         let out = alike (value x) (value y) h in
-        unless_default_same (value x) (value y) (left_out (value x)) (left_out (value y)) out (same (value x) (value y) h) ts
+        unless_default_same (value x) (value y) (left_out (value x)) (left_out (value y)) out
+        (same (value x) (value y) h) ts
 
 pub none_respect : {P : Type 0} → RespectMembers (λ (x y : P). []) (λ x. Trees.none)
 none_respect = record { same = λ x y h. refl }
 
 -- a member before others
 module _ {P A : Type 0} (first : P → A) {eq : A → A → Bool} {prepend : A → Trees → Trees} where
-  pub member_respects : {tests : P → P → List Bool} {members : P → Trees} → RespectsMember eq prepend → RespectMembers tests members
+  pub member_respects : {tests : P → P → List Bool} {members : P → Trees} → RespectsMember eq prepend
+      → RespectMembers tests members
       → RespectMembers (λ x y. eq (first x) (first y) ∷ tests x y) (λ x. prepend (first x) (members x))
   member_respects {members = members} one others = record {
     same = λ x y h. one (first x) (first y) h.0 (members x) ∙ ap (prepend (first y)) (others.same x y h.1);
   }
 
 -- where they are a part
-pub members_respect : {V P : Type 0} (part : V → P) {tests : P → P → List Bool} {members : P → Trees} → RespectMembers tests members
+pub members_respect : {V P : Type 0} (part : V → P) {tests : P → P → List Bool} {members : P → Trees}
+    → RespectMembers tests members
     → RespectMembers (λ x y. tests (part x) (part y)) (λ x. members (part x))
 members_respect part respect = record { same = λ x y. respect.same (part x) (part y) }
 
 -- further elements after all members
 module _ {E P : Type 0} (bytes : E → List ℕ) (elements : P → List E) where
-  pub others_respect : RespectMembers (λ x y. pointwise (λ a b. pointwise eqb (bytes a) (bytes b)) (elements x) (elements y) ∷ [])
+  pub others_respect : RespectMembers (λ x y. pointwise (λ a b. pointwise eqb (bytes a) (bytes b)) (elements x)
+      (elements y) ∷ [])
       (λ p. others_of bytes (elements p))
   others_respect = record { same = λ x y h. items_respect (bytes_respect Tree.raw bytes) (elements x) (elements y) h.0 }
 
@@ -171,20 +180,24 @@ module _ {E P : Type 0} (bytes : E → List ℕ) (elements : P → List E) where
 conjunction_parts : (bs : List Bool) → conjunction bs ≡ true → AreTrue bs
 conjunction_parts [] h = tt
 conjunction_parts (b ∷ []) h = (h, tt)
-conjunction_parts (b ∷ (c ∷ bs)) h = let p = and_parts b (conjunction (c ∷ bs)) h in (p.0, conjunction_parts (c ∷ bs) p.1)
+conjunction_parts (b ∷ (c ∷ bs)) h = let p = and_parts b (conjunction (c ∷ bs)) h in
+    (p.0, conjunction_parts (c ∷ bs) p.1)
 
-conjunction_after_parts : (before : Bool) (bs : List Bool) → conjunction_after before bs ≡ true → (before ≡ true) × AreTrue bs
+conjunction_after_parts : (before : Bool) (bs : List Bool) → conjunction_after before bs ≡ true
+    → (before ≡ true) × AreTrue bs
 conjunction_after_parts before [] h = (h, tt)
 conjunction_after_parts before (b ∷ bs) h =
     let p = conjunction_after_parts (before && b) bs h in
     let q = and_parts before b p.0 in
     (q.0, (q.1, p.1))
 
-module _ {S P : Type 0} {tests : P → P → List Bool} {members : P → Trees} (respect : RespectMembers tests members) (parts : S → P) where
+module _ {S P : Type 0} {tests : P → P → List Bool} {members : P → Trees} (respect : RespectMembers tests members)
+    (parts : S → P) where
   -- with a derived `==`
   pub struct_respects : Respects (λ x y. conjunction (tests (parts x) (parts y))) (sequence_of members parts)
   struct_respects x y h =
-      ap (Tree.list ListKind.sequence) (respect.same (parts x) (parts y) (conjunction_parts (tests (parts x) (parts y)) h))
+      ap (Tree.list ListKind.sequence)
+      (respect.same (parts x) (parts y) (conjunction_parts (tests (parts x) (parts y)) h))
 
   -- with that of a tuple
   pub tuple_respects : Respects (λ x y. conjunction_after true (tests (parts x) (parts y))) (sequence_of members parts)
@@ -222,7 +235,8 @@ pub record ProvedSameness {V : Type 0} (sameness : Sameness V) (eq : V → V →
   pub means : sameness.meaning ≡ meaning
   pub equal : (x y : V) → eq x y ≡ true → sameness.eq x y ≡ true
 
-pub respects_of : {V : Type 0} (sameness : Sameness V) {eq : V → V → Bool} {meaning : V → Tree} → ProvedSameness sameness eq meaning → Respects eq meaning
+pub respects_of : {V : Type 0} (sameness : Sameness V) {eq : V → V → Bool} {meaning : V → Tree}
+    → ProvedSameness sameness eq meaning → Respects eq meaning
 respects_of {V} sameness {eq = eq} t =
     subst (λ (m : V → Tree). Respects eq m) t.means (λ x y h. sameness.follows t.premise x y (t.equal x y h))
 
@@ -231,9 +245,15 @@ abbrev pub plain_sameness : {V : Type 0} (eq : V → V → Bool) (meaning : V �
 plain_sameness eq meaning r = record { eq = eq; meaning = meaning; Premise = ⊤; follows = λ o. r }
 
 -- by what the type of a part says of itself
-abbrev pub sameness_by : {V A : Type 0} (a : Sameness A) (equal : A → A → Bool) (means : A → Tree) (eq : V → V → Bool) (meaning : V → Tree)
+abbrev pub sameness_by : {V A : Type 0} (a : Sameness A) (equal : A → A → Bool) (means : A → Tree) (eq : V → V
+    → Bool) (meaning : V → Tree)
     → (Respects equal means → Respects eq meaning) → Sameness V
-sameness_by a equal means eq meaning so = record { eq = eq; meaning = meaning; Premise = ProvedSameness a equal means; follows = λ t. so (respects_of a t) }
+sameness_by a equal means eq meaning so = record {
+  eq = eq;
+  meaning = meaning;
+  Premise = ProvedSameness a equal means;
+  follows = λ t. so (respects_of a t);
+}
 
 module _ {V A : Type 0} (a : Sameness A) where
   -- as that of a part
@@ -246,7 +266,9 @@ module _ {V A : Type 0} (a : Sameness A) where
   }
 
   abbrev pub wrapped_sameness : (equal : A → A → Bool) (means : A → Tree) (w : Wrapper) (part : V → A) → Sameness V
-  wrapped_sameness equal means w part = sameness_by a equal means (λ x y. equal (part x) (part y)) (λ v. Tree.wrapped w (means (part v))) (λ r. wrapped_respects part r w)
+  wrapped_sameness equal means w part =
+      sameness_by a equal means (λ x y. equal (part x) (part y)) (λ v. Tree.wrapped w (means (part v)))
+      (λ r. wrapped_respects part r w)
 
 -- one member
 pub record MemberSameness (V : Type 0) : Type 1 where
@@ -255,7 +277,8 @@ pub record MemberSameness (V : Type 0) : Type 1 where
   pub Premise : Type 0
   pub follows : Premise → RespectsMember eq prepend
 
-pub record ProvedMemberSameness {V : Type 0} (sameness : MemberSameness V) (eq : V → V → Bool) (prepend : V → Trees → Trees) : Type 0 where
+pub record ProvedMemberSameness {V : Type 0} (sameness : MemberSameness V) (eq : V → V → Bool) (prepend : V → Trees
+    → Trees) : Type 0 where
   pub premise : sameness.Premise
   pub means : sameness.prepend ≡ prepend
   pub equal : (x y : V) → eq x y ≡ true → sameness.eq x y ≡ true
@@ -263,11 +286,19 @@ pub record ProvedMemberSameness {V : Type 0} (sameness : MemberSameness V) (eq :
 pub respects_member_of : {V : Type 0} (sameness : MemberSameness V) {eq : V → V → Bool} {prepend : V → Trees → Trees}
     → ProvedMemberSameness sameness eq prepend → RespectsMember eq prepend
 respects_member_of {V} sameness {eq = eq} t =
-    subst (λ (m : V → Trees → Trees). RespectsMember eq m) t.means (λ x y h. sameness.follows t.premise x y (t.equal x y h))
+    subst (λ (m : V → Trees → Trees). RespectsMember eq m) t.means
+    (λ x y h. sameness.follows t.premise x y (t.equal x y h))
 
 module _ {V A : Type 0} (a : Sameness A) (equal : A → A → Bool) (means : A → Tree) where
-  abbrev pub member_by : (eq : V → V → Bool) (prepend : V → Trees → Trees) → (Respects equal means → RespectsMember eq prepend) → MemberSameness V
-  member_by eq prepend so = record { eq = eq; prepend = prepend; Premise = ProvedSameness a equal means; follows = λ t. so (respects_of a t) }
+  abbrev pub member_by : (eq : V → V → Bool) (prepend : V → Trees → Trees)
+      → (Respects equal means → RespectsMember eq prepend) → MemberSameness V
+  member_by eq prepend so = record {
+    eq = eq;
+    prepend = prepend;
+    Premise = ProvedSameness a equal means;
+    follows =
+        λ t. so (respects_of a t);
+  }
 
 -- equal values are both a default, or neither
 pub record DefaultSameness (A : Type 0) : Type 1 where
@@ -276,12 +307,14 @@ pub record DefaultSameness (A : Type 0) : Type 1 where
   pub Premise : Type 0
   pub follows : Premise → (x y : A) → eq x y ≡ true → left_out x ≡ left_out y
 
-pub record ProvedDefaultSameness {A : Type 0} (sameness : DefaultSameness A) (eq : A → A → Bool) (left_out : A → Bool) : Type 0 where
+pub record ProvedDefaultSameness {A : Type 0} (sameness : DefaultSameness A) (eq : A → A → Bool) (left_out : A
+    → Bool) : Type 0 where
   pub premise : sameness.Premise
   pub means : sameness.left_out ≡ left_out
   pub equal : (x y : A) → eq x y ≡ true → sameness.eq x y ≡ true
 
-pub alike_of : {A : Type 0} (sameness : DefaultSameness A) {eq : A → A → Bool} {left_out : A → Bool} → ProvedDefaultSameness sameness eq left_out
+pub alike_of : {A : Type 0} (sameness : DefaultSameness A) {eq : A → A → Bool} {left_out : A → Bool}
+    → ProvedDefaultSameness sameness eq left_out
     → (x y : A) → eq x y ≡ true → left_out x ≡ left_out y
 alike_of {A} sameness t x y h =
     subst (λ (out : A → Bool). out x ≡ out y) t.means (sameness.follows t.premise x y (t.equal x y h))
@@ -308,7 +341,8 @@ number_alike left_out x y h = ap left_out (eqb-true x y h)
 pub int_alike : (left_out : ℤ → Bool) (x y : ℤ) → int_eq x y ≡ true → left_out x ≡ left_out y
 int_alike left_out x y h = ap left_out ((Decides-int_eq x y).0 h)
 
-module _ {V A : Type 0} (a : Sameness A) (equal : A → A → Bool) (means : A → Tree) (d : DefaultSameness A) (left_out : A → Bool) where
+module _ {V A : Type 0} (a : Sameness A) (equal : A → A → Bool) (means : A → Tree) (d : DefaultSameness A) (left_out : A
+    → Bool) where
   abbrev pub default_member : (value : V → A) → MemberSameness V
   default_member value = record {
     eq = λ x y. equal (value x) (value y);
@@ -324,7 +358,8 @@ pub record MembersSameness (P : Type 0) : Type 1 where
   pub Premise : Type 0
   pub follows : Premise → RespectMembers tests members
 
-pub record ProvedMembersSameness {P : Type 0} (sameness : MembersSameness P) (tests : P → P → List Bool) (members : P → Trees) : Type 0 where
+pub record ProvedMembersSameness {P : Type 0} (sameness : MembersSameness P) (tests : P → P → List Bool) (members : P
+    → Trees) : Type 0 where
   pub premise : sameness.Premise
   pub means : sameness.members ≡ members
   pub equal : (x y : P) → AreTrue (tests x y) → AreTrue (sameness.tests x y)
@@ -332,16 +367,19 @@ pub record ProvedMembersSameness {P : Type 0} (sameness : MembersSameness P) (te
 pub respect_of : {P : Type 0} (sameness : MembersSameness P) {tests : P → P → List Bool} {members : P → Trees}
     → ProvedMembersSameness sameness tests members → RespectMembers tests members
 respect_of {P} sameness {tests = tests} t =
-    subst (λ (m : P → Trees). RespectMembers tests m) t.means (record { same = λ x y h. (sameness.follows t.premise).same x y (t.equal x y h) })
+    subst (λ (m : P → Trees). RespectMembers tests m) t.means
+    (record { same = λ x y h. (sameness.follows t.premise).same x y (t.equal x y h) })
 
-abbrev pub plain_members : {P : Type 0} (tests : P → P → List Bool) (members : P → Trees) → RespectMembers tests members → MembersSameness P
+abbrev pub plain_members : {P : Type 0} (tests : P → P → List Bool) (members : P → Trees) → RespectMembers tests members
+    → MembersSameness P
 plain_members tests members r = record { tests = tests; members = members; Premise = ⊤; follows = λ o. r }
 
 abbrev pub no_members : {P : Type 0} → MembersSameness P
 no_members = plain_members (λ _ _. []) (λ _. Trees.none) none_respect
 
 module _ {P : Type 0} where
-  abbrev pub member_then : {A : Type 0} (first : P → A) (a : MemberSameness A) (eq : A → A → Bool) (prepend : A → Trees → Trees) → MembersSameness P → MembersSameness P
+  abbrev pub member_then : {A : Type 0} (first : P → A) (a : MemberSameness A) (eq : A → A → Bool) (prepend : A → Trees
+      → Trees) → MembersSameness P → MembersSameness P
   member_then first a eq prepend others = record {
     tests = λ x y. eq (first x) (first y) ∷ others.tests x y;
     members = λ x. prepend (first x) (others.members x);
@@ -349,10 +387,14 @@ module _ {P : Type 0} where
     follows = λ o. member_respects first (respects_member_of a o.0) (others.follows o.1);
   }
 
-  abbrev pub element_then : {A : Type 0} (first : P → A) (a : Sameness A) (eq : A → A → Bool) (meaning : A → Tree) → MembersSameness P → MembersSameness P
-  element_then first a eq meaning = member_then first (member_by a eq meaning eq (λ v. Trees.more (meaning v)) (λ r. always_respects r (λ v. v))) eq (λ v. Trees.more (meaning v))
+  abbrev pub element_then : {A : Type 0} (first : P → A) (a : Sameness A) (eq : A → A → Bool) (meaning : A → Tree)
+      → MembersSameness P → MembersSameness P
+  element_then first a eq meaning =
+      member_then first (member_by a eq meaning eq (λ v. Trees.more (meaning v)) (λ r. always_respects r (λ v. v))) eq
+      (λ v. Trees.more (meaning v))
 
-  abbrev pub members_at : {Q : Type 0} (part : P → Q) (q : MembersSameness Q) (tests : Q → Q → List Bool) (members : Q → Trees) → MembersSameness P
+  abbrev pub members_at : {Q : Type 0} (part : P → Q) (q : MembersSameness Q) (tests : Q → Q → List Bool) (members : Q
+      → Trees) → MembersSameness P
   members_at part q tests members = record {
     tests = λ x y. tests (part x) (part y);
     members = λ x. members (part x);
@@ -379,7 +421,8 @@ module _ {S P : Type 0} (m : MembersSameness P) (parts : S → P) where
   }
 
 -- alternatives
-abbrev pub this_or_other_sameness : {A B : Type 0} (a : Sameness A) (equal : A → A → Bool) (means : A → Tree) (b : Sameness B) (other : B → B → Bool) (chosen : B → Tree) → Sameness (OneOf A B)
+abbrev pub this_or_other_sameness : {A B : Type 0} (a : Sameness A) (equal : A → A → Bool) (means : A
+    → Tree) (b : Sameness B) (other : B → B → Bool) (chosen : B → Tree) → Sameness (OneOf A B)
 this_or_other_sameness a equal means b other chosen = record {
   eq = equal_this_or_other equal other;
   meaning = chosen_of means chosen;
@@ -387,11 +430,13 @@ this_or_other_sameness a equal means b other chosen = record {
   follows = λ o. this_or_other_respects (respects_of a o.0) (respects_of b o.1);
 }
 
-abbrev pub this_or_other_by : {A B : Type 0} (a : Sameness A) (equal : A → A → Bool) (means : A → Tree) (b : Sameness B) → Sameness (OneOf A B)
+abbrev pub this_or_other_by : {A B : Type 0} (a : Sameness A) (equal : A → A → Bool) (means : A → Tree) (b : Sameness B)
+    → Sameness (OneOf A B)
 this_or_other_by a equal means b = this_or_other_sameness a equal means b b.eq b.meaning
 
 -- a choice of them with this `==`: values that are equal have equal alternatives
-abbrev pub choice_sameness : {V P : Type 0} (c : Sameness P) (parts : V → P) (eq : V → V → Bool) → ((v w : V) → eq v w ≡ true → c.eq (parts v) (parts w) ≡ true) → Sameness V
+abbrev pub choice_sameness : {V P : Type 0} (c : Sameness P) (parts : V → P) (eq : V → V → Bool)
+    → ((v w : V) → eq v w ≡ true → c.eq (parts v) (parts w) ≡ true) → Sameness V
 choice_sameness c parts eq so = record {
   eq = eq;
   meaning = λ v. Tree.choice (c.meaning (parts v));

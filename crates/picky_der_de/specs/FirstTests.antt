@@ -1,12 +1,15 @@
--- A test that computes: whether the first byte distinguishes the members that may be absent from those that may come instead.
+-- A test that computes: whether the first byte distinguishes the members that may be absent from those that may come
+-- instead.
 use Rattle.std.specs.Prelude.{◌≡◌, ℕ, Bool, true, false, not, ◌&&◌, ◌||◌, ◌==◌, cond, List, [], ◌∷◌, ◌++◌, refl}
 use Rattle.std.specs.List.{list_all, filter}
 use Rattle.std.proofs.Common.{subst, sym, ◌∙◌, eqb-true}
 use Rattle.std.proofs.lemmas.Bool.{and_parts}
-use Rattle.picky_der_core.specs.Shape.{Layout, AreMembersDistinct, firsts, next_firsts, contains, are_disjoint, tags_below}
+use Rattle.picky_der_core.specs.Shape.{Layout, AreMembersDistinct, firsts, next_firsts, contains, are_disjoint}
+use Rattle.picky_der_core.specs.Shape.{tags_below}
 use Rattle.picky_der_de.specs.InjectiveLaws.{both}
 
--- None of these bytes begins the first of the members. After the last member nothing comes, and nothing has to be distinguished.
+-- None of these bytes begins the first of the members. After the last member nothing comes, and nothing has to be
+-- distinguished.
 abbrev pub is_disjoint : List ℕ → Layout → Bool
 is_disjoint fs Layout.empty = true
 is_disjoint fs (Layout.required s l) = are_disjoint fs (firsts s)
@@ -25,15 +28,18 @@ disjoint_from_none : (fs : List ℕ) → are_disjoint fs [] ≡ true
 disjoint_from_none [] = refl
 disjoint_from_none (f ∷ fs) = disjoint_from_none fs
 
-not_in_both : (f : ℕ) (gs hs : List ℕ) → not (contains gs f) ≡ true → not (contains hs f) ≡ true → not (contains (gs ++ hs) f) ≡ true
+not_in_both : (f : ℕ) (gs hs : List ℕ) → not (contains gs f) ≡ true → not (contains hs f) ≡ true
+    → not (contains (gs ++ hs) f) ≡ true
 not_in_both f [] hs p q = q
 not_in_both f (g ∷ gs) hs p q = by_first (f == g) p (λ r. not_in_both f gs hs r q)
   where
-    by_first : (b : Bool) → not (b || contains gs f) ≡ true → (not (contains gs f) ≡ true → not (contains (gs ++ hs) f) ≡ true) → not (b || contains (gs ++ hs) f) ≡ true
+    by_first : (b : Bool) → not (b || contains gs f) ≡ true
+        → (not (contains gs f) ≡ true → not (contains (gs ++ hs) f) ≡ true) → not (b || contains (gs ++ hs) f) ≡ true
     by_first true r next = cc
     by_first false r next = next r
 
-disjoint_from_both : (fs gs hs : List ℕ) → are_disjoint fs gs ≡ true → are_disjoint fs hs ≡ true → are_disjoint fs (gs ++ hs) ≡ true
+disjoint_from_both : (fs gs hs : List ℕ) → are_disjoint fs gs ≡ true → are_disjoint fs hs ≡ true
+    → are_disjoint fs (gs ++ hs) ≡ true
 disjoint_from_both [] gs hs p q = refl
 disjoint_from_both (f ∷ fs) gs hs p q =
     let a = and_parts (not (contains gs f)) (are_disjoint fs gs) p in
@@ -41,14 +47,16 @@ disjoint_from_both (f ∷ fs) gs hs p q =
     both (not_in_both f gs hs a.0 b.0) (disjoint_from_both fs gs hs a.1 b.1)
 
 -- an excluded byte is none of the bytes that are left
-pub excluded_not_left : (excluded : List ℕ) (x : ℕ) (xs : List ℕ) → contains excluded x ≡ true → not (contains (filter (λ b. not (contains excluded b)) xs) x) ≡ true
+pub excluded_not_left : (excluded : List ℕ) (x : ℕ) (xs : List ℕ) → contains excluded x ≡ true
+    → not (contains (filter (λ b. not (contains excluded b)) xs) x) ≡ true
 excluded_not_left excluded x [] h = refl
 excluded_not_left excluded x (y ∷ ys) h = by_test (contains excluded y) refl (excluded_not_left excluded x ys h)
   where
     left : List ℕ
     left = filter (λ b. not (contains excluded b)) ys
 
-    by_test : (b : Bool) → contains excluded y ≡ b → not (contains left x) ≡ true → not (contains (cond (not b) (y ∷ left) left) x) ≡ true
+    by_test : (b : Bool) → contains excluded y ≡ b → not (contains left x) ≡ true
+        → not (contains (cond (not b) (y ∷ left) left) x) ≡ true
     by_test true e next = next
     by_test false e next = by_first (x == y) refl
       where
@@ -59,7 +67,8 @@ excluded_not_left excluded x (y ∷ ys) h = by_test (contains excluded y) refl (
             cc
         by_first false same = next
 
-disjoint_from_left : (excluded fs : List ℕ) → list_all (contains excluded) fs ≡ true → are_disjoint fs (filter (λ b. not (contains excluded b)) (tags_below 256)) ≡ true
+disjoint_from_left : (excluded fs : List ℕ) → list_all (contains excluded) fs ≡ true
+    → are_disjoint fs (filter (λ b. not (contains excluded b)) (tags_below 256)) ≡ true
 disjoint_from_left excluded [] h = refl
 disjoint_from_left excluded (f ∷ fs) h =
     let parts = and_parts (contains excluded f) (list_all (contains excluded) fs) h in

@@ -21,11 +21,17 @@ module _ {A B C D E : Type 0} where
   abbrev pub chosen_of4 : (A → Tree) → (B → Tree) → (C → Tree) → (D → Tree) → (E → Tree) → Choice4 A B C D E → Tree
   chosen_of4 a b c d e v = chosen_of a (chosen_of b (chosen_of c (chosen_of d e))) (one_by_one v)
 
-  module _ {s t u w : Shape} {ss : Shapes} {chosen : E → Tree} (a : Facts A s) (means_a : A → Tree) (equal_a : A → A → Bool) (b : Facts B t) (means_b : B → Tree) (equal_b : B → B → Bool)
-      (c : Facts C u) (means_c : C → Tree) (equal_c : C → C → Bool) (d : Facts D w) (means_d : D → Tree) (equal_d : D → D → Bool) (e : ChoiceFacts E ss chosen) where
-    abbrev pub choice4_facts : ChoiceFacts (Choice4 A B C D E) (Shapes.more s (Shapes.more t (Shapes.more u (Shapes.more w ss)))) (chosen_of4 means_a means_b means_c means_d chosen)
+  module _ {s t u w : Shape} {ss : Shapes} {chosen : E → Tree} (a : Facts A s) (means_a : A → Tree) (equal_a : A → A
+      → Bool) (b : Facts B t) (means_b : B → Tree) (equal_b : B → B → Bool)
+      (c : Facts C u) (means_c : C → Tree) (equal_c : C → C → Bool) (d : Facts D w) (means_d : D → Tree) (equal_d : D
+      → D → Bool) (e : ChoiceFacts E ss chosen) where
+    abbrev pub choice4_facts : ChoiceFacts (Choice4 A B C D E)
+        (Shapes.more s (Shapes.more t (Shapes.more u (Shapes.more w ss))))
+        (chosen_of4 means_a means_b means_c means_d chosen)
     choice4_facts =
-        let all = this_or_other_facts a means_a equal_a (this_or_other_facts b means_b equal_b (this_or_other_facts c means_c equal_c (this_or_other_facts d means_d equal_d e))) in
+        let all = this_or_other_facts a means_a equal_a
+        (this_or_other_facts b means_b equal_b
+        (this_or_other_facts c means_c equal_c (this_or_other_facts d means_d equal_d e))) in
         record {
           eq = λ x y. all.eq (one_by_one x) (one_by_one y);
           Premise = all.Premise;

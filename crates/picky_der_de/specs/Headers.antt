@@ -6,13 +6,16 @@ use Rattle.picky_der_core.specs.declared.error.Asn1DerError.TheVariants.{Truncat
 use Rattle.picky_der_core.specs.Element.{length_octets, tlv}
 use Rattle.picky_der_core.specs.Refusal.{length_of, header_refusal}
 use Rattle.picky_der_de.specs.State.{State}
-use Rattle.picky_der_de.specs.Steps.{Consumed, ConsumesBytes, Fails, IsCut, IsJudged, failed_with, is_hard, error_at_end}
+use Rattle.picky_der_de.specs.Steps.{Consumed, ConsumesBytes, Fails, IsCut, IsJudged, failed_with, is_hard}
+use Rattle.picky_der_de.specs.Steps.{error_at_end}
 use Rattle.picky_der_de.specs.Reading.{AllConcerned, AreJustRefused}
 
 -- why no length was read: a byte was missing, or what was consumed begins none
 pub data StopsLength (old new : State) (e : Asn1DerError) : Type 0 where
-  cut : (n : ℕ) (c : IsCut old new n e) → ((lacking : Asn1DerError) → length_of lacking c.bytes ≡ Err (lacking, [])) → StopsLength old new e
-  bad : (mid : State) (bytes : List ℕ) → Consumed old mid bytes → new ≡ failed_with mid e → ((lacking : Asn1DerError) (y : List ℕ) → length_of lacking (bytes ++ y) ≡ Err (e, y)) → StopsLength old new e
+  cut : (n : ℕ) (c : IsCut old new n e) → ((lacking : Asn1DerError) → length_of lacking c.bytes ≡ Err (lacking, []))
+      → StopsLength old new e
+  bad : (mid : State) (bytes : List ℕ) → Consumed old mid bytes → new ≡ failed_with mid e
+      → ((lacking : Asn1DerError) (y : List ℕ) → length_of lacking (bytes ++ y) ≡ Err (e, y)) → StopsLength old new e
 
 -- no length was read
 pub record RefusesLength (old new : State) (e : Asn1DerError) : Type 0 where
@@ -22,7 +25,8 @@ pub record RefusesLength (old new : State) (e : Asn1DerError) : Type 0 where
 -- why no length of a content was read: there is no length, or it reaches past the innermost end
 pub data StopsContentLength (old new : State) (e : Asn1DerError) : Type 0 where
   no_length : StopsLength old new e → StopsContentLength old new e
-  too_long : (mid : State) (n : ℕ) → Consumed old mid (length_octets n) → n < 2 ^ 64 → mid.until_end < n → e ≡ error_at_end mid.end → new ≡ failed_with mid e → StopsContentLength old new e
+  too_long : (mid : State) (n : ℕ) → Consumed old mid (length_octets n) → n < 2 ^ 64 → mid.until_end < n
+      → e ≡ error_at_end mid.end → new ≡ failed_with mid e → StopsContentLength old new e
 
 -- no length of a content that ends before the innermost end was read
 pub record RefusesContentLength (old new : State) (e : Asn1DerError) : Type 0 where
@@ -37,7 +41,8 @@ NoElement tag end bs = (c rest : List ℕ) → length c < 2 ^ 64 → bs ≡ tlv 
 pub record RefusesHeader (tag : ℕ) (old new : State) (e : Asn1DerError) : Type 0 where
   pub fails : Fails old new e
   pub none : AllConcerned old new e (NoElement tag)
-  pub first : IsJudged old new e → e ≡ TruncatedData → 0 < old.until_end → (b : ℕ) (left : List ℕ) → old.input ≡ Some (b ∷ left) → b ≡ tag
+  pub first : IsJudged old new e → e ≡ TruncatedData → 0 < old.until_end → (b : ℕ) (left : List ℕ)
+      → old.input ≡ Some (b ∷ left) → b ≡ tag
   pub just : AreJustRefused (header_refusal tag (is_hard old.end) old.until_end) old new e
 
 -- the header, which was consumed before directly under an implicit tag

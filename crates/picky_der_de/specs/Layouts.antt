@@ -22,14 +22,19 @@ pub data Lacks (s : Shape) (old new : State) : Type 0 where
   begins_otherwise : (tag : ℕ) → Identifies old new tag → (IsFirst s tag → ⊥) → Lacks s old new
 
 -- No tag could be peeked, though the end isn't here; or a value begins there as values of the type do, and was refused.
-pub data RefusesOptional {V : Type 0} (meaning : V → Tree) (s : Shape) (old new : State) (e : Asn1DerError) : Type 0 where
-  no_tag : RefusesIdentifier old new e → (old.failed ≡ None → 0 < old.until_end) → RefusesOptional meaning s old new e
-  no_member : (mid : State) (tag : ℕ) → Identifies old mid tag → IsFirst s tag → RefusesMember meaning s mid new e → RefusesOptional meaning s old new e
+pub data RefusesOptional {V : Type 0} (meaning : V → Tree) (s : Shape) (old new : State) (e : Asn1DerError) : Type 0
+  where
+    no_tag : RefusesIdentifier old new e → (old.failed ≡ None → 0 < old.until_end) → RefusesOptional meaning s old new e
+    no_member : (mid : State) (tag : ℕ) → Identifies old mid tag → IsFirst s tag → RefusesMember meaning s mid new e
+        → RefusesOptional meaning s old new e
 
--- It was refused as a member that may be missing is. Or the default is there and was read, which is `InvalidData`: no default is written out.
-pub data RefusesDefault {V : Type 0} (meaning : V → Tree) (left_out : V → Bool) (s : Shape) (old new : State) (e : Asn1DerError) : Type 0 where
+-- It was refused as a member that may be missing is. Or the default is there and was read, which is `InvalidData`: no
+-- default is written out.
+pub data RefusesDefault {V : Type 0} (meaning : V → Tree) (left_out : V → Bool) (s : Shape) (old new : State)
+    (e : Asn1DerError) : Type 0 where
   as_optional : RefusesOptional meaning s old new e → RefusesDefault meaning left_out s old new e
-  written_out : (mid : State) (v : V) → IsTrue (left_out v) → ReadsMember s old mid (meaning v) → FailsAs InvalidData mid e new → Fails mid new e → RefusesDefault meaning left_out s old new e
+  written_out : (mid : State) (v : V) → IsTrue (left_out v) → ReadsMember s old mid (meaning v)
+      → FailsAs InvalidData mid e new → Fails mid new e → RefusesDefault meaning left_out s old new e
 
 -- ---- one member, always there or not
 
@@ -43,7 +48,8 @@ layout_with always = Layout.required
 layout_with perhaps = Layout.maybe
 
 -- why it wasn't read: one that is always there is no default
-abbrev pub RefusesLayoutMember : {V : Type 0} → Presence → (V → Tree) → (V → Bool) → Shape → State → State → Asn1DerError → Type 0
+abbrev pub RefusesLayoutMember : {V : Type 0} → Presence → (V → Tree) → (V → Bool) → Shape → State → State
+    → Asn1DerError → Type 0
 RefusesLayoutMember always meaning left_out = RefusesMember meaning
 RefusesLayoutMember perhaps meaning left_out = RefusesDefault meaning left_out
 
@@ -70,11 +76,13 @@ pub record ReadsLayout (l : Layout) (old new : State) (ts : Trees) : Type 0 wher
   pub implicit_tag : new.implicit_tag ≡ None
   -- what fails after them has failed from before them
   pub fails : (last : State) (e : Asn1DerError) → Fails new last e → Fails old last e
-  pub full : AreMembersDistinct l → (last : State) (e : Asn1DerError) → Fails new last e → 0 < new.until_end → (us : Trees) → AreMembersOf l us → AreReadable us → AreUpToEnd old last e (members_encoding us) → ⊥
+  pub full : AreMembersDistinct l → (last : State) (e : Asn1DerError) → Fails new last e → 0 < new.until_end
+      → (us : Trees) → AreMembersOf l us → AreReadable us → AreUpToEnd old last e (members_encoding us) → ⊥
 
 -- no values are there as members up to the end, where the first byte distinguishes missing members
-pub record RefusesLayout {V : Type 0} (members : V → Trees) (l : Layout) (old new : State) (e : Asn1DerError) : Type 0 where
-  pub rest : RefusesRest (λ v. AreMembersDistinct l × AreMembersOf l (members v)) members old new e
+pub record RefusesLayout {V : Type 0} (members : V → Trees) (l : Layout) (old new : State) (e : Asn1DerError) : Type 0
+  where
+    pub rest : RefusesRest (λ v. AreMembersDistinct l × AreMembersOf l (members v)) members old new e
 
 -- ---- laws
 

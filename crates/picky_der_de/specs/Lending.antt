@@ -1,5 +1,5 @@
--- What is borrowed from a deserializer. While bytes of it are borrowed, there is some state in which the call left the deserializer. Once the borrow is over,
--- this is the deserializer's own state.
+-- What is borrowed from a deserializer. While bytes of it are borrowed, there is some state in which the call left the
+-- deserializer. Once the borrow is over, this is the deserializer's own state.
 use Rattle.std.specs.Prelude.{ℕ, List, Result, MatchResult, IfErr}
 use Rattle.std.specs.Borrow.{Bor, MutBor, RattleType, Fml, RestsIfErr}
 use Rattle.std.specs.declared.io.Read as read
@@ -14,10 +14,13 @@ use Rattle.picky_der_de.specs.declared.sequence.Sequence.{Sequence}
 use Rattle.picky_der_de.specs.SequenceState.{borrowed_by}
 
 abbrev pub LendsBytes : State → State → Result (Bor (List ℕ)) Asn1DerError → Type 0
-LendsBytes old new r = MatchResult r (λ content. ReadsPrimitive (PrimitiveShape.bytes 0x04) old new (Primitive.bytes 0x04 content.now)) (RefusesPrimitive (Primitive.bytes 0x04) (PrimitiveShape.bytes 0x04) old new)
+LendsBytes old new r =
+    MatchResult r (λ content. ReadsPrimitive (PrimitiveShape.bytes 0x04) old new (Primitive.bytes 0x04 content.now))
+    (RefusesPrimitive (Primitive.bytes 0x04) (PrimitiveShape.bytes 0x04) old new)
 
 abbrev pub LendsText : State → State → Result (Bor (List ℕ)) Asn1DerError → Type 0
-LendsText old new r = MatchResult r (λ text. ReadsPrimitive PrimitiveShape.text old new (Primitive.text text.now)) (RefusesPrimitive Primitive.text PrimitiveShape.text old new)
+LendsText old new r = MatchResult r (λ text. ReadsPrimitive PrimitiveShape.text old new (Primitive.text text.now))
+    (RefusesPrimitive Primitive.text PrimitiveShape.text old new)
 
 module _ (R : RattleType) (g : reader.Ghosts R.Denot) (h : read.Ghosts R.Denot) where
   -- the sequence borrows the deserializer, or the deserializer has refused a list under this tag

@@ -27,20 +27,23 @@ pub record ReadsMember (s : Shape) (old new : State) (t : Tree) : Type 0 where
 -- why none may come next: no value of the type is there, or one is there that was read and then refused
 pub data RefusesNext {V : Type 0} (meaning : V → Tree) (s : Shape) (old new : State) (e : Asn1DerError) : Type 0 where
   no_value : Refuses meaning s old new e → RefusesNext meaning s old new e
-  after_value : (mid : State) (t : Tree) → Reads s old mid t → RefusesTest (der t) mid new e → RefusesNext meaning s old new e
+  after_value : (mid : State) (t : Tree) → Reads s old mid t → RefusesTest (der t) mid new e
+      → RefusesNext meaning s old new e
 
 -- No member was read, and none is there that may come next.
-pub record RefusesMember {V : Type 0} (meaning : V → Tree) (s : Shape) (old new : State) (e : Asn1DerError) : Type 0 where
-  pub fails : Fails old new e
-  pub refuses : RefusesNext meaning s old new e
-  pub implicit_tag : old.failed ≡ None → old.implicit_tag ≡ None
+pub record RefusesMember {V : Type 0} (meaning : V → Tree) (s : Shape) (old new : State) (e : Asn1DerError) : Type 0
+  where
+    pub fails : Fails old new e
+    pub refuses : RefusesNext meaning s old new e
+    pub implicit_tag : old.failed ≡ None → old.implicit_tag ≡ None
 
 -- the same, from before the member was seen
 abbrev pub ReadsSeen : Bool → Shape → State → State → Tree → Type 0
 ReadsSeen less s old new t = (before : State) → SeesMember before old less → ReadsMember s before new t
 
 abbrev pub RefusesSeen : {V : Type 0} → Bool → (V → Tree) → Shape → State → State → Asn1DerError → Type 0
-RefusesSeen less meaning s old new e = (before : State) → SeesMember before old less → RefusesMember meaning s before new e
+RefusesSeen less meaning s old new e = (before : State) → SeesMember before old less
+    → RefusesMember meaning s before new e
 
 -- the end is here, and nothing was done
 pub record HasNoMore (old new : State) : Type 0 where
@@ -77,14 +80,18 @@ pub record ReadsMembers (l : Layout) (old new : State) (ts : Trees) : Type 0 whe
   pub implicit_tag : new.implicit_tag ≡ None
 
 -- no value of which P holds is there by its members, which would be all up to the end
-pub record RefusesRest {V : Type 0} (P : V → Type 0) (members : V → Trees) (old new : State) (e : Asn1DerError) : Type 0 where
-  pub fails : Fails old new e
-  pub none : IsJudged old new e → (v : V) → P v → AreReadable (members v) → AreInOrder old.sets (encodings (members v)) → AreUpToEnd old new e (members_encoding (members v)) → ⊥
+pub record RefusesRest {V : Type 0} (P : V → Type 0) (members : V → Trees) (old new : State) (e : Asn1DerError) : Type 0
+  where
+    pub fails : Fails old new e
+    pub none : IsJudged old new e → (v : V) → P v → AreReadable (members v)
+        → AreInOrder old.sets (encodings (members v))
+        → AreUpToEnd old new e (members_encoding (members v)) → ⊥
 
 -- the encodings of members were consumed; without any, nothing was done
 abbrev pub ConsumesMembers : State → State → Trees → Type 0
 ConsumesMembers old new Trees.none = new ≡ old
-ConsumesMembers old new (Trees.more t ts) = Consumed (without_order old) (without_order new) (members_encoding (Trees.more t ts))
+ConsumesMembers old new (Trees.more t ts) =
+    Consumed (without_order old) (without_order new) (members_encoding (Trees.more t ts))
 
 -- all members up to the end were read
 pub record ReadsAll {V : Type 0} (meaning : V → Tree) (s : Shape) (old new : State) (vs : List V) : Type 0 where
@@ -97,7 +104,8 @@ pub record ReadsAll {V : Type 0} (meaning : V → Tree) (s : Shape) (old new : S
   pub reached : new.until_end ≡ 0
 
 -- these values are in this order, and with one more they aren't: its encoding is less than that of the one before it
-pub record BreaksOrder {V : Type 0} (meaning : V → Tree) (s : Shape) (order : List (List ℕ) → Type 0) (vs : List V) (v : V) : Type 0 where
+pub record BreaksOrder {V : Type 0} (meaning : V → Tree) (s : Shape) (order : List (List ℕ) → Type 0) (vs : List V)
+    (v : V) : Type 0 where
   pub of_shape : EachIs (IsOf s) (trees (map meaning (vs ++ v ∷ [])))
   pub readable : AreReadable (trees (map meaning (vs ++ v ∷ [])))
   pub in_order : order (encodings (trees (map meaning vs)))
@@ -110,17 +118,18 @@ pub record RefusesConsumed (old new : State) (e : Asn1DerError) (bytes : List �
   pub error : e ≡ InvalidData
   pub same : new ≡ failed_with mid e
 
--- No values are there as members up to the end, however many there may be. If one breaks the order of the earlier ones, it was refused for that as soon as it
--- was read.
+-- No values are there as members up to the end, however many there may be. If one breaks the order of the earlier ones,
+-- it was refused for that as soon as it was read.
 pub record RefusesAll {V : Type 0} (meaning : V → Tree) (s : Shape) (old new : State) (e : Asn1DerError) : Type 0 where
   pub rest : RefusesRest (λ vs. EachIs (IsOf s) (trees (map meaning vs))) (λ vs. trees (map meaning vs)) old new e
-  pub lesser : IsJudged old new e → (vs : List V) (v : V) → BreaksOrder meaning s (AreInOrder old.sets) vs v → AreBefore old new e (members_encoding (trees (map meaning (vs ++ v ∷ []))))
+  pub lesser : IsJudged old new e → (vs : List V) (v : V) → BreaksOrder meaning s (AreInOrder old.sets) vs v
+      → AreBefore old new e (members_encoding (trees (map meaning (vs ++ v ∷ []))))
       → RefusesConsumed old new e (members_encoding (trees (map meaning (vs ++ v ∷ []))))
 
 -- ---- sets out of order
 
--- Known bytes begin with the header of a set, which directly under an implicit tag was that tag's, and after it with these
--- bytes of its content.
+-- Known bytes begin with the header of a set, which directly under an implicit tag was that tag's, and after it with
+-- these bytes of its content.
 pub record BeginsSet (old : State) (bs members rest : List ℕ) : Type 0 where
   pub size : ℕ
   pub begins : bs ≡ header_bytes old.implicit_tag 0x31 size ++ (members ++ rest)
@@ -134,8 +143,10 @@ pub record IsRefusedBefore (rest : List ℕ) (new : State) (e : Asn1DerError) : 
   pub input : new.input ≡ Some rest
   pub unpeeked : new.peeked ≡ None
 
--- the first member of a set whose encoding is less than that of the one before it is refused, and no byte after it is consumed
+-- the first member of a set whose encoding is less than that of the one before it is refused, and no byte after it is
+-- consumed
 abbrev pub RefusesUnordered : {V : Type 0} → (V → Tree) → Shape → State → State → Asn1DerError → Type 0
 RefusesUnordered {V} meaning s old new e =
     IsJudged old new e → (vs : List V) (v : V) → BreaksOrder meaning s IsAscending vs v
-    → (bs rest : List ℕ) → old.input ≡ Some bs → BeginsSet old bs (members_encoding (trees (map meaning (vs ++ v ∷ [])))) rest → IsRefusedBefore rest new e
+    → (bs rest : List ℕ) → old.input ≡ Some bs
+    → BeginsSet old bs (members_encoding (trees (map meaning (vs ++ v ∷ [])))) rest → IsRefusedBefore rest new e

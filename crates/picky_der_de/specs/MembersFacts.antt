@@ -13,7 +13,8 @@ use Rattle.picky_der_ser.specs.Meaning.{maybe_more, unless_default}
 use Rattle.picky_der_ser.specs.Defaults.{IsOne}
 use Rattle.picky_der_de.specs.InjectiveLaws.{list_members, both}
 use Rattle.picky_der_de.specs.Layouts.{Presence, always, perhaps, layout_with}
-use Rattle.picky_der_de.specs.LayoutLaws.{IsLayoutMember, AreLayoutMembers, same_unless_default, no_layout_members, after, lead}
+use Rattle.picky_der_de.specs.LayoutLaws.{IsLayoutMember, AreLayoutMembers, same_unless_default, no_layout_members}
+use Rattle.picky_der_de.specs.LayoutLaws.{after, lead}
 use Rattle.picky_der_de.specs.Facts.{Facts, Proved, is_lawful}
 use Rattle.picky_der_de.specs.FirstTests.{are_members_distinct, members_distinct}
 use Rattle.picky_der_de.specs.OtherLaws.{others_of, are_outside, others_are}
@@ -37,7 +38,8 @@ conjunction_true [] h = refl
 conjunction_true (b ∷ []) h = h.0
 conjunction_true (b ∷ (c ∷ bs)) h = both h.0 (conjunction_true (c ∷ bs) h.1)
 
-pub conjunction_after_true : (before : Bool) (bs : List Bool) → before ≡ true → AreTrue bs → conjunction_after before bs ≡ true
+pub conjunction_after_true : (before : Bool) (bs : List Bool) → before ≡ true → AreTrue bs
+    → conjunction_after before bs ≡ true
 conjunction_after_true before [] p h = p
 conjunction_after_true before (b ∷ bs) p h = conjunction_after_true (before && b) bs (both p h.0) h.1
 
@@ -57,19 +59,26 @@ abbrev mutual
 -- ---- one member
 
 -- What a member V says of itself, where a W is what is written, and that this follows where its part is what it says.
-pub record MemberFacts (V : Type 0) {W : Type 0} (presence : Presence) (s : Shape) (meaning : W → Tree) (equal : W → W → Bool) (item : V → Option W) : Type 1 where
+pub record MemberFacts (V : Type 0) {W : Type 0} (presence : Presence) (s : Shape) (meaning : W → Tree) (equal : W → W
+    → Bool) (item : V → Option W) : Type 1 where
   pub eq : V → V → Bool
   -- whether one that is always there can't be absent, as one with no encoding is
   pub there : Bool
   pub Premise : Type 0
-  pub follows : Premise → (prepend : V → Trees → Trees) → ((v : V) (ts : Trees) → prepend v ts ≡ maybe_more meaning (item v) ts) → IsLayoutMember presence prepend eq meaning s equal item
+  pub follows : Premise → (prepend : V → Trees → Trees)
+      → ((v : V) (ts : Trees) → prepend v ts ≡ maybe_more meaning (item v) ts)
+      → IsLayoutMember presence prepend eq meaning s equal item
 
 -- so it is before others
-pub record ProvedMember {V W : Type 0} {presence : Presence} {s : Shape} {meaning : W → Tree} {equal : W → W → Bool} {item : V → Option W} (facts : MemberFacts V presence s meaning equal item) (prepend : V → Trees → Trees) : Type 0 where
+pub record ProvedMember {V W : Type 0} {presence : Presence} {s : Shape} {meaning : W → Tree} {equal : W → W
+    → Bool} {item : V → Option W} (facts : MemberFacts V presence s meaning equal item) (prepend : V → Trees
+    → Trees) : Type 0 where
   pub premise : facts.Premise
   pub prepends : (v : V) (ts : Trees) → prepend v ts ≡ maybe_more meaning (item v) ts
 
-pub layout_member : {V W : Type 0} {presence : Presence} {s : Shape} {meaning : W → Tree} {equal : W → W → Bool} {item : V → Option W} (facts : MemberFacts V presence s meaning equal item) {prepend : V → Trees → Trees} → ProvedMember facts prepend
+pub layout_member : {V W : Type 0} {presence : Presence} {s : Shape} {meaning : W → Tree} {equal : W → W
+    → Bool} {item : V → Option W} (facts : MemberFacts V presence s meaning equal item) {prepend : V → Trees → Trees}
+    → ProvedMember facts prepend
     → IsLayoutMember presence prepend facts.eq meaning s equal item
 layout_member facts {prepend} t = facts.follows t.premise prepend t.prepends
 
@@ -79,7 +88,13 @@ module _ {A : Type 0} {s : Shape} (a : Facts A s) (means : A → Tree) (equal : 
     eq = equal;
     there = is_there s;
     Premise = Proved a means equal;
-    follows = λ t prepend prepends. record { prepends = prepends; there = λ v. tt; equal = λ x y h. h; is = is_lawful a t };
+    follows = λ t prepend prepends. record {
+      prepends = prepends;
+      there = λ v. tt;
+      equal = λ x y h. h;
+      is =
+          is_lawful a t;
+    };
   }
 
   -- an element of a tuple
@@ -88,7 +103,13 @@ module _ {A : Type 0} {s : Shape} (a : Facts A s) (means : A → Tree) (equal : 
     eq = λ x y. equal (part x) (part y);
     there = true;
     Premise = Proved a means equal;
-    follows = λ t prepend prepends. record { prepends = prepends; there = λ v. tt; equal = λ x y h. h; is = is_lawful a t };
+    follows = λ t prepend prepends. record {
+      prepends = prepends;
+      there = λ v. tt;
+      equal = λ x y h. h;
+      is =
+          is_lawful a t;
+    };
   }
 
   -- a member of which an item is there, or none
@@ -97,11 +118,18 @@ module _ {A : Type 0} {s : Shape} (a : Facts A s) (means : A → Tree) (equal : 
     eq = λ x y. option_eq equal (item x) (item y);
     there = is_there s;
     Premise = Proved a means equal;
-    follows = λ t prepend prepends. record { prepends = prepends; there = λ v. tt; equal = λ x y h. h; is = is_lawful a t };
+    follows = λ t prepend prepends. record {
+      prepends = prepends;
+      there = λ v. tt;
+      equal = λ x y h. h;
+      is =
+          is_lawful a t;
+    };
   }
 
   -- that is missing where it is the default, of which there is one by this `==`
-  abbrev pub default_facts : {V : Type 0} (left_out : A → Bool) (same : A → A → Bool) → IsOne same left_out → (value : V → A) → MemberFacts V perhaps s means equal (λ v. unless_default left_out (value v))
+  abbrev pub default_facts : {V : Type 0} (left_out : A → Bool) (same : A → A → Bool) → IsOne same left_out
+      → (value : V → A) → MemberFacts V perhaps s means equal (λ v. unless_default left_out (value v))
   default_facts left_out same one value = record {
     eq = λ x y. equal (value x) (value y);
     there = is_there s;
@@ -131,15 +159,26 @@ pub record ProvedMembers {P : Type 0} {l : Layout} (facts : MembersFacts P l) (m
   pub premise : facts.Premise
   pub means : facts.members ≡ members
 
-pub layout_members : {P : Type 0} {l : Layout} (facts : MembersFacts P l) {members : P → Trees} → ProvedMembers facts members → AreLayoutMembers members l (λ x y. AreTrue (facts.tests x y))
-layout_members {P} {l} facts t = subst (λ (m : P → Trees). AreLayoutMembers m l (λ x y. AreTrue (facts.tests x y))) t.means (facts.follows t.premise)
+pub layout_members : {P : Type 0} {l : Layout} (facts : MembersFacts P l) {members : P → Trees}
+    → ProvedMembers facts members → AreLayoutMembers members l (λ x y. AreTrue (facts.tests x y))
+layout_members {P} {l} facts t = subst (λ (m : P → Trees). AreLayoutMembers m l (λ x y. AreTrue (facts.tests x y)))
+    t.means (facts.follows t.premise)
 
 abbrev pub none_facts : {P : Type 0} → MembersFacts P Layout.empty
-none_facts = record { members = λ x. Trees.none; tests = λ x y. []; there = true; Premise = ⊤; follows = λ o. no_layout_members }
+none_facts = record {
+  members = λ x. Trees.none;
+  tests = λ x y. [];
+  there = true;
+  Premise = ⊤;
+  follows =
+      λ o. no_layout_members;
+}
 
 module _ {P : Type 0} {l : Layout} where
   -- one member before others
-  abbrev pub member_facts : {X W : Type 0} {presence : Presence} {s : Shape} {meaning : W → Tree} {equal : W → W → Bool} {item : X → Option W} (first : P → X) → MemberFacts X presence s meaning equal item → (X → Trees → Trees) → MembersFacts P l → MembersFacts P (layout_with presence s l)
+  abbrev pub member_facts : {X W : Type 0} {presence : Presence} {s : Shape} {meaning : W → Tree} {equal : W → W
+      → Bool} {item : X → Option W} (first : P → X) → MemberFacts X presence s meaning equal item → (X → Trees → Trees)
+      → MembersFacts P l → MembersFacts P (layout_with presence s l)
   member_facts first a prepend others = record {
     members = λ x. prepend (first x) (others.members x);
     tests = λ x y. a.eq (first x) (first y) ∷ others.tests x y;
@@ -148,8 +187,10 @@ module _ {P : Type 0} {l : Layout} where
     follows = λ o. lead first (layout_member a o.0) (others.follows o.1);
   }
 
-  abbrev pub required_facts : {A : Type 0} {s : Shape} (first : P → A) → Facts A s → (A → Tree) → (A → A → Bool) → MembersFacts P l → MembersFacts P (Layout.required s l)
-  required_facts first a means equal others = member_facts first (always_facts a means equal) (λ v. Trees.more (means v)) others
+  abbrev pub required_facts : {A : Type 0} {s : Shape} (first : P → A) → Facts A s → (A → Tree) → (A → A → Bool)
+      → MembersFacts P l → MembersFacts P (Layout.required s l)
+  required_facts first a means equal others =
+      member_facts first (always_facts a means equal) (λ v. Trees.more (means v)) others
 
   -- where they are a part, and mean these trees
   abbrev pub members_facts : {V : Type 0} (part : V → P) → MembersFacts P l → (P → Trees) → MembersFacts V l
@@ -164,7 +205,8 @@ module _ {P : Type 0} {l : Layout} where
 -- ---- further elements after all members
 
 module _ {P E : Type 0} (bytes : E → List ℕ) (excluded : List ℕ) (elements : P → List E) where
-  abbrev pub others_facts : ((p : P) → are_outside excluded bytes (elements p) ≡ true) → MembersFacts P (Layout.others excluded)
+  abbrev pub others_facts : ((p : P) → are_outside excluded bytes (elements p) ≡ true)
+      → MembersFacts P (Layout.others excluded)
   others_facts outside = record {
     members = λ p. others_of bytes (elements p);
     tests = λ x y. pointwise (λ a b. pointwise eqb (bytes a) (bytes b)) (elements x) (elements y) ∷ [];
@@ -188,14 +230,17 @@ are_distinct_and_there {l = l} facts = are_members_distinct l && facts.there
 
 module _ {P S : Type 0} {l : Layout} (facts : MembersFacts P l) where
   -- with this `==`
-  abbrev sequence_facts : are_members_distinct l ≡ true → (parts : S → P) (eq : S → S → Bool) → ((x y : S) → AreTrue (facts.tests (parts x) (parts y)) → eq x y ≡ true) → Facts S (sequence_shape l)
+  abbrev sequence_facts : are_members_distinct l ≡ true → (parts : S → P) (eq : S → S → Bool)
+      → ((x y : S) → AreTrue (facts.tests (parts x) (parts y)) → eq x y ≡ true) → Facts S (sequence_shape l)
   sequence_facts distinct parts eq same = record {
     meaning = sequence_of facts.members parts;
     eq = eq;
     Premise = facts.Premise;
     follows = λ o. let are = facts.follows o in record {
       has_shape = λ v r. (refl, are.has_layout (parts v) r.1);
-      injective = λ x y p q r e. same x y (are.injective (members_distinct l distinct) (parts x) (parts y) p.1 q.1 r.1 (list_members e));
+      injective =
+          λ x y p q r e. same x y (are.injective (members_distinct l distinct) (parts x) (parts y) p.1 q.1 r.1
+          (list_members e));
       sound = (are.sound, members_distinct l distinct);
       begun = λ v b h. h;
     };
@@ -203,8 +248,11 @@ module _ {P S : Type 0} {l : Layout} (facts : MembersFacts P l) where
 
   -- with the `==` of a struct of them
   abbrev pub struct_facts : are_distinct_and_there facts ≡ true → (parts : S → P) → Facts S (sequence_shape l)
-  struct_facts distinct parts = sequence_facts (and_parts (are_members_distinct l) facts.there distinct).0 parts (λ x y. conjunction (facts.tests (parts x) (parts y))) (λ x y. conjunction_true (facts.tests (parts x) (parts y)))
+  struct_facts distinct parts = sequence_facts (and_parts (are_members_distinct l) facts.there distinct).0 parts
+      (λ x y. conjunction (facts.tests (parts x) (parts y))) (λ x y. conjunction_true (facts.tests (parts x) (parts y)))
 
   -- With the `==` of a tuple of them. Of elements whose types are parameters nothing computes, so any may be absent.
   abbrev pub tuple_facts : are_members_distinct l ≡ true → (parts : S → P) → Facts S (sequence_shape l)
-  tuple_facts distinct parts = sequence_facts distinct parts (λ x y. conjunction_after true (facts.tests (parts x) (parts y))) (λ x y. conjunction_after_true true (facts.tests (parts x) (parts y)) refl)
+  tuple_facts distinct parts =
+      sequence_facts distinct parts (λ x y. conjunction_after true (facts.tests (parts x) (parts y)))
+      (λ x y. conjunction_after_true true (facts.tests (parts x) (parts y)) refl)

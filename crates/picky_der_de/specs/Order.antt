@@ -1,5 +1,6 @@
 -- The order of the members of a set that is read (X.690, 11.6).
-use Rattle.std.specs.Prelude.{◌≡◌, ◌≢◌, ℕ, Bool, true, false, List, [], ◌∷◌, ◌++◌, length, take, drop, ◌==◌, Option, None, Some, option_map, ⊤, if◌then◌else◌}
+use Rattle.std.specs.Prelude.{◌≡◌, ◌≢◌, ℕ, Bool, true, false, List, [], ◌∷◌, ◌++◌, length, take, drop, ◌==◌, Option}
+use Rattle.std.specs.Prelude.{None, Some, option_map, ⊤, if◌then◌else◌}
 use Rattle.picky_der_core.specs.declared.error.Asn1DerError.{Asn1DerError}
 use Rattle.picky_der_core.specs.declared.error.Asn1DerError.TheVariants.{InvalidData, OutOfMemory}
 use Rattle.picky_der_core.specs.Element.{IsElement}
@@ -67,8 +68,8 @@ abbrev pub sets_seen : Bool → OpenSets → List ℕ → OpenSets
 sets_seen true s member = s
 sets_seen false s member = with_last s member
 
--- The next member is shown whole: its encoding is less than the last one, or it may come next and is the last one from here on.
--- Nothing was consumed.
+-- The next member is shown whole: its encoding is less than the last one, or it may come next and is the last one from
+-- here on. Nothing was consumed.
 pub record SeesMember (old new : State) (less : Bool) : Type 0 where
   pub member : List ℕ
   pub element : IsElement member
@@ -87,4 +88,5 @@ pub record RefusesOrder (member : List ℕ) (old new : State) (e : Asn1DerError)
 -- why it doesn't come next: it is less than the last one, or the allocation for that test failed
 pub data RefusesTest (member : List ℕ) (old new : State) (e : Asn1DerError) : Type 0 where
   out_of_order : RefusesOrder member old new e → RefusesTest member old new e
-  without_memory : old.sets.last ≢ None → Fails old new e → e ≡ OutOfMemory → new ≡ failed_with old e → RefusesTest member old new e
+  without_memory : old.sets.last ≢ None → Fails old new e → e ≡ OutOfMemory → new ≡ failed_with old e
+      → RefusesTest member old new e

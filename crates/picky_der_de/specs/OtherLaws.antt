@@ -27,21 +27,27 @@ module _ {E : Type 0} (bytes : E → List ℕ) (excluded : List ℕ) where
   each_raw [] r = tt
   each_raw (e ∷ es) r = (r.0.1, each_raw es r.1)
 
-  pub others_have_layout : (es : List E) → are_outside excluded bytes es ≡ true → AreReadable (others_of bytes es) → AreOthers excluded (others_of bytes es)
+  pub others_have_layout : (es : List E) → are_outside excluded bytes es ≡ true → AreReadable (others_of bytes es)
+      → AreOthers excluded (others_of bytes es)
   others_have_layout [] h r = tt
   others_have_layout (e ∷ es) h r = ((r.0.1, h), each_raw es r.1)
 
-  others_begin : (es : List E) → are_outside excluded bytes es ≡ true → AreBegunBy (next_firsts (Layout.others excluded)) (others_of bytes es)
+  others_begin : (es : List E) → are_outside excluded bytes es ≡ true
+      → AreBegunBy (next_firsts (Layout.others excluded)) (others_of bytes es)
   others_begin [] h = tt
   others_begin (e ∷ es) h = λ r. begins_next (Layout.others excluded) (Tree.raw (bytes e)) Trees.none ((r.1, h), tt) r
 
   pub others_are : {P : Type 0} (elements : P → List E) → ((p : P) → are_outside excluded bytes (elements p) ≡ true)
-      → AreLayoutMembers (λ p. others_of bytes (elements p)) (Layout.others excluded) (λ x y. AllByRecursion (λ b. b ≡ true) (pointwise (λ a b. pointwise eqb (bytes a) (bytes b)) (elements x) (elements y) ∷ []))
+      → AreLayoutMembers (λ p. others_of bytes (elements p)) (Layout.others excluded)
+      (λ x y. AllByRecursion (λ b. b ≡ true) (pointwise (λ a b. pointwise eqb (bytes a) (bytes b)) (elements x)
+      (elements y) ∷ []))
   others_are elements outside = record {
     begins = λ p. others_begin (elements p) (outside p);
     has_layout = λ p. others_have_layout (elements p) (outside p);
     injective = λ distinct x y p q r e. (
-      list_injective (λ a. Tree.raw (bytes a)) Shape.raw (λ a b. pointwise eqb (bytes a) (bytes b)) (λ a b p q r e. raw_injective (bytes a) (bytes b) e) {k = ListKind.sequence} {l = ListKind.sequence} (elements x) (elements y)
+      list_injective (λ a. Tree.raw (bytes a)) Shape.raw (λ a b. pointwise eqb (bytes a) (bytes b))
+          (λ a b p q r e. raw_injective (bytes a) (bytes b) e) {k = ListKind.sequence} {l = ListKind.sequence}
+          (elements x) (elements y)
           (others_each excluded _ p) (others_each excluded _ q) r (ap (Tree.list ListKind.sequence) e),
       tt,
     );

@@ -1,7 +1,8 @@
 -- The kinds of plain values, as reading asks of them.
 use Rattle.std.specs.Prelude.{◌≡◌, ℕ, ◌<◌, List, length, take, None}
 use Rattle.picky_der_core.specs.Tag.{number_of, IsTagNumber}
-use Rattle.picky_der_core.specs.Primitive.{Primitive, PrimitiveShape, primitive_content, IsPrimitive, IsReadablePrimitive, shape_tag}
+use Rattle.picky_der_core.specs.Primitive.{Primitive, PrimitiveShape, primitive_content, IsPrimitive}
+use Rattle.picky_der_core.specs.Primitive.{IsReadablePrimitive, shape_tag}
 use Rattle.picky_der_core.specs.Refusal.{Judge}
 
 -- a kind of plain values: with a tag that can be read, and contents that distinguish them

@@ -20,11 +20,12 @@ pub record Reads (s : Shape) (old new : State) (t : Tree) : Type 0 where
   pub consumes : Consumed old new (written_at (place_of old) t)
   pub implicit_tag : new.implicit_tag ≡ None
 
--- The bytes to which a refusal applies, and the end before which they are: what the reader has, and, where the refusal is
--- final, what was consumed with any bytes after it.
+-- The bytes to which a refusal applies, and the end before which they are: what the reader has, and, where the refusal
+-- is final, what was consumed with any bytes after it.
 pub data Concerns (old new : State) (e : Asn1DerError) (end : ℕ) (bs : List ℕ) : Type 0 where
   now : old.input ≡ Some bs → end ≡ old.until_end → Concerns old new e end bs
-  ever : e ≢ TruncatedData → end ≡ mendable_limit old → (d y left : List ℕ) → old.input ≡ Some (d ++ left) → length d + old.consumed ≡ fetched_count new → bs ≡ d ++ y → Concerns old new e end bs
+  ever : e ≢ TruncatedData → end ≡ mendable_limit old → (d y left : List ℕ) → old.input ≡ Some (d ++ left)
+      → length d + old.consumed ≡ fetched_count new → bs ≡ d ++ y → Concerns old new e end bs
 
 -- P of all bytes to which the refusal applies
 abbrev pub AllConcerned : State → State → Asn1DerError → (ℕ → List ℕ → Type 0) → Type 0
@@ -37,7 +38,8 @@ NoValue {V} meaning s old end bs = (v : V) → IsAtFront (place_of old) s bs end
 -- a refusal that more bytes may change comes at no byte that is foreign to the shape
 abbrev pub IsNoForeign : Shape → State → State → Asn1DerError → Type 0
 IsNoForeign s old new e =
-    IsJudged old new e → e ≡ TruncatedData → old.implicit_tag ≡ None → 0 < old.until_end → (b : ℕ) (left : List ℕ) → old.input ≡ Some (b ∷ left) → IsFirst s b
+    IsJudged old new e → e ≡ TruncatedData → old.implicit_tag ≡ None → 0 < old.until_end → (b : ℕ) (left : List ℕ)
+    → old.input ≡ Some (b ∷ left) → IsFirst s b
 
 -- no value of the type was read, and none is there
 pub record Refuses {V : Type 0} (meaning : V → Tree) (s : Shape) (old new : State) (e : Asn1DerError) : Type 0 where
@@ -47,7 +49,8 @@ pub record Refuses {V : Type 0} (meaning : V → Tree) (s : Shape) (old new : St
 
 -- ---- plain values
 
--- how a plain value with this tag is refused there, or none; the reader has `rest` of the bytes before the innermost end
+-- how a plain value with this tag is refused there, or none; the reader has `rest` of the bytes before the innermost
+-- end
 abbrev pub refusal_in : Option ℕ → ℕ → Judge → State → List ℕ → Option Refusal
 refusal_in None tag judge s rest = plain_refusal tag judge (is_hard s.end) s.until_end rest
 refusal_in (Some number) tag judge s rest = inside_refusal tag judge s.until_end rest
@@ -56,16 +59,18 @@ abbrev pub refusal_at : ℕ → Judge → State → List ℕ → Option Refusal
 refusal_at tag judge s rest = refusal_in s.implicit_tag tag judge s rest
 
 -- known bytes were refused with exactly this error, and exactly these bytes are left
-pub record IsJustRefused (refusal : List ℕ → Option Refusal) (old new : State) (e : Asn1DerError) (bs : List ℕ) : Type 0 where
-  pub left : List ℕ
-  pub refused : refusal (take old.until_end bs) ≡ Some (e, left)
-  pub input : new.input ≡ Some (left ++ drop old.until_end bs)
-  -- a peeked byte stays where nothing was consumed, and else was the first
-  pub kept : new.consumed ≡ old.consumed → new.peeked ≡ old.peeked
-  pub used : old.consumed < new.consumed → new.peeked ≡ None
+pub record IsJustRefused (refusal : List ℕ → Option Refusal) (old new : State) (e : Asn1DerError) (bs : List ℕ) : Type 0
+  where
+    pub left : List ℕ
+    pub refused : refusal (take old.until_end bs) ≡ Some (e, left)
+    pub input : new.input ≡ Some (left ++ drop old.until_end bs)
+    -- a peeked byte stays where nothing was consumed, and else was the first
+    pub kept : new.consumed ≡ old.consumed → new.peeked ≡ old.peeked
+    pub used : old.consumed < new.consumed → new.peeked ≡ None
 
 abbrev pub AreJustRefused : (List ℕ → Option Refusal) → State → State → Asn1DerError → Type 0
-AreJustRefused refusal old new e = IsJudged old new e → (bs : List ℕ) → old.input ≡ Some bs → IsJustRefused refusal old new e bs
+AreJustRefused refusal old new e = IsJudged old new e → (bs : List ℕ) → old.input ≡ Some bs
+    → IsJustRefused refusal old new e bs
 
 -- known bytes aren't refused
 abbrev pub AreNotRefused : (List ℕ → Option Refusal) → State → Type 0
@@ -77,7 +82,8 @@ pub record ReadsPlain (tag : ℕ) (judge : Judge) (s : Shape) (old new : State) 
   pub no_refusal : AreNotRefused (refusal_at tag judge old) old
 
 -- a plain value was refused, with exactly its error and rest
-pub record RefusesPlain {V : Type 0} (meaning : V → Tree) (tag : ℕ) (judge : Judge) (s : Shape) (old new : State) (e : Asn1DerError) : Type 0 where
+pub record RefusesPlain {V : Type 0} (meaning : V → Tree) (tag : ℕ) (judge : Judge) (s : Shape) (old new : State)
+    (e : Asn1DerError) : Type 0 where
   pub refuses : Refuses meaning s old new e
   pub just : AreJustRefused (refusal_at tag judge old) old new e
 
@@ -87,8 +93,10 @@ pub record RefusesPlain {V : Type 0} (meaning : V → Tree) (tag : ℕ) (judge :
 abbrev pub ReadsJudged : PrimitiveShape → Judge → State → State → Primitive → Type 0
 ReadsJudged k judge old new p = ReadsPlain (shape_tag k) judge (Shape.primitive k) old new (Tree.primitive p)
 
-abbrev pub RefusesJudged : {V : Type 0} → (V → Primitive) → PrimitiveShape → Judge → State → State → Asn1DerError → Type 0
-RefusesJudged meaning k judge old new e = RefusesPlain (λ v. Tree.primitive (meaning v)) (shape_tag k) judge (Shape.primitive k) old new e
+abbrev pub RefusesJudged : {V : Type 0} → (V → Primitive) → PrimitiveShape → Judge → State → State → Asn1DerError
+    → Type 0
+RefusesJudged meaning k judge old new e =
+    RefusesPlain (λ v. Tree.primitive (meaning v)) (shape_tag k) judge (Shape.primitive k) old new e
 
 -- by that of the kind
 abbrev pub ReadsPrimitive : PrimitiveShape → State → State → Primitive → Type 0
@@ -99,7 +107,9 @@ RefusesPrimitive meaning k old new e = RefusesJudged meaning k (content_error k)
 
 -- a number of an integer type, by a test of which numbers it has
 abbrev pub ReadsInt : (ℤ → Bool) → State → State → ℤ → Type 0
-ReadsInt fits old new z = ReadsPlain 0x02 (int_error fits) (Shape.primitive (PrimitiveShape.bytes 0x02)) old new (integer_tree z)
+ReadsInt fits old new z = ReadsPlain 0x02 (int_error fits) (Shape.primitive (PrimitiveShape.bytes 0x02)) old new
+    (integer_tree z)
 
 abbrev pub RefusesInt : (ℤ → Bool) → State → State → Asn1DerError → Type 0
-RefusesInt fits old new e = RefusesPlain (int_tree fits) 0x02 (int_error fits) (Shape.primitive (PrimitiveShape.bytes 0x02)) old new e
+RefusesInt fits old new e =
+    RefusesPlain (int_tree fits) 0x02 (int_error fits) (Shape.primitive (PrimitiveShape.bytes 0x02)) old new e

@@ -1,5 +1,6 @@
 -- What the calls of a deserializer do to it.
-use Rattle.std.specs.Prelude.{◌≡◌, ◌≢◌, ℕ, ◌+◌, ◌-◌, ◌^◌, ◌<◌, ◌≤◌, Bool, true, false, List, ◌++◌, length, take, Option, Some, None, IfSome, ⊤}
+use Rattle.std.specs.Prelude.{◌≡◌, ◌≢◌, ℕ, ◌+◌, ◌-◌, ◌^◌, ◌<◌, ◌≤◌, Bool, true, false, List, ◌++◌, length, take, Option}
+use Rattle.std.specs.Prelude.{Some, None, IfSome, ⊤}
 use Rattle.std.specs.Io.KnownBytes.{Consumes, Keeps, IsAtEnd}
 use Rattle.picky_der_core.specs.Element.{AreBytes}
 use Rattle.picky_der_core.specs.declared.error.Asn1DerError.{Asn1DerError}
@@ -162,7 +163,8 @@ pub record ConsumesBytes (old new : State) (n : ℕ) (content : List ℕ) : Type
   pub count : length content ≡ n
   pub bytes : AreBytes content
 
--- a piece of a content was consumed, where so many of its bytes were left: n bytes, which are at the front of the buffer
+-- a piece of a content was consumed, where so many of its bytes were left: n bytes, which are at the front of the
+-- buffer
 pub record ConsumesPiece (old new : State) (left n : ℕ) (buffer : List ℕ) : Type 0 where
   pub consumes : ConsumesBytes old new n (take n buffer)
   pub some : 0 < n

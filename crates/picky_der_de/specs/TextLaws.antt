@@ -1,10 +1,13 @@
 -- Texts, and their characters.
-use Rattle.std.proofs.Common.{◌≡◌, ℕ, ◌*◌, ◌<◌, ◌≤◌, inl, inr, Bool, true, false, List, [], ◌∷◌, ◌++◌, length, take, Some, None, ◌==◌, cond, eqb-true, refl, sym, ◌∙◌, ap, arith, length-append, append-nil, IsUtf8, chars, encode_utf8, encode_utf8_all}
+use Rattle.std.proofs.Common.{◌≡◌, ℕ, ◌*◌, ◌<◌, ◌≤◌, inl, inr, Bool, true, false, List, [], ◌∷◌, ◌++◌, length, take}
+use Rattle.std.proofs.Common.{Some, None, ◌==◌, cond, eqb-true, refl, sym, ◌∙◌, ap, arith, length-append, append-nil}
+use Rattle.std.proofs.Common.{IsUtf8, chars, encode_utf8, encode_utf8_all}
 use Rattle.std.specs.Str.{is_utf8}
 use Rattle.std.proofs.lemmas.Bool.{cases_lt}
 use Rattle.std.proofs.lemmas.Bool.Decides.{nat_tests}
 use Rattle.std.proofs.lemmas.Grind.{common_steps}
-use Rattle.std.proofs.lemmas.Str.{IsUtf8-from_is_utf8, is_utf8-from_IsUtf8, chars-nil, chars_past_char, IsUtf8-past_char, encodes-chars, length-encode, len_utf8_bounds}
+use Rattle.std.proofs.lemmas.Str.{IsUtf8-from_is_utf8, is_utf8-from_IsUtf8, chars-nil, chars_past_char}
+use Rattle.std.proofs.lemmas.Str.{IsUtf8-past_char, encodes-chars, length-encode, len_utf8_bounds}
 use Rattle.picky_der_core.specs.declared.error.Asn1DerError.TheVariants.{InvalidData, UnsupportedValue}
 use Rattle.picky_der_core.specs.Refusal.{text_error, character_error, character_count_error}
 
@@ -32,7 +35,9 @@ character_good s u l = rw (is_utf8-from_IsUtf8 s u, l) refl
 pub one_character : (s : List ℕ) → character_error s ≡ None → IsUtf8 s × (length (chars s) ≡ 1)
 one_character s e = by_tests (is_utf8 s) (length (chars s) == 0) (length (chars s) == 1) refl refl e
   where
-    by_tests : (text none one : Bool) → is_utf8 s ≡ text → (length (chars s) == 1) ≡ one → cond text (cond none (Some UnsupportedValue) (cond one None (Some InvalidData))) (Some InvalidData) ≡ None → IsUtf8 s × (length (chars s) ≡ 1)
+    by_tests : (text none one : Bool) → is_utf8 s ≡ text → (length (chars s) == 1) ≡ one
+        → cond text (cond none (Some UnsupportedValue) (cond one None (Some InvalidData))) (Some InvalidData) ≡ None
+        → IsUtf8 s × (length (chars s) ≡ 1)
     by_tests true false true f g h = (IsUtf8-from_is_utf8 s f, eqb-true (length (chars s)) 1 g)
     by_tests true false false f g h = cc
     by_tests true true one f g h = cc
@@ -47,30 +52,46 @@ two_or_more n h =
 pub character_more : (s : List ℕ) → IsUtf8 s → 1 < length (chars s) → character_error s ≡ Some InvalidData
 character_more s u l = rw (is_utf8-from_IsUtf8 s u) (two_or_more (length (chars s)) l)
 
-pub last_character : (s rest : List ℕ) (c : ℕ) → IsUtf8 s → s ≡ encode_utf8 c ++ rest → length rest ≡ 0 → (s ≡ encode_utf8 c) × (length (chars s) ≡ 1)
-last_character s [] c u e l = (e ∙ append-nil (encode_utf8 c), ap length (chars_past_char s [] c u e) ∙ ap (λ (cs : List ℕ). length (c ∷ cs)) chars-nil)
+pub last_character : (s rest : List ℕ) (c : ℕ) → IsUtf8 s → s ≡ encode_utf8 c ++ rest → length rest ≡ 0
+    → (s ≡ encode_utf8 c) × (length (chars s) ≡ 1)
+last_character s [] c u e l = (
+  e ∙ append-nil (encode_utf8 c),
+  ap length (chars_past_char s [] c u e)
+      ∙ ap (λ (cs : List ℕ). length (c ∷ cs)) chars-nil,
+)
 last_character s (b ∷ bs) c u e l = absurd (omega arith)
 
-pub two_characters : (s rest last : List ℕ) (c d : ℕ) → IsUtf8 s → s ≡ encode_utf8 c ++ rest → rest ≡ encode_utf8 d ++ last → 1 < length (chars s)
+pub two_characters : (s rest last : List ℕ) (c d : ℕ) → IsUtf8 s → s ≡ encode_utf8 c ++ rest
+    → rest ≡ encode_utf8 d ++ last → 1 < length (chars s)
 two_characters s rest last c d u e f =
     let a : length (chars s) ≡ length (c ∷ chars rest) = ap length (chars_past_char s rest c u e) in
-    let b : length (chars rest) ≡ length (d ∷ chars last) = ap length (chars_past_char rest last d (IsUtf8-past_char s rest c u e) f) in
+    let b : length (chars rest) ≡ length (d ∷ chars last) =
+    ap length (chars_past_char rest last d (IsUtf8-past_char s rest c u e) f) in
     omega (arith, a, b)
 
 -- ---- the first bytes decide
 
 length_encodes : (cs : List ℕ) → length (encode_utf8_all cs) ≤ 4 * length cs
 length_encodes [] = omega arith
-length_encodes (c ∷ cs) = omega (arith, length-append (encode_utf8 c) (encode_utf8_all cs), length-encode c, len_utf8_bounds c, length_encodes cs)
+length_encodes (c ∷ cs) = omega (
+  arith,
+  length-append (encode_utf8 c) (encode_utf8_all cs),
+  length-encode c,
+  len_utf8_bounds c,
+  length_encodes cs,
+)
 
 -- more than four bytes aren't one character
 pub character_long : (s : List ℕ) → 4 < length s → character_error s ≡ Some InvalidData
-character_long s l = by_test s (λ u. character_more s u (omega (arith, length_encodes (chars s), ap length (encodes-chars s u)))) (λ e. rw e refl)
+character_long s l =
+    by_test s (λ u. character_more s u (omega (arith, length_encodes (chars s), ap length (encodes-chars s u))))
+    (λ e. rw e refl)
 
 pub character_by_front : (c : List ℕ) → character_error (take 18 c) ≡ character_error c
 character_by_front c = elim (cases_lt (length c) 18) [
   | inl few ↦ let all : take 18 c ≡ c = grind (arith, common_steps) in ap character_error all
-  | inr many ↦ let long : length (take 18 c) ≡ 18 = grind (arith, common_steps) in character_long (take 18 c) (omega arith) ∙ sym (character_long c (omega arith))
+  | inr many ↦ let long : length (take 18 c) ≡ 18 = grind (arith, common_steps) in
+      character_long (take 18 c) (omega arith) ∙ sym (character_long c (omega arith))
 ]
 
 -- the bytes of one character

@@ -1,5 +1,6 @@
 -- What reading a value in a wrapper does.
-use Rattle.std.specs.Prelude.{◌≡◌, ◌≢◌, ℕ, zero, suc, ◌+◌, ◌^◌, ◌<◌, ◌≤◌, Bool, true, false, List, [], ◌∷◌, ◌++◌, length, ◌==◌, Option, None, Some, Ok, Err, if◌then◌else◌}
+use Rattle.std.specs.Prelude.{◌≡◌, ◌≢◌, ℕ, zero, suc, ◌+◌, ◌^◌, ◌<◌, ◌≤◌, Bool, true, false, List, [], ◌∷◌, ◌++◌}
+use Rattle.std.specs.Prelude.{length, ◌==◌, Option, None, Some, Ok, Err, if◌then◌else◌}
 use Rattle.std.specs.Io.KnownBytes.{Keeps}
 use Rattle.picky_der_core.specs.declared.error.Asn1DerError.{Asn1DerError}
 use Rattle.picky_der_core.specs.declared.error.Asn1DerError.TheVariants.{TruncatedData, InvalidData}
@@ -47,7 +48,8 @@ opening_refusal w s rest = refusal_after (counts_unused_bits w) (wrapper_header 
 abbrev pub wrapper_opening : Wrapper → ℕ → List ℕ
 wrapper_opening w n = (wrapper_tag w ∷ length_octets n) ++ wrapper_front w
 
--- What is before the value was consumed, and nothing else changed but for a hard end that was opened where the length says.
+-- What is before the value was consumed, and nothing else changed but for a hard end that was opened where the length
+-- says.
 pub record OpensWrapper (w : Wrapper) (old new : State) (outer : EnclosingEnd) : Type 0 where
   pub size : ℕ
   pub number : HasTagNumber w
@@ -62,13 +64,16 @@ pub record OpensWrapper (w : Wrapper) (old new : State) (outer : EnclosingEnd) :
 
 -- no such wrapper is there
 abbrev pub NoWrapper : Wrapper → ℕ → List ℕ → Type 0
-NoWrapper w end bs = (content rest : List ℕ) → HasTagNumber w → length (wrapper_front w ++ content) < 2 ^ 64 → bs ≡ tlv (wrapper_tag w) (wrapper_front w ++ content) ++ rest → length (tlv (wrapper_tag w) (wrapper_front w ++ content)) ≤ end → ⊥
+NoWrapper w end bs = (content rest : List ℕ) → HasTagNumber w → length (wrapper_front w ++ content) < 2 ^ 64
+    → bs ≡ tlv (wrapper_tag w) (wrapper_front w ++ content) ++ rest
+    → length (tlv (wrapper_tag w) (wrapper_front w ++ content)) ≤ end → ⊥
 
 -- the bytes before the value were refused, with exactly their error and rest; nothing was allocated
 pub record RefusesOpening (w : Wrapper) (old new : State) (e : Asn1DerError) : Type 0 where
   pub fails : Fails old new e
   pub none : AllConcerned old new e (NoWrapper w)
-  pub first : IsJudged old new e → e ≡ TruncatedData → 0 < old.until_end → (b : ℕ) (left : List ℕ) → old.input ≡ Some (b ∷ left) → (b ≡ wrapper_tag w) × HasTagNumber w
+  pub first : IsJudged old new e → e ≡ TruncatedData → 0 < old.until_end → (b : ℕ) (left : List ℕ)
+      → old.input ≡ Some (b ∷ left) → (b ≡ wrapper_tag w) × HasTagNumber w
   pub just : AreJustRefused (opening_refusal w old) old new e
   pub memory : UsesNoMemory old new e
   pub bounded : old.failed ≡ None → old.until_end < 2 ^ 64
@@ -86,8 +91,10 @@ pub record BeginsWrapper (w : Wrapper) (old new : State) (outer : EnclosingEnd) 
 
 -- why the count of unused bits isn't 00: it is missing, or another byte was consumed
 pub data StopsUnusedBits (old new : State) (e : Asn1DerError) : Type 0 where
-  count_missing : IsMissing old e → Keeps old.input new.input → new.consumed ≡ old.consumed → new.peeked ≡ old.peeked → StopsUnusedBits old new e
-  count_other : (mid : State) (b : ℕ) → Consumed old mid (b ∷ []) → b ≢ 0x00 → e ≡ InvalidData → new ≡ failed_with mid e → StopsUnusedBits old new e
+  count_missing : IsMissing old e → Keeps old.input new.input → new.consumed ≡ old.consumed → new.peeked ≡ old.peeked
+      → StopsUnusedBits old new e
+  count_other : (mid : State) (b : ℕ) → Consumed old mid (b ∷ []) → b ≢ 0x00 → e ≡ InvalidData → new ≡ failed_with mid e
+      → StopsUnusedBits old new e
 
 pub record RefusesUnusedBits (old new : State) (e : Asn1DerError) : Type 0 where
   pub fails : Fails old new e
@@ -102,7 +109,10 @@ pub record ReadsWrapped (w : Wrapper) (s : Shape) (old new : State) (t : Tree) :
   pub no_refusal : AreNotRefused (opening_refusal w old) old
 
 -- Where a value in this wrapper was refused: before it, in it, where some read of the value is refused so, or after it.
-pub data RefusesWrapped {V : Type 0} (meaning : V → Tree) (s : Shape) (w : Wrapper) (old new : State) (e : Asn1DerError) : Type 0 where
+pub data RefusesWrapped {V : Type 0} (meaning : V → Tree) (s : Shape) (w : Wrapper) (old new : State)
+    (e : Asn1DerError) : Type 0 where
   before_value : RefusesOpening w old new e → RefusesWrapped meaning s w old new e
-  in_value : (mid : State) (outer : EnclosingEnd) → OpensWrapper w old mid outer → Refuses meaning s mid new e → RefusesWrapped meaning s w old new e
-  after_value : (mid last : State) (outer : EnclosingEnd) (t : Tree) → OpensWrapper w old mid outer → Reads s mid last t → RefusesClose last new e → RefusesWrapped meaning s w old new e
+  in_value : (mid : State) (outer : EnclosingEnd) → OpensWrapper w old mid outer → Refuses meaning s mid new e
+      → RefusesWrapped meaning s w old new e
+  after_value : (mid last : State) (outer : EnclosingEnd) (t : Tree) → OpensWrapper w old mid outer → Reads s mid last t
+      → RefusesClose last new e → RefusesWrapped meaning s w old new e

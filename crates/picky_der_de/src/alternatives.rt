@@ -12,8 +12,8 @@ use picky_der_core::misc::ReadExt;
 use picky_der_core::{Asn1DerError, Result};
 use std::convert::Infallible;
 
-/// A value of the first alternative, or of a later one. `OneOf<A, OneOf<B, NoneOf>>` holds an `A` as `This` and a `B` as
-/// `Other(This)`.
+/// A value of the first alternative, or of a later one. `OneOf<A, OneOf<B, NoneOf>>` holds an `A` as `This` and a `B`
+/// as `Other(This)`.
 #[derive(Debug, Drop, PartialEq, Eq)]
 pub enum OneOf<A, B> {
     /// The first alternative was chosen.

@@ -13,8 +13,8 @@ use picky_der_core::{Asn1DerError, Result};
 pub struct Boolean;
 
 impl Boolean {
-    /// The bool with this content: `00` is false, and `FF` is true. `TruncatedData` if the content is empty. `InvalidData` for
-    /// more than one byte, and for any other byte.
+    /// The bool with this content: `00` is false, and `FF` is true. `TruncatedData` if the content is empty.
+    /// `InvalidData` for more than one byte, and for any other byte.
     pub fn deserialize(content: &[u8]) -> Result<bool>
         ensures ok { IfOk result (λ value. content.now ≡ boolean_content value) }
         ensures right { OnOk result (boolean_error content.now ≡ None) }

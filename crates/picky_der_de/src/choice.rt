@@ -22,11 +22,12 @@ pub trait Choice: Sized {
         ensures { parts result ≡ value };
 }
 
-/// Reads a choice by its first byte. It is the whole body of `Deserialize::deserialize` of such a type. No byte may begin two
-/// alternatives.
+/// Reads a choice by its first byte. It is the whole body of `Deserialize::deserialize` of such a type. No byte may
+/// begin two alternatives.
 ///
-/// `InvalidData` if no alternative begins with the first byte. `InvalidData` too directly under an implicit tag, where no byte
-/// distinguishes the alternatives. Any other error is that of `deserialize_enum`, or of the alternative's `deserialize`.
+/// `InvalidData` if no alternative begins with the first byte. `InvalidData` too directly under an implicit tag, where
+/// no byte distinguishes the alternatives. Any other error is that of `deserialize_enum`, or of the alternative's
+/// `deserialize`.
 pub fn deserialize_choice_as<T: Choice, R: ReadExt>(de: &mut Deserializer<R>) -> Result<T>
     requires distinct { are_distinct T.Alternatives.shapes ≡ true }
     ensures ok { IfOk result (λ value. Reads (Shape.choice T.Alternatives.shapes) de.old de.new

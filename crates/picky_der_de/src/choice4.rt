@@ -40,7 +40,8 @@ impl<A: Begins, B: Begins, C: Begins, D: Begins, E: Alternatives> Alternatives
 
     ghost chosen = { chosen_of4 A.meaning B.meaning C.meaning D.meaning E.chosen };
 
-    ghost facts = { choice4_facts A.facts A.meaning A.eq B.facts B.meaning B.eq C.facts C.meaning C.eq D.facts D.meaning D.eq E.facts };
+    ghost facts = { choice4_facts A.facts A.meaning A.eq B.facts B.meaning B.eq C.facts C.meaning C.eq D.facts D.meaning D.eq
+        E.facts };
 
     ghost meaning = { λ v. Tree.choice (chosen_of4 A.meaning B.meaning C.meaning D.meaning E.chosen v) };
 

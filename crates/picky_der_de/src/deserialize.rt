@@ -14,16 +14,18 @@ pub trait Deserialize: Serialize + PartialEq + Drop + Sized {
     // The trees of its values.
     ghost shape: { Shape };
 
-    // What the type says of its values: which trees they mean, and that these determine them. It follows from the premise.
+    // What the type says of its values: which trees they mean, and that these determine them. It follows from the
+    // premise.
     ghost facts: { Facts Self shape };
 
-    /// Reads a value, and consumes exactly the bytes of its encoding. Directly under an implicit tag it consumes the bytes of
-    /// its content.
+    /// Reads a value, and consumes exactly the bytes of its encoding. Directly under an implicit tag it consumes the
+    /// bytes of its content.
     ///
-    /// An implementation returns the errors of the calls that it makes, and makes the deserializer fail with its own errors.
+    /// An implementation returns the errors of the calls that it makes, and makes the deserializer fail with its own
+    /// errors.
     ///
-    /// If the error is no I/O error and not `OutOfMemory`, no value of the type is there. Unless it is `TruncatedData`, no
-    /// bytes after the consumed ones could change that.
+    /// If the error is no I/O error and not `OutOfMemory`, no value of the type is there. Unless it is `TruncatedData`,
+    /// no bytes after the consumed ones could change that.
     fn deserialize<R: ReadExt>(de: &mut Deserializer<R>) -> Result<Self>
         ensures ok { IfOk result (λ value. Reads shape de.old de.new (Self.meaning value)) }
         ensures err { IfErr result (Refuses Self.meaning shape de.old de.new) };

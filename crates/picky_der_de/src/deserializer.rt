@@ -29,7 +29,8 @@ use std::alloc::Global;
 use std::io;
 use std::marker::Model;
 
-/// Reads values from a reader. After an error it has failed: each later call returns an error of its kind and consumes nothing.
+/// Reads values from a reader. After an error it has failed: each later call returns an error of its kind and consumes
+/// nothing.
 #[derive(Drop)]
 pub struct Deserializer<R: ReadExt> {
     alloc: Global,
@@ -138,7 +139,8 @@ impl<R: ReadExt> Deserializer<R> {
         reader.into_inner()
     }
 
-    /// The number of bytes that were consumed so far. A peeked byte isn't counted. With it the number is at most the limit.
+    /// The number of bytes that were consumed so far. A peeked byte isn't counted. With it the number is at most the
+    /// limit.
     pub fn taken(&self) -> usize
         ensures consumed { result ≡ self.now.consumed }
         ensures within { IsWithin self.now }
@@ -153,11 +155,11 @@ impl<R: ReadExt> Deserializer<R> {
         false
     }
 
-    /// Makes the deserializer fail with this error, and returns it. If it has failed before, nothing changes and the earlier
-    /// error is returned. Nothing is consumed.
+    /// Makes the deserializer fail with this error, and returns it. If it has failed before, nothing changes and the
+    /// earlier error is returned. Nothing is consumed.
     ///
-    /// A hand-written `deserialize` calls it if the parts that it has read make no value. More bytes can't change that, and the
-    /// reader didn't fail, so the error may be neither `TruncatedData` nor `Other`.
+    /// A hand-written `deserialize` calls it if the parts that it has read make no value. More bytes can't change that,
+    /// and the reader didn't fail, so the error may be neither `TruncatedData` nor `Other`.
     pub fn refuse(&mut self, kind: Asn1DerError) -> Asn1DerError
         requires no_fault { IsOther kind → ⊥ }
         requires lasting { kind ≢ Asn1DerError.TruncatedData }

@@ -26,8 +26,8 @@ fn read_from<T: Deserialize, R: ReadExt>(alloc: Global, reader: R, max_len: usiz
 
 /// The value at the front of a slice. Bytes after it are ignored.
 ///
-/// An error other than `OutOfMemory` means that no readable value of the type's shape is at the front. It is `TruncatedData` if
-/// more bytes after the slice could make one. Any other error is final.
+/// An error other than `OutOfMemory` means that no readable value of the type's shape is at the front. It is
+/// `TruncatedData` if more bytes after the slice could make one. Any other error is final.
 pub fn from_bytes<T: Deserialize>(alloc: Global, bytes: &[u8]) -> Result<T>
     ensures ok { IfOk result (IsFront T.meaning T.shape T.eq bytes.now (length bytes.now)) }
     ensures err { IfErr result (HasNoFront T.meaning T.shape bytes.now (length bytes.now)) }
@@ -41,11 +41,11 @@ pub fn from_bytes<T: Deserialize>(alloc: Global, bytes: &[u8]) -> Result<T>
 
 /// Reads a value from a reader, of at most `DEFAULT_MAX_LEN` bytes. Bytes after it are left in the reader.
 ///
-/// If the reader fails, the error is that of its I/O error. If an allocation fails, it is `OutOfMemory`. Else no readable value
-/// of the type's shape is there within the limit.
+/// If the reader fails, the error is that of its I/O error. If an allocation fails, it is `OutOfMemory`. Else no
+/// readable value of the type's shape is there within the limit.
 ///
-/// `Other` comes only if the reader failed. Unless the error is `TruncatedData`, no more bytes after the consumed ones could make a
-/// value. What was consumed isn't given back.
+/// `Other` comes only if the reader failed. Unless the error is `TruncatedData`, no more bytes after the consumed ones
+/// could make a value. What was consumed isn't given back.
 pub fn from_reader<T: Deserialize, R: ReadExt>(alloc: Global, reader: &mut R) -> Result<T>
     ensures ok { IfOk result (ReadsFront T.meaning T.shape T.eq DEFAULT_MAX_LEN
         (view_of R.remaining R.faults reader.old) (view_of R.remaining R.faults reader.new)) }

@@ -10,9 +10,11 @@ ghost use Rattle.picky_der_core.specs.Tree.{ListKind, Tree, Trees};
 ghost use Rattle.picky_der_ser.specs.Meaning.{array_meaning, list_meaning, maybe_more, option_meaning};
 ghost use Rattle.picky_der_de.specs.FourChoices.{one_by_one};
 ghost use Rattle.picky_der_de.specs.Faithful.{Sameness, ProvedSameness, MemberSameness, ProvedMemberSameness};
-ghost use Rattle.picky_der_de.specs.Faithful.{MembersSameness, ProvedMembersSameness, plain_sameness, sameness_by, no_members};
+ghost use Rattle.picky_der_de.specs.Faithful.{MembersSameness, ProvedMembersSameness, plain_sameness, sameness_by};
+ghost use Rattle.picky_der_de.specs.Faithful.{no_members};
 ghost use Rattle.picky_der_de.specs.Faithful.{sameness_as, wrapped_sameness, member_by};
-ghost use Rattle.picky_der_de.specs.Faithful.{this_or_other_sameness, this_or_other_by, boolean_respects, bytes_respect};
+ghost use Rattle.picky_der_de.specs.Faithful.{this_or_other_sameness, this_or_other_by, boolean_respects};
+ghost use Rattle.picky_der_de.specs.Faithful.{bytes_respect};
 ghost use Rattle.picky_der_de.specs.Faithful.{character_respects, option_respects, list_respects, array_respects};
 ghost use Rattle.picky_der_de.specs.Faithful.{DefaultSameness, ProvedDefaultSameness, plain_default, default_as};
 ghost use Rattle.picky_der_de.specs.Faithful.{default_member, boolean_alike, always_respects, perhaps_respects};
@@ -27,8 +29,8 @@ use picky_der_core::asn1::{
 };
 use picky_der_ser::{DefaultOf, Defaulted, Element, False, List, Optional, Serialize, True};
 
-/// A type whose equal values have the same encoding. Of readable values the converse holds for each type, so that `==` of such a
-/// type is sameness of encodings.
+/// A type whose equal values have the same encoding. Of readable values the converse holds for each type, so that `==`
+/// of such a type is sameness of encodings.
 ///
 /// A type whose `==` ignores something that is written, such as the case of letters, lacks this trait.
 pub trait Faithful: Deserialize {
@@ -82,13 +84,17 @@ impl Faithful for bool {
 }
 
 impl Faithful for ByteBuf {
-    ghost sameness = { plain_sameness (λ x y. pointwise eqb x.0.items y.0.items) (λ it. Tree.primitive (Primitive.bytes 0x04 it.0.items)) (bytes_respect (λ s. Tree.primitive (Primitive.bytes 0x04 s)) (λ it. it.0.items)) };
+    ghost sameness = { plain_sameness (λ x y. pointwise eqb x.0.items y.0.items)
+        (λ it. Tree.primitive (Primitive.bytes 0x04 it.0.items))
+        (bytes_respect (λ s. Tree.primitive (Primitive.bytes 0x04 s)) (λ it. it.0.items)) };
 
     ghost respects = { Prim.assumption };
 }
 
 impl<const TAG: u8> Faithful for TaggedBytes<TAG> {
-    ghost sameness = { plain_sameness (λ x y. pointwise eqb x.0.items y.0.items) (λ it. Tree.primitive (Primitive.bytes TAG it.0.items)) (bytes_respect (λ s. Tree.primitive (Primitive.bytes TAG s)) (λ it. it.0.items)) };
+    ghost sameness = { plain_sameness (λ x y. pointwise eqb x.0.items y.0.items)
+        (λ it. Tree.primitive (Primitive.bytes TAG it.0.items))
+        (bytes_respect (λ s. Tree.primitive (Primitive.bytes TAG s)) (λ it. it.0.items)) };
 
     ghost respects = { Prim.assumption };
 }
@@ -100,7 +106,9 @@ impl Faithful for char {
 }
 
 impl Faithful for String {
-    ghost sameness = { plain_sameness (λ x y. pointwise eqb (string_bytes x) (string_bytes y)) (λ it. Tree.primitive (Primitive.text (string_bytes it))) (bytes_respect (λ s. Tree.primitive (Primitive.text s)) string_bytes) };
+    ghost sameness = { plain_sameness (λ x y. pointwise eqb (string_bytes x) (string_bytes y))
+        (λ it. Tree.primitive (Primitive.text (string_bytes it)))
+        (bytes_respect (λ s. Tree.primitive (Primitive.text s)) string_bytes) };
 
     ghost respects = { Prim.assumption };
 }
@@ -118,25 +126,31 @@ impl<T: Faithful> Faithful for Option<T> {
 }
 
 impl<T: Faithful> Faithful for Vec<T> {
-    ghost sameness = { sameness_by T.sameness T.eq T.meaning (λ x y. pointwise T.eq x.items y.items) (λ it. list_meaning ListKind.sequence T.meaning it.items) (λ r. list_respects r (λ it. it.items) ListKind.sequence) };
+    ghost sameness = { sameness_by T.sameness T.eq T.meaning (λ x y. pointwise T.eq x.items y.items)
+        (λ it. list_meaning ListKind.sequence T.meaning it.items)
+        (λ r. list_respects r (λ it. it.items) ListKind.sequence) };
 
     ghost respects = { Prim.assumption };
 }
 
 impl<T: Faithful> Faithful for Asn1SequenceOf<T> {
-    ghost sameness = { sameness_by T.sameness T.eq T.meaning (λ x y. pointwise T.eq x.0.items y.0.items) (λ it. list_meaning ListKind.sequence T.meaning it.0.items) (λ r. list_respects r (λ it. it.0.items) ListKind.sequence) };
+    ghost sameness = { sameness_by T.sameness T.eq T.meaning (λ x y. pointwise T.eq x.0.items y.0.items)
+        (λ it. list_meaning ListKind.sequence T.meaning it.0.items)
+        (λ r. list_respects r (λ it. it.0.items) ListKind.sequence) };
 
     ghost respects = { Prim.assumption };
 }
 
 impl<T: Faithful> Faithful for Asn1SetOf<T> {
-    ghost sameness = { sameness_by T.sameness T.eq T.meaning (λ x y. pointwise T.eq x.0.items y.0.items) (λ it. list_meaning ListKind.set T.meaning it.0.items) (λ r. list_respects r (λ it. it.0.items) ListKind.set) };
+    ghost sameness = { sameness_by T.sameness T.eq T.meaning (λ x y. pointwise T.eq x.0.items y.0.items)
+        (λ it. list_meaning ListKind.set T.meaning it.0.items) (λ r. list_respects r (λ it. it.0.items) ListKind.set) };
 
     ghost respects = { Prim.assumption };
 }
 
 impl<T: Faithful + Copy + Default, const N: usize> Faithful for [T; N] {
-    ghost sameness = { sameness_by T.sameness T.eq T.meaning (λ x y. pointwise T.eq x y) (array_meaning N T.meaning) (λ r. array_respects r (λ it. it) N) };
+    ghost sameness = { sameness_by T.sameness T.eq T.meaning (λ x y. pointwise T.eq x y) (array_meaning N T.meaning)
+        (λ r. array_respects r (λ it. it) N) };
 
     ghost respects = { Prim.assumption };
 }
@@ -172,19 +186,22 @@ impl<T: List + Faithful, const TAG: u8> Faithful for ImplicitList<T, TAG> {
 }
 
 impl<T: Faithful> FaithfulMember for T {
-    ghost sameness = { member_by T.sameness T.eq T.meaning T.eq (λ value. Trees.more (T.meaning value)) (λ r. always_respects r (λ value. value)) };
+    ghost sameness = { member_by T.sameness T.eq T.meaning T.eq (λ value. Trees.more (T.meaning value))
+        (λ r. always_respects r (λ value. value)) };
 
     ghost respects = { Prim.assumption };
 }
 
 impl<T: Faithful> FaithfulMember for Element<T> {
-    ghost sameness = { member_by T.sameness T.eq T.meaning (λ x y. T.eq x.0 y.0) (λ element. Trees.more (T.meaning element.0)) (λ r. always_respects r (λ element. element.0)) };
+    ghost sameness = { member_by T.sameness T.eq T.meaning (λ x y. T.eq x.0 y.0) (λ element. Trees.more (T.meaning element.0))
+        (λ r. always_respects r (λ element. element.0)) };
 
     ghost respects = { Prim.assumption };
 }
 
 impl<T: Faithful + Begins> FaithfulMember for Optional<T> {
-    ghost sameness = { member_by T.sameness T.eq T.meaning (λ x y. option_eq T.eq x.0 y.0) (λ member. maybe_more T.meaning member.0) (λ r. perhaps_respects r (λ member. member.0)) };
+    ghost sameness = { member_by T.sameness T.eq T.meaning (λ x y. option_eq T.eq x.0 y.0) (λ member. maybe_more T.meaning member.0)
+        (λ r. perhaps_respects r (λ member. member.0)) };
 
     ghost respects = { Prim.assumption };
 }

@@ -9,8 +9,8 @@ use picky_der_core::asn1::{
     Asn1SequenceOf, Asn1SetOf, BitStringAsn1Container, ByteBuf, OctetStringAsn1Container,
 };
 
-/// A type of which some value is readable. Of a type without such a value nothing can be read, so that all promises about it are
-/// empty.
+/// A type of which some value is readable. Of a type without such a value nothing can be read, so that all promises
+/// about it are empty.
 pub trait Inhabited: Deserialize {
     // A readable value.
     ghost example: { HasReadable Self.meaning };

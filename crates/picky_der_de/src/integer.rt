@@ -46,8 +46,8 @@ pub struct UnsignedInteger;
 impl UnsignedInteger {
     /// The number with this content.
     ///
-    /// `TruncatedData` if the content is empty. `UnsupportedValue` for a negative number, for one of more than 16 bytes, and
-    /// for one past the type's greatest. `InvalidData` for a needless 00 in front.
+    /// `TruncatedData` if the content is empty. `UnsupportedValue` for a negative number, for one of more than 16
+    /// bytes, and for one past the type's greatest. `InvalidData` for a needless 00 in front.
     pub fn deserialize<T: UInt>(content: &[u8]) -> Result<T>
         ensures ok { IfOk result (λ value. content.now ≡ unsigned_content (T.number value)) }
         ensures right { OnOk result (unsigned_error T.greatest content.now ≡ None) }

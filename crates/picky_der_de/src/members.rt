@@ -1,12 +1,16 @@
-//! The members of a SEQUENCE, as they are read: one, which is always there or may be absent, all of them, and structs of them.
+//! The members of a SEQUENCE, as they are read: one, which is always there or may be absent, all of them, and structs
+//! of them.
 ghost use Rattle.std.specs.Prelude.{◌≡◌, Bool, false, Option, Some, IfOk, IfErr, IfSome, IfNone, true, None};
 ghost use Rattle.picky_der_core.specs.Shape.{Shape, Layout};
 ghost use Rattle.picky_der_core.specs.Tree.{Tree};
 ghost use Rattle.picky_der_ser.specs.Meaning.{unless_default};
 ghost use Rattle.picky_der_de.specs.Members.{ReadsMember};
-ghost use Rattle.picky_der_de.specs.Layouts.{Presence, always, perhaps, Lacks, RefusesLayoutMember, ReadsLayout, RefusesLayout};
+ghost use Rattle.picky_der_de.specs.Layouts.{Presence, always, perhaps, Lacks, RefusesLayoutMember, ReadsLayout};
+ghost use Rattle.picky_der_de.specs.Layouts.{RefusesLayout};
 ghost use Rattle.picky_der_de.specs.LayoutLaws.{IsLeftOut, none_left_out, default_left_out};
-ghost use Rattle.picky_der_de.specs.MembersFacts.{MemberFacts, ProvedMember, always_facts, element_facts, perhaps_facts, default_facts, MembersFacts, ProvedMembers, none_facts, sequence_of, sequence_shape};
+ghost use Rattle.picky_der_de.specs.MembersFacts.{MemberFacts, ProvedMember, always_facts, element_facts};
+ghost use Rattle.picky_der_de.specs.MembersFacts.{perhaps_facts, default_facts, MembersFacts, ProvedMembers};
+ghost use Rattle.picky_der_de.specs.MembersFacts.{none_facts, sequence_of, sequence_shape};
 ghost use Rattle.picky_der_de.specs.Reading.{Reads, Refuses};
 ghost use Rattle.picky_der_de.specs.FirstTests.{are_members_distinct};
 
@@ -171,22 +175,23 @@ impl<T: Begins, D: DefaultOf<T>> DeserializeMember for Defaulted<T, D> {
     ghost proved = { Prim.assumption };
 }
 
-/// Members of a sequence that can be read, of which some may be absent. They are `()` or a tuple of up to eight members and the
-/// members after them, as `(A, Optional<B>, C, ())`.
+/// Members of a sequence that can be read, of which some may be absent. They are `()` or a tuple of up to eight members
+/// and the members after them, as `(A, Optional<B>, C, ())`.
 pub trait DeserializeMembers: SerializeMembers + PartialEq + Drop + Sized {
     ghost use Rattle.picky_der_de.specs.SequenceState.{borrowed_by, outer_of, state_of};
 
     // The shapes of the members, and which may be missing.
     ghost layout: { Layout };
 
-    // What the members say of themselves: which trees they mean, and that these determine them. It follows from the premise.
+    // What the members say of themselves: which trees they mean, and that these determine them. It follows from the
+    // premise.
     ghost facts: { MembersFacts Self layout };
 
-    /// Reads the members, from a sequence that hasn't failed and of which no member is awaited directly under an implicit tag.
-    /// What is left after the last member may be peeked, and isn't consumed.
+    /// Reads the members, from a sequence that hasn't failed and of which no member is awaited directly under an
+    /// implicit tag. What is left after the last member may be peeked, and isn't consumed.
     ///
-    /// The errors of a member that is always there are those of `next_field`. For one that may be absent they are those of
-    /// `next_optional`, and for one with a default those of `next_or_default`.
+    /// The errors of a member that is always there are those of `next_field`. For one that may be absent they are those
+    /// of `next_optional`, and for one with a default those of `next_or_default`.
     fn deserialize_members<R: ReadExt>(sequence: &mut Sequence<'_, R>) -> Result<Self>
         requires had_not_failed { (state_of sequence.old).failed ≡ None }
         requires implicit_tag { (state_of sequence.old).implicit_tag ≡ None }
@@ -218,8 +223,8 @@ impl DeserializeMembers for () {
 /// Each combination of members has to be a value of the type. Else write `deserialize` by hand, with the calls of the
 /// deserializer.
 pub trait Struct: Sized {
-    /// The members, as `(A, Optional<B>, ())` if one is always there and one may be absent. The members after the eighth are
-    /// the last field, again a tuple.
+    /// The members, as `(A, Optional<B>, ())` if one is always there and one may be absent. The members after the
+    /// eighth are the last field, again a tuple.
     type Members: DeserializeMembers;
 
     // The members of a value.
@@ -230,11 +235,11 @@ pub trait Struct: Sized {
         ensures { parts result ≡ members };
 }
 
-/// Reads a sequence of these members. It is the whole body of `Deserialize::deserialize` of such a type. No byte may begin both
-/// a member that may be absent and one that may come instead of it.
+/// Reads a sequence of these members. It is the whole body of `Deserialize::deserialize` of such a type. No byte may
+/// begin both a member that may be absent and one that may come instead of it.
 ///
-/// `InvalidData` for what is left after the members, and for a default that is written out (X.690, 11.5). Any other error is
-/// that of `deserialize_seq`, `next_field` or `next_optional`.
+/// `InvalidData` for what is left after the members, and for a default that is written out (X.690, 11.5). Any other
+/// error is that of `deserialize_seq`, `next_field` or `next_optional`.
 pub fn deserialize_struct_as<T: Struct, R: ReadExt>(de: &mut Deserializer<R>) -> Result<T>
     requires distinct { are_members_distinct T.Members.layout ≡ true }
     ensures ok { IfOk result (λ value. Reads (sequence_shape T.Members.layout) de.old de.new

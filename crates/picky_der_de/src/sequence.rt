@@ -9,8 +9,8 @@ use picky_der_core::{Asn1DerError, Result};
 use picky_der_ser::DefaultOf;
 use std::alloc::AllocError;
 
-// Adds a value. For a single value the vector gets room for one, where it would else get room for several. In a name each set
-// has one attribute, so it needs a quarter of the memory.
+// Adds a value. For a single value the vector gets room for one, where it would else get room for several. In a name
+// each set has one attribute, so it needs a quarter of the memory.
 fn add<T: Drop>(values: &mut Vec<T>, value: T, is_last: bool) -> std::result::Result<(), AllocError>
     ensures { OnOk result (values.new.items ≡ values.old.items ++ (value ∷ [])) }
 {
@@ -21,8 +21,8 @@ fn add<T: Drop>(values: &mut Vec<T>, value: T, is_last: bool) -> std::result::Re
     Ok(())
 }
 
-/// A sequence or a set that is being read. If it is dropped without `end`, its end stays the innermost one: nothing after it
-/// can be read then.
+/// A sequence or a set that is being read. If it is dropped without `end`, its end stays the innermost one: nothing
+/// after it can be read then.
 #[derive(Drop)]
 pub struct Sequence<'a, R: ReadExt> {
     de: &'a mut Deserializer<R>,
@@ -44,8 +44,8 @@ impl<'a, R: ReadExt> Sequence<'a, R> {
     ghost use Rattle.picky_der_ser.specs.Meaning.{unless_default};
     ghost use Rattle.picky_der_de.specs.Layouts.{Lacks, RefusesOptional, RefusesDefault};
 
-    /// Reads the next `len` bytes as members, without a header. Directly under an implicit tag the members have their own
-    /// headers, and that tag's end is the one around them. No order of members is tested.
+    /// Reads the next `len` bytes as members, without a header. Directly under an implicit tag the members have their
+    /// own headers, and that tag's end is the one around them. No order of members is tested.
     ///
     /// If these bytes reach past the innermost end, the deserializer has failed: with `InvalidData` at a hard end, and
     /// `TruncatedData` at a soft one.
@@ -59,9 +59,9 @@ impl<'a, R: ReadExt> Sequence<'a, R> {
 
     /// The next member, or `None` exactly at the end.
     ///
-    /// In a set that was begun by `deserialize_set`, a member whose encoding is less than the one before it is `InvalidData`
-    /// (X.690, 11.6). No byte after that member is consumed. `OutOfMemory` if the allocation for this test fails. Any other
-    /// error is the member's.
+    /// In a set that was begun by `deserialize_set`, a member whose encoding is less than the one before it is
+    /// `InvalidData` (X.690, 11.6). No byte after that member is consumed. `OutOfMemory` if the allocation for this
+    /// test fails. Any other error is the member's.
     pub fn next_element<T: Deserialize>(&mut self) -> Result<Option<T>>
         ensures same_reference { borrowed_by self.new ≡ borrowed_by self.old }
         ensures outer { outer_of self.new ≡ outer_of self.old }
@@ -137,8 +137,8 @@ impl<'a, R: ReadExt> Sequence<'a, R> {
         }
     }
 
-    /// The next member if the next byte begins a value of this type. Else, and at the end, it returns `None` and consumes
-    /// nothing.
+    /// The next member if the next byte begins a value of this type. Else, and at the end, it returns `None` and
+    /// consumes nothing.
     ///
     /// The errors are those of `next_element` and `next_tag`.
     pub fn next_optional<T: Begins>(&mut self) -> Result<Option<T>>
@@ -164,8 +164,8 @@ impl<'a, R: ReadExt> Sequence<'a, R> {
         }
     }
 
-    /// The next member if the next byte begins a value of this type. Else, and at the end, it returns the default and consumes
-    /// nothing.
+    /// The next member if the next byte begins a value of this type. Else, and at the end, it returns the default and
+    /// consumes nothing.
     ///
     /// `InvalidData` if the default is written out (X.690, 11.5). Any other error is that of `next_optional`.
     pub fn next_or_default<T: Begins, D: DefaultOf<T>>(&mut self) -> Result<T>
@@ -212,8 +212,8 @@ impl<'a, R: ReadExt> Sequence<'a, R> {
         Ok(values)
     }
 
-    /// Fails with this error, and returns it: for members that were read and make no value. If the deserializer has failed
-    /// before, nothing changes and the earlier error is returned. Nothing is consumed. The error is one that
+    /// Fails with this error, and returns it: for members that were read and make no value. If the deserializer has
+    /// failed before, nothing changes and the earlier error is returned. Nothing is consumed. The error is one that
     /// `Deserializer::refuse` may have.
     pub fn refuse(&mut self, kind: Asn1DerError) -> Asn1DerError
         requires no_fault { IsOther kind → ⊥ }
@@ -250,8 +250,8 @@ impl<R: ReadExt> Deserializer<R> {
     ghost use Rattle.picky_der_de.specs.Lending.{LendsList};
     ghost use Rattle.picky_der_de.specs.Members.{RefusesUnordered};
 
-    /// Begins to read a sequence (X.690, 8.9 and 8.10). Directly under an implicit tag the header is that of the tag. The tag's
-    /// end is a soft one then, until the sequence is closed.
+    /// Begins to read a sequence (X.690, 8.9 and 8.10). Directly under an implicit tag the header is that of the tag.
+    /// The tag's end is a soft one then, until the sequence is closed.
     ///
     /// `InvalidData` for another tag. Any other error is that of a header or of an end, or the reader's I/O error.
     #[inline(always)]
@@ -265,8 +265,8 @@ impl<R: ReadExt> Deserializer<R> {
 
     /// Begins to read a set (X.690, 8.11 and 8.12), with the tag `31`. The errors are those of `deserialize_seq`.
     ///
-    /// The order of the members is tested as each is read (11.6). For a SET with members of several types, 10.3 has the order
-    /// of their tags instead; this library tests the order of their encodings.
+    /// The order of the members is tested as each is read (11.6). For a SET with members of several types, 10.3 has the
+    /// order of their tags instead; this library tests the order of their encodings.
     pub fn deserialize_set(&mut self) -> Result<Sequence<'_, R>>
         ensures* rests { sem 𝓛 (LendsList R.row R.ReadExt.own R.Read 0x31 self.entry result) }
         ensures same_reference { IfOk result (λ q. borrowed_by q ≡ self.entry.ghost_name) }
@@ -284,7 +284,8 @@ impl<R: ReadExt> Deserializer<R> {
         self.deserialize_seq()
     }
 
-    /// Begins to read a named tuple as a sequence, with the errors of `deserialize_seq`. The name and the length aren't used.
+    /// Begins to read a named tuple as a sequence, with the errors of `deserialize_seq`. The name and the length aren't
+    /// used.
     pub fn deserialize_tuple_struct(
         &mut self,
         _name: &'static str,

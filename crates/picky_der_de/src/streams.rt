@@ -15,8 +15,8 @@ use std::alloc::Global;
 
 /// The value at the front of a slice, and the length of its encoding in bytes. The next value begins after it.
 ///
-/// The errors are those of `from_bytes`. For an empty slice the error is `TruncatedData`, if the type needs a byte and has no
-/// tag number past 30.
+/// The errors are those of `from_bytes`. For an empty slice the error is `TruncatedData`, if the type needs a byte and
+/// has no tag number past 30.
 pub fn next_from_bytes<T: Deserialize>(alloc: Global, bytes: &[u8]) -> Result<(T, usize)>
     ensures ok { IfOk result (λ next. IsFront T.meaning T.shape T.eq bytes.now
         (length bytes.now) next.0) }
@@ -73,7 +73,8 @@ fn read_next_from<T: Deserialize, R: ReadExt>(
     (next, de.into_reader())
 }
 
-// The error of a type of which no value can be read, since it has a tag number past 30. `None` if some values can be read.
+// The error of a type of which no value can be read, since it has a tag number past 30. `None` if some values can be
+// read.
 fn refused_always<T: Deserialize>(alloc: Global) -> Option<Asn1DerError>
     ensures never { IfSome result (λ e. e ≢ Asn1DerError.OutOfMemory
         → IsMendable T.meaning T.shape Place.whole [] any_length → ⊥) }
@@ -85,11 +86,11 @@ fn refused_always<T: Deserialize>(alloc: Global) -> Option<Asn1DerError>
     }
 }
 
-/// The next of several values in a reader, of at most `max_len` bytes, or `None` if the reader has no bytes left. Bytes after
-/// the value are left in the reader.
+/// The next of several values in a reader, of at most `max_len` bytes, or `None` if the reader has no bytes left. Bytes
+/// after the value are left in the reader.
 ///
-/// The errors are those of `from_reader_with_max_len`. `TruncatedData` for a value that is cut short, and for a limit of 0. If
-/// no value of the type can be read, as with a tag number past 30, the error comes before a byte is read.
+/// The errors are those of `from_reader_with_max_len`. `TruncatedData` for a value that is cut short, and for a limit
+/// of 0. If no value of the type can be read, as with a tag number past 30, the error comes before a byte is read.
 pub fn next_from_reader<T: Deserialize, R: ReadExt>(
     alloc: Global,
     reader: &mut R,

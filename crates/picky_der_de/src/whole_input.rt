@@ -43,8 +43,9 @@ impl From<DecodeError> for Asn1DerError {
 
 /// The value whose encoding is exactly these bytes. There is at most one.
 ///
-/// An error other than `OutOfMemory` means that they aren't the encoding of a value. Unless it is `TruncatedData`, no bytes
-/// after them could make them one. Bytes after the encoding of a value are `InvalidData`, at the position after it.
+/// An error other than `OutOfMemory` means that they aren't the encoding of a value. Unless it is `TruncatedData`, no
+/// bytes after them could make them one. Bytes after the encoding of a value are `InvalidData`, at the position after
+/// it.
 pub fn from_der<T: Deserialize>(alloc: Global, bytes: &[u8]) -> Result<T, DecodeError>
     ensures ok { IfOk result (IsWhole T.meaning T.shape T.eq bytes.now) }
     ensures err { IfErr result (λ refusal. IsNoEncoding T.meaning T.shape bytes.now

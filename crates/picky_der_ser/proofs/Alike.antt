@@ -1,15 +1,19 @@
 -- What is written of trees that are written alike.
-use Rattle.std.proofs.Common.{Bool, refl, ◌≡◌, ◌<◌, ◌^◌, List, [], ◌∷◌, length, Option, None, Some, sym, ap, ◌∙◌, subst, Result, Ok, Err, IfOk, IfErr, ℕ, ◌+◌, true, false, ◌&&◌, arith, le-leb, append-nil}
+use Rattle.std.proofs.Common.{Bool, refl, ◌≡◌, ◌<◌, ◌^◌, List, [], ◌∷◌, length, Option, None, Some, sym, ap, ◌∙◌, subst}
+use Rattle.std.proofs.Common.{Result, Ok, Err, IfOk, IfErr, ℕ, ◌+◌, true, false, ◌&&◌, arith, le-leb, append-nil}
 use Rattle.std.specs.Prelude.{IfNone, IsTrue}
 use Rattle.picky_der_core.specs.Primitive.{Primitive, primitive_tag, primitive_content}
-use Rattle.picky_der_core.specs.OpenWrapperLaws.{AreAlike, alike-under, der-alike, alike-sym, alike-bytes, alike-choice, CanVanish, der-under_absent}
+use Rattle.picky_der_core.specs.OpenWrapperLaws.{AreAlike, alike-under, der-alike, alike-sym, alike-bytes, alike-choice}
+use Rattle.picky_der_core.specs.OpenWrapperLaws.{CanVanish, der-under_absent}
 use Rattle.picky_der_core.specs.declared.failure.Failure.{Failure}
 use Rattle.picky_der_core.specs.declared.misc.writer.WriteExt.{Ghosts}
 use Rattle.picky_der_core.specs.declared.error.Asn1DerError.{Asn1DerError}
 use Rattle.picky_der_core.specs.Tree.{Tree}
 use Rattle.picky_der_core.specs.Readable.{IsWritable, has_tag_numbers}
 use Rattle.picky_der_ser.specs.State.{State, Level, with_bytes}
-use Rattle.picky_der_ser.specs.Calls.{Adds, Excuse, no_memory, unwritable, no_sink, MemoryExcuse, no_room, no_way, SinkRefuses, RefusesIn, Writes, RefusesWrite, OnlySinkFails, RefusesUnwritable, WritesPrimitive, WritesPlain, AddsIn, WritesAbsent}
+use Rattle.picky_der_ser.specs.Calls.{Adds, Excuse, no_memory, unwritable, no_sink, MemoryExcuse, no_room, no_way}
+use Rattle.picky_der_ser.specs.Calls.{SinkRefuses, RefusesIn, Writes, RefusesWrite, OnlySinkFails, RefusesUnwritable}
+use Rattle.picky_der_ser.specs.Calls.{WritesPrimitive, WritesPlain, AddsIn, WritesAbsent}
 use Rattle.std.proofs.lemmas.Bool.{lt-leb}
 use Rattle.picky_der_core.specs.OpenWrappers.{under}
 use Rattle.picky_der_core.specs.Failure.{failure_of}
@@ -29,20 +33,28 @@ use Rattle.std.proofs.KnownBytes.{Appends-nil}
 use Rattle.picky_der_ser.proofs.StateWrites.{numbers_writable}
 
 pub writable-alike : (t u : Tree) → AreAlike t u → IsWritable t → IsWritable u
-writable-alike t u a h = record { numbers = subst IsTrue a.numbers_same h.numbers; fits = subst (λ l. length l < 2 ^ 64) (der-alike t u a) h.fits }
+writable-alike t u a h = record {
+  numbers = subst IsTrue a.numbers_same h.numbers;
+  fits =
+      subst (λ l. length l < 2 ^ 64) (der-alike t u a) h.fits;
+}
 
 -- what stops a part stops the whole
-pub excuse_of_part : {Part Whole : Type 0} {e : Asn1DerError} → (Whole → Part) → MemoryExcuse Part e → MemoryExcuse Whole e
+pub excuse_of_part : {Part Whole : Type 0} {e : Asn1DerError} → (Whole → Part) → MemoryExcuse Part e
+    → MemoryExcuse Whole e
 excuse_of_part part (no_room m) = no_room m
 excuse_of_part part (no_way m n) = no_way m (λ h. n (part h))
 
 module _ {W : Type 0} (g : Ghosts W) where
-  excuse-alike : (t u : Tree) (rest : List ℕ) (old new : W) (e : Asn1DerError) → AreAlike t u → Excuse g t rest old e new → Excuse g u rest old e new
+  excuse-alike : (t u : Tree) (rest : List ℕ) (old new : W) (e : Asn1DerError) → AreAlike t u
+      → Excuse g t rest old e new → Excuse g u rest old e new
   excuse-alike t u rest old new e a (no_memory m) = no_memory m
-  excuse-alike t u rest old new e a (unwritable m n s) = unwritable m (λ h. n (writable-alike u t (alike-sym t u a) h)) s
+  excuse-alike t u rest old new e a (unwritable m n s) =
+      unwritable m (λ h. n (writable-alike u t (alike-sym t u a) h)) s
   excuse-alike t u rest old new e a (no_sink h k f) = no_sink (writable-alike t u a h) k f
 
-  refused-alike : (t u : Tree) (old new : W) (e : Asn1DerError) → AreAlike t u → SinkRefuses g t old e new → SinkRefuses g u old e new
+  refused-alike : (t u : Tree) (old new : W) (e : Asn1DerError) → AreAlike t u → SinkRefuses g t old e new
+      → SinkRefuses g u old e new
   refused-alike t u old new e a h =
       let b = h.begins in
       record {
@@ -50,40 +62,63 @@ module _ {W : Type 0} (g : Ghosts W) where
         excuse = excuse-alike t u b.rest old new e a h.excuse;
       }
 
-  refused_in-alike : (ls : List Level) (t u : Tree) (old new : W) (e : Asn1DerError) → AreAlike t u → RefusesIn g ls t old e new → RefusesIn g ls u old e new
+  refused_in-alike : (ls : List Level) (t u : Tree) (old new : W) (e : Asn1DerError) → AreAlike t u
+      → RefusesIn g ls t old e new → RefusesIn g ls u old e new
   refused_in-alike [] t u old new e a h = refused-alike t u old new e a h
   refused_in-alike (l ∷ ls) t u old new e a h = (excuse_of_part (writable-alike u t (alike-sym t u a)) h.0, h.1)
 
-  refused_first-alike : (f : Option Failure) (ls : List Level) (t u : Tree) (old new : W) (e : Asn1DerError) → AreAlike t u → IfNone f (RefusesIn g ls t old e new) → IfNone f (RefusesIn g ls u old e new)
+  refused_first-alike : (f : Option Failure) (ls : List Level) (t u : Tree) (old new : W) (e : Asn1DerError)
+      → AreAlike t u → IfNone f (RefusesIn g ls t old e new) → IfNone f (RefusesIn g ls u old e new)
   refused_first-alike None ls t u old new e a h = refused_in-alike ls t u old new e a h
   refused_first-alike (Some j) ls t u old new e a h = tt
 
-  pub writes-alike : (t u : Tree) (old new : State W) (r : Result ℕ Asn1DerError) → AreAlike t u → IfOk r (λ n. Writes g t old n new) → IfOk r (λ n. Writes g u old n new)
+  pub writes-alike : (t u : Tree) (old new : State W) (r : Result ℕ Asn1DerError) → AreAlike t u
+      → IfOk r (λ n. Writes g t old n new) → IfOk r (λ n. Writes g u old n new)
   writes-alike t u old new (Ok n) a h =
       let b = alike-under old.around t u a in
       let d = der-alike _ _ b in
-      record { had_not_failed = h.had_not_failed; writable = writable-alike _ _ b h.writable; count = h.count ∙ ap length d; adds = subst (Adds g old new) d h.adds; closed = h.closed; not_failed = h.not_failed; no_fault = h.no_fault }
+      record {
+        had_not_failed = h.had_not_failed;
+        writable = writable-alike _ _ b h.writable;
+        count =
+            h.count ∙ ap length d;
+        adds = subst (Adds g old new) d h.adds;
+        closed = h.closed;
+        not_failed = h.not_failed;
+        no_fault = h.no_fault;
+      }
   writes-alike t u old new (Err e) a h = tt
 
-  pub fails-alike : (t u : Tree) (old new : State W) (r : Result ℕ Asn1DerError) → AreAlike t u → IfErr r (λ e. RefusesWrite g t old e new) → IfErr r (λ e. RefusesWrite g u old e new)
+  pub fails-alike : (t u : Tree) (old new : State W) (r : Result ℕ Asn1DerError) → AreAlike t u
+      → IfErr r (λ e. RefusesWrite g t old e new) → IfErr r (λ e. RefusesWrite g u old e new)
   fails-alike t u old new (Ok n) a h = tt
   fails-alike t u old new (Err e) a h =
-      record { failed = h.failed; again = h.again; reason = refused_first-alike old.failed _ _ _ _ _ e (alike-under old.around t u a) h.reason }
+      record {
+        failed = h.failed;
+        again = h.again;
+        reason =
+            refused_first-alike old.failed _ _ _ _ _ e (alike-under old.around t u a) h.reason;
+      }
 
-  outside-alike : (t u : Tree) (old new : State W) (r : Result ℕ Asn1DerError) → AreAlike t u → IfErr r (λ e. OnlySinkFails g t old e new) → IfErr r (λ e. OnlySinkFails g u old e new)
+  outside-alike : (t u : Tree) (old new : State W) (r : Result ℕ Asn1DerError) → AreAlike t u
+      → IfErr r (λ e. OnlySinkFails g t old e new) → IfErr r (λ e. OnlySinkFails g u old e new)
   outside-alike t u old new (Ok n) a h = tt
   outside-alike t u old new (Err e) a h = λ w. h (writable-alike u t (alike-sym t u a) w)
 
-  refuses_unwritable-alike : (t u : Tree) (old new : State W) (r : Result ℕ Asn1DerError) → AreAlike t u → RefusesUnwritable g t old r new → RefusesUnwritable g u old r new
+  refuses_unwritable-alike : (t u : Tree) (old new : State W) (r : Result ℕ Asn1DerError) → AreAlike t u
+      → RefusesUnwritable g t old r new → RefusesUnwritable g u old r new
   refuses_unwritable-alike t u old new r a h = λ n. h (λ w. n (writable-alike t u a w))
 
   -- a value of a primitive kind is written as bytes under its tag
-  pub writes_primitive-as : (p : Primitive) (c : List ℕ) → c ≡ primitive_content p → (old new : State W) (r : Result ℕ Asn1DerError) → WritesPrimitive g (Primitive.bytes (primitive_tag p) c) old r new → WritesPrimitive g p old r new
+  pub writes_primitive-as : (p : Primitive) (c : List ℕ) → c ≡ primitive_content p
+      → (old new : State W) (r : Result ℕ Asn1DerError)
+      → WritesPrimitive g (Primitive.bytes (primitive_tag p) c) old r new → WritesPrimitive g p old r new
   writes_primitive-as p c e old new r h =
       let a = alike-bytes p in
       let t = Tree.primitive (Primitive.bytes (primitive_tag p) (primitive_content p)) in
       let u = Tree.primitive p in
-      let k : WritesPrimitive g (Primitive.bytes (primitive_tag p) (primitive_content p)) old r new = subst (λ b. WritesPrimitive g (Primitive.bytes (primitive_tag p) b) old r new) e h in
+      let k : WritesPrimitive g (Primitive.bytes (primitive_tag p) (primitive_content p)) old r new =
+      subst (λ b. WritesPrimitive g (Primitive.bytes (primitive_tag p) b) old r new) e h in
       record {
         wrote = writes-alike t u old new r a k.wrote;
         failed = fails-alike t u old new r a k.failed;
@@ -100,17 +135,21 @@ alike-chosen : (t : Tree) → AreAlike t (Tree.choice t)
 alike-chosen t = alike-sym (Tree.choice t) t (alike-choice t)
 
 module _ {W : Type 0} (g : Ghosts W) where
-  pub choice_wrote : (t : Tree) (old new : State W) (r : Result ℕ Asn1DerError) → IfOk r (λ n. Writes g t old n new) → IfOk r (λ n. Writes g (Tree.choice t) old n new)
+  pub choice_wrote : (t : Tree) (old new : State W) (r : Result ℕ Asn1DerError) → IfOk r (λ n. Writes g t old n new)
+      → IfOk r (λ n. Writes g (Tree.choice t) old n new)
   choice_wrote t old new r h = writes-alike g t (Tree.choice t) old new r (alike-chosen t) h
 
-  pub choice_failed : (t : Tree) (old new : State W) (r : Result ℕ Asn1DerError) → IfErr r (λ e. RefusesWrite g t old e new) → IfErr r (λ e. RefusesWrite g (Tree.choice t) old e new)
+  pub choice_failed : (t : Tree) (old new : State W) (r : Result ℕ Asn1DerError)
+      → IfErr r (λ e. RefusesWrite g t old e new) → IfErr r (λ e. RefusesWrite g (Tree.choice t) old e new)
   choice_failed t old new r h = fails-alike g t (Tree.choice t) old new r (alike-chosen t) h
 
   -- the alternative is a plain value
-  pub choice_wrote_plain : (t : Tree) (old new : State W) (r : Result ℕ Asn1DerError) → WritesPlain g t old r new → IfOk r (λ n. Writes g (Tree.choice t) old n new)
+  pub choice_wrote_plain : (t : Tree) (old new : State W) (r : Result ℕ Asn1DerError) → WritesPlain g t old r new
+      → IfOk r (λ n. Writes g (Tree.choice t) old n new)
   choice_wrote_plain t old new r h = choice_wrote t old new r h.wrote
 
-  pub choice_failed_plain : (t : Tree) (old new : State W) (r : Result ℕ Asn1DerError) → WritesPlain g t old r new → IfErr r (λ e. RefusesWrite g (Tree.choice t) old e new)
+  pub choice_failed_plain : (t : Tree) (old new : State W) (r : Result ℕ Asn1DerError) → WritesPlain g t old r new
+      → IfErr r (λ e. RefusesWrite g (Tree.choice t) old e new)
   choice_failed_plain t old new r h = choice_failed t old new r h.failed
 
 -- all that a choice asks for
@@ -118,10 +157,12 @@ pub ruleset choice = (choice_wrote, choice_failed, choice_wrote_plain, choice_fa
 
 -- ---- which plain values can be written
 
-pub writable-bytes : (tag : ℕ) (c : List ℕ) → IsTagNumber (number_of tag) → length c + 10 < 2 ^ 64 → IsWritable (Tree.primitive (Primitive.bytes tag c))
+pub writable-bytes : (tag : ℕ) (c : List ℕ) → IsTagNumber (number_of tag) → length c + 10 < 2 ^ 64
+    → IsWritable (Tree.primitive (Primitive.bytes tag c))
 writable-bytes tag c h l = record {
   numbers = le-leb (number_of tag) 30 h;
-  fits = let d = der-primitive (Primitive.bytes tag c) in let m = length-tlv tag c (omega arith) in rw d (omega (arith, m));
+  fits = let d = der-primitive (Primitive.bytes tag c) in let m = length-tlv tag c (omega arith) in
+      rw d (omega (arith, m));
 }
 
 -- a content that is in memory, under its header
@@ -129,7 +170,8 @@ pub writable-content : (h : Header) (c : List ℕ) → HasNumber h → length c 
 writable-content (Tagged tag) c n l = writable-bytes tag c n l
 writable-content (Application k) c n l = record {
   numbers = let e : is_tag_number k ≡ true = le-leb k 30 n in rw e refl;
-  fits = let d = der-wrapped (wrapper.Application k) (Tree.raw c) refl in let m = length-tlv (0x60 + k) c (omega arith) in rw (d, der-raw c) (omega (arith, m));
+  fits = let d = der-wrapped (wrapper.Application k) (Tree.raw c) refl in let m =
+      length-tlv (0x60 + k) c (omega arith) in rw (d, der-raw c) (omega (arith, m));
 }
 writable-content Raw c n l = record { numbers = refl; fits = rw (der-raw c) (omega arith) }
 
@@ -146,16 +188,26 @@ pub unwritable-by : (t : Tree) → has_tag_numbers t ≡ false → ¬ IsWritable
 unwritable-by t e h = let q : false ≡ true = sym e ∙ h.numbers in cc
 
 module _ {W : Type 0} (g : Ghosts W) where
-  pub refused_unwritable : (inside : List Level) (t : Tree) (sink : W) → ¬ IsWritable t → RefusesIn g inside t sink UnsupportedValue sink
-  refused_unwritable [] t sink n = record { begins = beginning_none (g.written sink) (der t); excuse = unwritable refl n refl }
+  pub refused_unwritable : (inside : List Level) (t : Tree) (sink : W) → ¬ IsWritable t
+      → RefusesIn g inside t sink UnsupportedValue sink
+  refused_unwritable [] t sink n = record {
+    begins = beginning_none (g.written sink) (der t);
+    excuse =
+        unwritable refl n refl;
+  }
   refused_unwritable (l ∷ ls) t sink n = (no_way refl n, refl)
 
   -- a tag number past 30
-  pub plain_past : (tag : ℕ) (c : List ℕ) (old : State W) → 30 < number_of tag → old.failed ≡ None → g.later old.sink old.sink → WritesPrimitive g (Primitive.bytes tag c) old (Err UnsupportedValue) (record old { failed = Some (failure_of UnsupportedValue) })
+  pub plain_past : (tag : ℕ) (c : List ℕ) (old : State W) → 30 < number_of tag → old.failed ≡ None
+      → g.later old.sink old.sink
+      → WritesPrimitive g (Primitive.bytes tag c) old (Err UnsupportedValue)
+      (record old { failed = Some (failure_of UnsupportedValue) })
   plain_past tag c old h f later =
       let t = Tree.primitive (Primitive.bytes tag c) in
       let past : has_tag_numbers t ≡ false = lt-leb (number_of tag) 30 h in
-      let refused = refused_unwritable old.inside (under old.around t) old.sink (unwritable-by (under old.around t) (past_under old.around t past)) in
+      let refused =
+      refused_unwritable old.inside (under old.around t) old.sink
+      (unwritable-by (under old.around t) (past_under old.around t past)) in
       record {
         wrote = tt;
         failed = record { failed = refl; again = rw f tt; reason = rw f refused };
@@ -180,7 +232,8 @@ module _ {W : Type 0} (g : Ghosts W) where
   adds_none [] sink = (refl, Appends-nil (g.written sink))
   adds_none (l ∷ ls) sink = (ap (λ m. m ∷ ls) (nothing_more l), refl)
 
-  pub absent-ok : (old : State W) → old.failed ≡ None → CanAllBeOpen old.around → WritesAbsent g old (Ok 0) (record old { around = []; pending = None })
+  pub absent-ok : (old : State W) → old.failed ≡ None → CanAllBeOpen old.around
+      → WritesAbsent g old (Ok 0) (record old { around = []; pending = None })
   absent-ok old f n =
       let none = der-under_absent old.around Tree.absent (can_vanish-open old.around n) refl in
       record {

@@ -1,5 +1,8 @@
 -- The members of a list, and the bytes of these.
-use Rattle.std.proofs.Common.{◌≡◌, ◌<◌, ◌≤◌, ◌^◌, Bool, true, false, ◌&&◌, List, [], ◌∷◌, ◌++◌, length, map, refl, sym, ap, ◌∙◌, subst, arith, length-append, ℕ, cond, nat_lt, ap₂, append-nil, append_assoc, nat_cmp, take, drop, Bor, Vec, Global, Result, Ok, Err, IfOk, IsPermutation, IsSortedByKey}
+use Rattle.std.proofs.Common.{◌≡◌, ◌<◌, ◌≤◌, ◌^◌, Bool, true, false, ◌&&◌, List, [], ◌∷◌, ◌++◌, length, map, refl, sym}
+use Rattle.std.proofs.Common.{ap, ◌∙◌, subst, arith, length-append, ℕ, cond, nat_lt, ap₂, append-nil, append_assoc}
+use Rattle.std.proofs.Common.{nat_cmp, take, drop, Bor, Vec, Global, Result, Ok, Err, IfOk, IsPermutation}
+use Rattle.std.proofs.Common.{IsSortedByKey}
 use Rattle.std.specs.Prelude.{IsTrue}
 use Rattle.std.specs.List.{concat, between, flat_map, AllZip, each_same}
 use Rattle.picky_der_core.specs.Primitive.{Primitive}
@@ -16,7 +19,9 @@ use Rattle.picky_der_ser.proofs.HeaderBytes.{der-headers}
 use Rattle.picky_der_ser.proofs.Alike.{past_under}
 use Rattle.std.proofs.lemmas.Bool.{lt-ltb}
 use Rattle.picky_der_core.specs.Order.{in_ascending_order, is_less}
-use Rattle.picky_der_core.specs.OrderLaws.{without_empty, in_ascending_order-without_empty, IsSortedBy-one, in_ascending_order-same, in_ascending_order-sorted, length-in_ascending_order}
+use Rattle.picky_der_core.specs.OrderLaws.{without_empty, in_ascending_order-without_empty, IsSortedBy-one}
+use Rattle.picky_der_core.specs.OrderLaws.{in_ascending_order-same, in_ascending_order-sorted}
+use Rattle.picky_der_core.specs.OrderLaws.{length-in_ascending_order}
 use Rattle.picky_der_ser.specs.declared.header.Header.{Header}
 use Rattle.picky_der_ser.specs.Seams.{cut_at_seams, AreSeams, last_seam, next_seams, cut_from}
 use Rattle.picky_der_ser.specs.State.{Level, with_member, with_members, final_content, in_order}
@@ -41,18 +46,21 @@ pub last_seam-push : (start : ℕ) (ss : List ℕ) (n : ℕ) → last_seam start
 last_seam-push start [] n = refl
 last_seam-push start (s ∷ ss) n = last_seam-push s ss n
 
-pub seams-push : (start : ℕ) (ss : List ℕ) (n : ℕ) → last_seam start ss ≤ n → AreSeams start ss → AreSeams start (ss ++ (n ∷ []))
+pub seams-push : (start : ℕ) (ss : List ℕ) (n : ℕ) → last_seam start ss ≤ n → AreSeams start ss
+    → AreSeams start (ss ++ (n ∷ []))
 seams-push start [] n h k = (h, tt)
 seams-push start (s ∷ ss) n h k = (k.0, seams-push s ss n h k.1)
 
-pub seams-next : (header : Header) (ss : List ℕ) (n : ℕ) → last_seam 0 ss ≤ n → AreSeams 0 ss → AreSeams 0 (next_seams header ss n)
+pub seams-next : (header : Header) (ss : List ℕ) (n : ℕ) → last_seam 0 ss ≤ n → AreSeams 0 ss
+    → AreSeams 0 (next_seams header ss n)
 seams-next header ss n h k = by_test (is_set header && nat_lt 0 n)
   where
     by_test : (t : Bool) → AreSeams 0 (cond t (ss ++ (n ∷ [])) ss)
     by_test true = seams-push 0 ss n h k
     by_test false = k
 
-pub last_seam-next : (header : Header) (ss : List ℕ) (n : ℕ) → last_seam 0 ss ≤ n → last_seam 0 (next_seams header ss n) ≤ n
+pub last_seam-next : (header : Header) (ss : List ℕ) (n : ℕ) → last_seam 0 ss ≤ n
+    → last_seam 0 (next_seams header ss n) ≤ n
 last_seam-next header ss n h = by_test (is_set header && nat_lt 0 n)
   where
     by_test : (t : Bool) → last_seam 0 (cond t (ss ++ (n ∷ [])) ss) ≤ n
@@ -61,14 +69,16 @@ last_seam-next header ss n h = by_test (is_set header && nat_lt 0 n)
 
 -- of ascending seams, the seams before the `k`th stay
 
-pub drop-next_seams : (header : Header) (k : ℕ) (ss : List ℕ) (n : ℕ) → k ≤ length ss → drop k (next_seams header ss n) ≡ next_seams header (drop k ss) n
+pub drop-next_seams : (header : Header) (k : ℕ) (ss : List ℕ) (n : ℕ) → k ≤ length ss
+    → drop k (next_seams header ss n) ≡ next_seams header (drop k ss) n
 drop-next_seams header k ss n h = by_test (is_set header && nat_lt 0 n)
   where
     by_test : (t : Bool) → drop k (cond t (ss ++ (n ∷ [])) ss) ≡ cond t (drop k ss ++ (n ∷ [])) (drop k ss)
     by_test true = drop-append-le k ss (n ∷ []) h
     by_test false = refl
 
-pub take-next_seams : (header : Header) (k : ℕ) (ss : List ℕ) (n : ℕ) → k ≤ length ss → take k (next_seams header ss n) ≡ take k ss
+pub take-next_seams : (header : Header) (k : ℕ) (ss : List ℕ) (n : ℕ) → k ≤ length ss
+    → take k (next_seams header ss n) ≡ take k ss
 take-next_seams header k ss n h = by_test (is_set header && nat_lt 0 n)
   where
     by_test : (t : Bool) → take k (cond t (ss ++ (n ∷ [])) ss) ≡ take k ss
@@ -85,12 +95,14 @@ length-next_seams header ss n = by_test (is_set header && nat_lt 0 n)
 -- ---- a member after the others is cut off as one more
 
 between-front : (start s : ℕ) (c b : List ℕ) → s ≤ length c → between start s (c ++ b) ≡ between start s c
-between-front start s c b h = between_is (c ++ b) start s ∙ ap (drop start) (take-append-le s c b h) ∙ sym (between_is c start s)
+between-front start s c b h = between_is (c ++ b) start s ∙ ap (drop start) (take-append-le s c b h)
+    ∙ sym (between_is c start s)
 
 pub cut_from-push : (start : ℕ) (ss c b : List ℕ) → AreSeams start ss → last_seam start ss ≤ length c
     → cut_from start (ss ++ (length c ∷ [])) (c ++ b) ≡ cut_from start ss c ++ (b ∷ [])
 cut_from-push start [] c b k h =
-    let front : between start (length c) (c ++ b) ≡ drop start c = between_is (c ++ b) start (length c) ∙ ap (drop start) (take-append_seam c b) in
+    let front : between start (length c) (c ++ b) ≡ drop start c = between_is (c ++ b) start (length c)
+    ∙ ap (drop start) (take-append_seam c b) in
     ap₂ (λ x y. x ∷ y ∷ []) front (drop-append_seam c b)
 cut_from-push start (s ∷ ss) c b k h =
     let least = last_seam-least s ss k.1 in
@@ -98,16 +110,19 @@ cut_from-push start (s ∷ ss) c b k h =
 
 -- ---- what was cut is all of it
 
-cut_from-concat : (start : ℕ) (ss c : List ℕ) → AreSeams start ss → last_seam start ss ≤ length c → concat (cut_from start ss c) ≡ drop start c
+cut_from-concat : (start : ℕ) (ss c : List ℕ) → AreSeams start ss → last_seam start ss ≤ length c
+    → concat (cut_from start ss c) ≡ drop start c
 cut_from-concat start [] c k h = append-nil (drop start c)
 cut_from-concat start (s ∷ ss) c k h =
     let first = k.0 in
     let least = last_seam-least s ss k.1 in
     let size = length-take-le s c (omega (arith, least, h)) in
     let seam = drop-append-le start (take s c) (drop s c) (omega (arith, first, size)) in
-    ap₂ (λ x y. x ++ y) (between_is c start s) (cut_from-concat s ss c k.1 h) ∙ sym seam ∙ ap (drop start) (take-append-drop s c)
+    ap₂ (λ x y. x ++ y) (between_is c start s) (cut_from-concat s ss c k.1 h) ∙ sym seam
+    ∙ ap (drop start) (take-append-drop s c)
 
-pub length-in_order : (ss c : List ℕ) → AreSeams 0 ss → last_seam 0 ss ≤ length c → length (concat (in_ascending_order (cut_at_seams ss c))) ≡ length c
+pub length-in_order : (ss c : List ℕ) → AreSeams 0 ss → last_seam 0 ss ≤ length c
+    → length (concat (in_ascending_order (cut_at_seams ss c))) ≡ length c
 length-in_order ss c k h = length-in_ascending_order (cut_at_seams ss c) ∙ ap length (cut_from-concat 0 ss c k h)
 
 -- what isn't cut stays as it is
@@ -119,10 +134,12 @@ in_ascending_order-uncut (s ∷ ss) c h = absurd (omega (arith, h))
 
 pub joined-sorted : (xs ys : List (Bor (List ℕ))) (all : List (List ℕ)) (r : Result (Vec ℕ Global) AllocError)
     → map (λ x. x.now) xs ≡ all → IsPermutation xs ys → IsSortedByKey (λ x. x.now) (slice_cmp nat_cmp) ys
-    → IfOk r (λ v. AllZip (λ a b. b ≡ a) (flat_map (λ y. y.now) ys) v.items) → IfOk r (λ v. v.items ≡ concat (in_ascending_order all))
+    → IfOk r (λ v. AllZip (λ a b. b ≡ a) (flat_map (λ y. y.now) ys) v.items)
+    → IfOk r (λ v. v.items ≡ concat (in_ascending_order all))
 joined-sorted xs ys all (Err e) is moved up h = tt
 joined-sorted xs ys all (Ok v) is moved up h =
-    let bytes : map (λ y. y.now) ys ≡ in_ascending_order all = sym (in_ascending_order-sorted (λ y. y.now) xs ys moved up) ∙ ap in_ascending_order is in
+    let bytes : map (λ y. y.now) ys ≡ in_ascending_order all =
+    sym (in_ascending_order-sorted (λ y. y.now) xs ys moved up) ∙ ap in_ascending_order is in
     let items : v.items ≡ flat_map (λ y. y.now) ys = each_same (flat_map (λ y. y.now) ys) v.items h in
     items ∙ sym (flat_map-map (λ l. l) (λ y. y.now) ys) ∙ sym (concat_is (map (λ y. y.now) ys)) ∙ ap concat bytes
 
@@ -157,11 +174,15 @@ pub second_of : (b c : Bool) → (b && c) ≡ true → c ≡ true
 second_of true c e = e
 second_of false c e = cc
 
-pub numbers_next : (ts : List Tree) (t : Tree) → IsTrue (have_tag_numbers (trees ts)) → IsTrue (has_tag_numbers t) → IsTrue (have_tag_numbers (trees (ts ++ (t ∷ []))))
+pub numbers_next : (ts : List Tree) (t : Tree) → IsTrue (have_tag_numbers (trees ts)) → IsTrue (has_tag_numbers t)
+    → IsTrue (have_tag_numbers (trees (ts ++ (t ∷ []))))
 numbers_next [] t h k = both (has_tag_numbers t) true k refl
-numbers_next (s ∷ ts) t h k = both (has_tag_numbers s) _ (first_of (has_tag_numbers s) _ h) (numbers_next ts t (second_of (has_tag_numbers s) _ h) k)
+numbers_next (s ∷ ts) t h k =
+    both (has_tag_numbers s) _ (first_of (has_tag_numbers s) _ h)
+    (numbers_next ts t (second_of (has_tag_numbers s) _ h) k)
 
-numbers_at : (ts : List Tree) (t : Tree) (us : Trees) → IsTrue (have_tag_numbers (before ts (Trees.more t us))) → IsTrue (has_tag_numbers t)
+numbers_at : (ts : List Tree) (t : Tree) (us : Trees) → IsTrue (have_tag_numbers (before ts (Trees.more t us)))
+    → IsTrue (has_tag_numbers t)
 numbers_at [] t us h = first_of (has_tag_numbers t) _ h
 numbers_at (s ∷ ts) t us h = numbers_at ts t us (second_of (has_tag_numbers s) _ h)
 
@@ -179,31 +200,52 @@ pub map_next : (ts : List Tree) (t : Tree) → map der (ts ++ (t ∷ [])) ≡ ma
 map_next [] t = refl
 map_next (s ∷ ts) t = ap (λ l. der s ∷ l) (map_next ts t)
 
-size_at : (ts : List Tree) (t : Tree) (us : Trees) → length (der t) ≤ length (concat (encodings (before ts (Trees.more t us))))
+size_at : (ts : List Tree) (t : Tree) (us : Trees)
+    → length (der t) ≤ length (concat (encodings (before ts (Trees.more t us))))
 unfolding der tree_bytes
 size_at [] t us = omega (arith, length-append (der t) (concat (encodings us)))
-size_at (s ∷ ts) t us = omega (arith, size_at ts t us, length-append (der s) (concat (encodings (before ts (Trees.more t us)))))
+size_at (s ∷ ts) t us =
+    omega (arith, size_at ts t us, length-append (der s) (concat (encodings (before ts (Trees.more t us)))))
 
 -- a list is written as bytes with its tag
-alike_by : (kind : ListKind) (ts : Trees) → IsTrue (have_tag_numbers ts) → AreAlike (Tree.primitive (Primitive.bytes (list_tag kind) (list_content kind (encodings ts)))) (Tree.list kind ts)
+alike_by : (kind : ListKind) (ts : Trees) → IsTrue (have_tag_numbers ts)
+    → AreAlike (Tree.primitive (Primitive.bytes (list_tag kind) (list_content kind (encodings ts)))) (Tree.list kind ts)
 unfolding tree_bytes
 alike_by ListKind.sequence ts h = record { written_same = λ b. refl; absent_same = refl; numbers_same = sym h }
 alike_by ListKind.set ts h = record { written_same = λ b. refl; absent_same = refl; numbers_same = sym h }
 
-pub alike_list : (kind : ListKind) (ts : List Tree) → IsTrue (have_tag_numbers (trees ts)) → AreAlike (Tree.primitive (Primitive.bytes (list_tag kind) (list_content kind (map der ts)))) (Tree.list kind (trees ts))
-alike_list kind ts h = subst (λ bs. AreAlike (Tree.primitive (Primitive.bytes (list_tag kind) (list_content kind bs))) (Tree.list kind (trees ts))) (encodings-trees ts) (alike_by kind (trees ts) h)
+pub alike_list : (kind : ListKind) (ts : List Tree) → IsTrue (have_tag_numbers (trees ts))
+    → AreAlike (Tree.primitive (Primitive.bytes (list_tag kind) (list_content kind (map der ts))))
+    (Tree.list kind (trees ts))
+alike_list kind ts h =
+    subst (λ bs. AreAlike (Tree.primitive (Primitive.bytes (list_tag kind) (list_content kind bs)))
+    (Tree.list kind (trees ts))) (encodings-trees ts) (alike_by kind (trees ts) h)
 
 -- a list is written only if its members are
-pub member_writable : (ws : List Wrapper) (kind : ListKind) (ts : List Tree) (t : Tree) (us : Trees) → IsWritable (under ws (Tree.list kind (before ts (Trees.more t us)))) → IsWritable t
+pub member_writable : (ws : List Wrapper) (kind : ListKind) (ts : List Tree) (t : Tree) (us : Trees)
+    → IsWritable (under ws (Tree.list kind (before ts (Trees.more t us)))) → IsWritable t
 member_writable ws kind ts t us h =
     let all = before ts (Trees.more t us) in
     let c = list_content kind (encodings all) in
     let numbers : IsTrue (have_tag_numbers all) = numbers_inside ws (Tree.list kind all) h.numbers in
-    let same : der (under ws (Tree.primitive (Primitive.bytes (list_tag kind) c))) ≡ der (under ws (Tree.list kind all)) = der-alike _ _ (alike-under ws _ _ (alike_by kind all numbers)) in
+    let same : der (under ws (Tree.primitive (Primitive.bytes (list_tag kind) c)))
+    ≡ der (under ws (Tree.list kind all)) = der-alike _ _ (alike-under ws _ _ (alike_by kind all numbers)) in
     let front = headers ws (Tagged (list_tag kind)) (length c) in
-    let whole : der (under ws (Tree.list kind all)) ≡ front ++ c = sym same ∙ der-headers ws (Tagged (list_tag kind)) c in
+    let whole : der (under ws (Tree.list kind all)) ≡ front ++ c =
+    sym same ∙ der-headers ws (Tagged (list_tag kind)) c in
     let fits : length (der (under ws (Tree.list kind all))) < 2 ^ 64 = h.fits in
-    record { numbers = numbers_at ts t us numbers; fits = omega (arith, fits, ap length whole, length-append front c, length-list_content kind (encodings all), size_at ts t us) }
+    record {
+      numbers = numbers_at ts t us numbers;
+      fits =
+          omega (
+            arith,
+            fits,
+            ap length whole,
+            length-append front c,
+            length-list_content kind (encodings all),
+            size_at ts t us,
+          );
+    }
 
 -- ---- the content of a set, in order
 
@@ -227,7 +269,8 @@ without_empty-append [] ys = refl
 without_empty-append ([] ∷ xs) ys = without_empty-append xs ys
 without_empty-append ((b ∷ a) ∷ xs) ys = ap (λ l. (b ∷ a) ∷ l) (without_empty-append xs ys)
 
-seams_divide_first : (b : List ℕ) (members : List (List ℕ)) → without_empty members ≡ [] → SeamsDivide [] b (members ++ (b ∷ []))
+seams_divide_first : (b : List ℕ) (members : List (List ℕ)) → without_empty members ≡ []
+    → SeamsDivide [] b (members ++ (b ∷ []))
 seams_divide_first b members none = record {
   ascending = tt;
   within = omega arith;
@@ -244,11 +287,13 @@ seams_divide_more x ss c b members h =
       ascending = seams-push 0 ss (length (x ∷ c)) h.within h.ascending;
       within = omega (arith, last, size);
       no_seam = λ e. cc;
-      same = ap without_empty (cut_from-push 0 ss (x ∷ c) b h.ascending h.within) ∙ without_empty-append (cut_at_seams ss (x ∷ c)) (b ∷ [])
+      same = ap without_empty (cut_from-push 0 ss (x ∷ c) b h.ascending h.within)
+          ∙ without_empty-append (cut_at_seams ss (x ∷ c)) (b ∷ [])
           ∙ ap (λ l. l ++ without_empty (b ∷ [])) h.same ∙ sym (without_empty-append members (b ∷ []));
     }
 
-seams_divide_next : (header : Header) (ss c b : List ℕ) (members : List (List ℕ)) → is_set header ≡ true → SeamsDivide ss c members
+seams_divide_next : (header : Header) (ss c b : List ℕ) (members : List (List ℕ)) → is_set header ≡ true
+    → SeamsDivide ss c members
     → SeamsDivide (next_seams header ss (length c)) (c ++ b) (members ++ (b ∷ []))
 seams_divide_next header ss [] b members e h =
     let none = h.no_seam refl in
@@ -258,16 +303,19 @@ seams_divide_next header ss [] b members e h =
 seams_divide_next header ss (x ∷ c) b members e h =
     let n = length (x ∷ c) in
     let more = ap (λ t. cond t (ss ++ (n ∷ [])) ss) (lt-ltb 0 n (omega arith)) in
-    let seams : next_seams header ss n ≡ ss ++ (n ∷ []) = ap (λ t. cond (t && nat_lt 0 n) (ss ++ (n ∷ [])) ss) e ∙ more in
+    let seams : next_seams header ss n ≡ ss ++ (n ∷ []) = ap (λ t. cond (t && nat_lt 0 n) (ss ++ (n ∷ [])) ss) e
+    ∙ more in
     subst (λ l. SeamsDivide l (x ∷ c ++ b) (members ++ (b ∷ []))) (sym seams) (seams_divide_more x ss c b members h)
 
-seams_divide_all : (l : Level) (members bs : List (List ℕ)) → is_set l.header ≡ true → SeamsDivide l.seams l.content members
+seams_divide_all : (l : Level) (members bs : List (List ℕ)) → is_set l.header ≡ true
+    → SeamsDivide l.seams l.content members
     → let m = with_members l bs in SeamsDivide m.seams m.content (members ++ bs)
 seams_divide_all l members [] e h = subst (SeamsDivide l.seams l.content) (sym (append-nil members)) h
 seams_divide_all l members (b ∷ bs) e h =
     let m = with_members l (b ∷ bs) in
     let next = seams_divide_next l.header l.seams l.content b members e h in
-    subst (SeamsDivide m.seams m.content) (append_assoc members (b ∷ []) bs) (seams_divide_all (with_member l b) (members ++ (b ∷ [])) bs e next)
+    subst (SeamsDivide m.seams m.content) (append_assoc members (b ∷ []) bs)
+    (seams_divide_all (with_member l b) (members ++ (b ∷ [])) bs e next)
 
 -- ---- members of a level that isn't cut
 
@@ -295,7 +343,8 @@ members_around l [] = refl
 members_around l (b ∷ bs) = members_around (with_member l b) bs
 
 -- one after the others
-pub members-push : (l : Level) (bs : List (List ℕ)) (b : List ℕ) → with_members l (bs ++ (b ∷ [])) ≡ with_member (with_members l bs) b
+pub members-push : (l : Level) (bs : List (List ℕ)) (b : List ℕ)
+    → with_members l (bs ++ (b ∷ [])) ≡ with_member (with_members l bs) b
 members-push l [] b = refl
 members-push l (c ∷ bs) b = members-push (with_member l c) bs b
 
@@ -308,6 +357,13 @@ final_content-members ListKind.sequence around bs =
 final_content-members ListKind.set around bs =
     let l = list_level ListKind.set around in
     let m = with_members l bs in
-    let start : SeamsDivide [] [] [] = record { ascending = tt; within = omega arith; no_seam = λ _. refl; same = refl } in
+    let start : SeamsDivide [] [] [] = record {
+      ascending = tt;
+      within = omega arith;
+      no_seam = λ _. refl;
+      same =
+          refl;
+    } in
     let all = seams_divide_all l [] bs refl start in
-    in_ascending_order-without_empty (cut_at_seams m.seams m.content) ∙ ap (λ x. concat (in_ascending_order x)) all.same ∙ sym (in_ascending_order-without_empty bs)
+    in_ascending_order-without_empty (cut_at_seams m.seams m.content) ∙ ap (λ x. concat (in_ascending_order x)) all.same
+    ∙ sym (in_ascending_order-without_empty bs)

@@ -1,5 +1,6 @@
 -- What the calls of a serializer do.
-use Rattle.std.specs.Prelude.{◌≡◌, ℕ, List, [], ◌∷◌, length, None, Some, IfSome, IfNone, Result, Err, IfOk, IfErr, ⊤, ◌<◌}
+use Rattle.std.specs.Prelude.{◌≡◌, ℕ, List, [], ◌∷◌, length, None, Some, IfSome, IfNone, Result, Err, IfOk, IfErr, ⊤}
+use Rattle.std.specs.Prelude.{◌<◌}
 use Rattle.picky_der_core.specs.OpenWrappers.{under}
 use Rattle.picky_der_core.specs.declared.asn1.wrapper.Wrapper.{Wrapper}
 use Rattle.std.specs.Io.KnownBytes.{Appends}
@@ -31,7 +32,8 @@ pub data MemoryExcuse (Possible : Type 0) (e : Asn1DerError) : Type 0 where
 
 -- the call refuses what isn't supported, whatever the value, and nothing but that becomes of the serializer
 abbrev pub IsUnsupported : {W : Type 0} → State W → Result ℕ Asn1DerError → State W → Type 0
-IsUnsupported old r new = (e : Asn1DerError) × (r ≡ Err e) × IsAnswer old.failed UnsupportedType e × (new ≡ record old { failed = Some (failure_of e) })
+IsUnsupported old r new = (e : Asn1DerError) × (r ≡ Err e) × IsAnswer old.failed UnsupportedType e
+    × (new ≡ record old { failed = Some (failure_of e) })
 
 -- it had failed with this error, and nothing was done
 pub record HadFailed {W : Type 0} (old : State W) (e : Asn1DerError) (new : State W) : Type 0 where
@@ -47,7 +49,8 @@ module _ {W : Type 0} (g : Ghosts W) where
   abbrev pub Adds : State W → State W → List ℕ → Type 0
   Adds old new bs = AddsIn old.inside new.inside old.sink new.sink bs
 
-  -- Why a serializer that hadn't failed may refuse to write a tree to its sink. `rest` is what of the encoding wasn't written: at least a byte after an I/O error of the sink.
+  -- Why a serializer that hadn't failed may refuse to write a tree to its sink. `rest` is what of the encoding wasn't
+  -- written: at least a byte after an I/O error of the sink.
   pub data Excuse (t : Tree) (rest : List ℕ) (old : W) (e : Asn1DerError) (new : W) : Type 0 where
     -- what was written before may stay
     no_memory : e ≡ OutOfMemory → Excuse t rest old e new
@@ -92,11 +95,13 @@ module _ {W : Type 0} (g : Ghosts W) where
 
   -- outside wrappers and levels only the sink can refuse a plain value that can be written, since nothing is allocated
   abbrev pub OnlySinkFails : Tree → State W → Asn1DerError → State W → Type 0
-  OnlySinkFails t old e new = IsWritable t → old.failed ≡ None → old.inside ≡ [] → old.around ≡ [] → WriterFails g old.sink e new.sink
+  OnlySinkFails t old e new = IsWritable t → old.failed ≡ None → old.inside ≡ [] → old.around ≡ []
+      → WriterFails g old.sink e new.sink
 
   -- a plain value that can't be written is refused before anything else is done, whatever is open
   abbrev pub RefusesUnwritable : Tree → State W → Result ℕ Asn1DerError → State W → Type 0
-  RefusesUnwritable t old r new = ¬ IsWritable t → old.failed ≡ None → (r ≡ Err UnsupportedValue) × (new.sink ≡ old.sink)
+  RefusesUnwritable t old r new = ¬ IsWritable t → old.failed ≡ None
+      → (r ≡ Err UnsupportedValue) × (new.sink ≡ old.sink)
 
   -- the call writes a plain value
   pub record WritesPlain (t : Tree) (old : State W) (r : Result ℕ Asn1DerError) (new : State W) : Type 0 where
@@ -112,7 +117,8 @@ module _ {W : Type 0} (g : Ghosts W) where
   abbrev pub WritesPrimitive : Primitive → State W → Result ℕ Asn1DerError → State W → Type 0
   WritesPrimitive p = WritesPlain (Tree.primitive p)
 
-  -- the call writes what isn't there: the open wrappers are dropped, nothing is written, and only an earlier error is returned
+  -- the call writes what isn't there: the open wrappers are dropped, nothing is written, and only an earlier error is
+  -- returned
   pub record WritesAbsent (old : State W) (r : Result ℕ Asn1DerError) (new : State W) : Type 0 where
     pub wrote : IfOk r (λ n. Writes Tree.absent old n new)
     pub count : IfOk r (λ n. n ≡ 0)
@@ -130,15 +136,30 @@ module _ {W : Type 0} (g : Ghosts W) where
 
   -- a level was opened under this header, and the open wrappers became its own
   pub record OpensLevel (header : Header) (old new : State W) : Type 0 where
-    pub opened : new ≡ record { sink = old.sink; around = []; failed = old.failed; inside = old.inside; pending = Some (record { header = header; around = old.around; content = []; seams = [] }) }
+    pub opened : new ≡ record {
+      sink = old.sink;
+      around = [];
+      failed = old.failed;
+      inside = old.inside;
+      pending =
+          Some (record { header = header; around = old.around; content = []; seams = [] });
+    }
 
   -- the tree was added as a member to the level that was opened last
   pub record AddsMember (t : Tree) (old new : State W) : Type 0 where
     pub had_not_failed : old.failed ≡ None
     pub writable : IsWritable t
-    pub added : IfSome old.pending (λ l. new ≡ record { sink = old.sink; around = []; failed = None; inside = old.inside; pending = Some (with_member l (der t)) })
+    pub added : IfSome old.pending (λ l. new ≡ record {
+      sink = old.sink;
+      around = [];
+      failed = None;
+      inside =
+          old.inside;
+      pending = Some (with_member l (der t));
+    })
 
-  -- It stopped with this error, and nothing was written: it had failed so, an allocation failed, or what was to be added can't be written.
+  -- It stopped with this error, and nothing was written: it had failed so, an allocation failed, or what was to be
+  -- added can't be written.
   pub record RefusesBefore (Possible : Type 0) (old : State W) (e : Asn1DerError) (new : State W) : Type 0 where
     pub failed : new.failed ≡ Some (failure_of e)
     pub same : new.sink ≡ old.sink
@@ -153,7 +174,14 @@ module _ {W : Type 0} (g : Ghosts W) where
   pub record AddsMembers (ts : Trees) (old new : State W) : Type 0 where
     pub had_not_failed : old.failed ≡ None
     pub writable : AreWritable ts
-    pub added : IfSome old.pending (λ l. new ≡ record { sink = old.sink; around = []; failed = None; inside = old.inside; pending = Some (with_members l (encodings ts)) })
+    pub added : IfSome old.pending (λ l. new ≡ record {
+      sink = old.sink;
+      around = [];
+      failed = None;
+      inside =
+          old.inside;
+      pending = Some (with_members l (encodings ts));
+    })
 
   -- all of these members were added; without any, nothing was done
   abbrev pub AddsAll : Trees → State W → State W → Type 0
@@ -168,7 +196,8 @@ module _ {W : Type 0} (g : Ghosts W) where
   -- What comes before members was added: they are added, or refused, as it and they together are.
   pub record AddsPrepended (prepend : Trees → Trees) (old new : State W) : Type 0 where
     pub added : (ts : Trees) (last : State W) → AddsAll ts new last → AddsAll (prepend ts) old last
-    pub refused : (ts : Trees) (e : Asn1DerError) (last : State W) → RefusesToAddAll ts new e last → RefusesToAddAll (prepend ts) old e last
+    pub refused : (ts : Trees) (e : Asn1DerError) (last : State W) → RefusesToAddAll ts new e last
+        → RefusesToAddAll (prepend ts) old e last
 
   -- It wasn't added, and so no members are that begin with it.
   abbrev pub RefusesPrepended : (Trees → Trees) → State W → Asn1DerError → State W → Type 0
@@ -182,7 +211,8 @@ module _ {W : Type 0} (g : Ghosts W) where
     pub same : new.sink ≡ old
     pub failed : new.failed ≡ Some f
 
-  -- the call wrote the tree in the wrappers of the state before, or stopped; unless the sink failed itself it wrote all or nothing
+  -- the call wrote the tree in the wrappers of the state before, or stopped; unless the sink failed itself it wrote all
+  -- or nothing
   pub record WritesWhole (t : Tree) (old : State W) (r : Result ℕ Asn1DerError) (new : State W) : Type 0 where
     pub wrote : IfOk r (λ n. Writes t old n new)
     pub failed : IfErr r (λ e. RefusesWrite t old e new)
@@ -196,12 +226,14 @@ module _ {W : Type 0} (g : Ghosts W) where
 
   -- the level that was opened last has ended
   pub record EndsLevel (old : State W) (r : Result ℕ Asn1DerError) (new : State W) : Type 0 where
-    pub ended : IfSome old.pending (λ l. WritesContent l.header (final_content l) (record old { around = l.around }) r new)
+    pub ended : IfSome old.pending (λ l. WritesContent l.header (final_content l) (record old { around = l.around }) r
+        new)
     pub again : IfSome old.failed (λ f. AnswersAgain old.sink f r new)
 
   -- ---- wrappers
 
-  -- It stopped with this error before a wrapper was opened, and nothing was written. A tag that can't be written is refused first.
+  -- It stopped with this error before a wrapper was opened, and nothing was written. A tag that can't be written is
+  -- refused first.
   pub record RefusesWrapper (w : Wrapper) (old : State W) (e : Asn1DerError) (new : State W) : Type 0 where
     pub failed : new.failed ≡ Some (failure_of e)
     pub same : new.sink ≡ old.sink

@@ -21,8 +21,10 @@ IsOne {V} eq left_out = (x y : V) → IsTrue (left_out x) → IsTrue (left_out y
 -- numbers of an unsigned type, by the greatest that it has
 pub numbers_by_tree : (most n : ℕ) → IsByTree (unsigned_tree most) (λ x. nat_eq x n)
 numbers_by_tree most n x y h =
-    let x_is : x ≡ n = eqb-true x n h in
-    (λ k. ap (unsigned_tree most) (x_is ∙ sym (eqb-true y n k)), λ e. eq-eqb y n (sym (unsigned_tree-same most x y e) ∙ x_is))
+    let x_is : x ≡ n = eqb-true x n h in (
+      λ k. ap (unsigned_tree most) (x_is ∙ sym (eqb-true y n k)),
+      λ e. eq-eqb y n (sym (unsigned_tree-same most x y e) ∙ x_is),
+    )
 
 pub one_number : (n : ℕ) → IsOne nat_eq (λ x. nat_eq x n)
 one_number n x y h k = eq-eqb x y (eqb-true x n h ∙ sym (eqb-true y n k))
@@ -30,8 +32,11 @@ one_number n x y h k = eq-eqb x y (eqb-true x n h ∙ sym (eqb-true y n k))
 -- numbers of an integer type
 pub ints_by_tree : (fits : ℤ → Bool) (n : ℤ) → IsByTree (int_tree fits) (λ x. int_eq x n)
 ints_by_tree fits n x y h =
-    let x_is : x ≡ n = (Decides-int_eq x n).0 h in
-    (λ k. ap (int_tree fits) (x_is ∙ sym ((Decides-int_eq y n).0 k)), λ e. let same : content_within fits x ≡ content_within fits y = cc in (Decides-int_eq y n).1 (sym (same_within fits x y same) ∙ x_is))
+    let x_is : x ≡ n = (Decides-int_eq x n).0 h in (
+      λ k. ap (int_tree fits) (x_is ∙ sym ((Decides-int_eq y n).0 k)),
+      λ e. let same : content_within fits x
+          ≡ content_within fits y = cc in (Decides-int_eq y n).1 (sym (same_within fits x y same) ∙ x_is),
+    )
 
 pub one_int : (n : ℤ) → IsOne int_eq (λ x. int_eq x n)
 one_int n x y h k = (Decides-int_eq x y).1 ((Decides-int_eq x n).0 h ∙ sym ((Decides-int_eq y n).0 k))
@@ -51,5 +56,7 @@ wrapped_injective : (w : Wrapper) (t u : Tree) → Tree.wrapped w t ≡ Tree.wra
 wrapped_injective w t u e = cc
 
 -- a default is one in a wrapper, too
-pub wrapped_by_tree : (w : Wrapper) {V : Type 0} (meaning : V → Tree) (left_out : V → Bool) → IsByTree meaning left_out → (x y : V) → IsTrue (left_out x) → IsTrue (left_out y) ↔ (Tree.wrapped w (meaning x) ≡ Tree.wrapped w (meaning y))
-wrapped_by_tree w meaning left_out h x y d = (λ e. ap (Tree.wrapped w) ((h x y d).0 e), λ e. (h x y d).1 (wrapped_injective w (meaning x) (meaning y) e))
+pub wrapped_by_tree : (w : Wrapper) {V : Type 0} (meaning : V → Tree) (left_out : V → Bool) → IsByTree meaning left_out
+    → (x y : V) → IsTrue (left_out x) → IsTrue (left_out y) ↔ (Tree.wrapped w (meaning x) ≡ Tree.wrapped w (meaning y))
+wrapped_by_tree w meaning left_out h x y d =
+    (λ e. ap (Tree.wrapped w) ((h x y d).0 e), λ e. (h x y d).1 (wrapped_injective w (meaning x) (meaning y) e))

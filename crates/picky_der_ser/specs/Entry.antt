@@ -27,7 +27,8 @@ pub record VecRefuses (t : Tree) (old : List ℕ) (e : Asn1DerError) (new : List
 pub data SliceExcuse (t : Tree) (old : List ℕ) (e : Asn1DerError) (new : List ℕ) : Type 0 where
   without_memory : e ≡ OutOfMemory → SliceExcuse t old e new
   without_form : e ≡ UnsupportedValue → ¬ IsWritable t → new ≡ old → SliceExcuse t old e new
-  without_room : e ≡ InvalidSink → IsWritable t → length old < length (der t) → new ≡ take (length old) (der t) → SliceExcuse t old e new
+  without_room : e ≡ InvalidSink → IsWritable t → length old < length (der t) → new ≡ take (length old) (der t)
+      → SliceExcuse t old e new
 
 -- a beginning of the encoding was written over a slice, and why no more
 pub record SliceRefuses (t : Tree) (old : List ℕ) (e : Asn1DerError) (new : List ℕ) : Type 0 where

@@ -1,5 +1,6 @@
 -- The bytes before a content: the headers of the wrappers around it, and its own.
-use Rattle.std.specs.Prelude.{ℕ, ◌+◌, ⊤, IsTrue, List, [], ◌∷◌, ◌++◌, length, take, ◌-◌, Option, None, Some, if◌then◌else◌, drop, Bool, false, nat_eq}
+use Rattle.std.specs.Prelude.{ℕ, ◌+◌, ⊤, IsTrue, List, [], ◌∷◌, ◌++◌, length, take, ◌-◌, Option, None, Some}
+use Rattle.std.specs.Prelude.{if◌then◌else◌, drop, Bool, false, nat_eq}
 use Rattle.std.specs.Option.{unwrap_or}
 use Rattle.picky_der_core.specs.declared.asn1.wrapper.Wrapper.{Wrapper}
 use Rattle.picky_der_core.specs.Element.{length_octets}
@@ -38,7 +39,8 @@ own_header Raw n = []
 -- the wrappers, the outermost first, before these bytes and n more
 abbrev pub wrapper_openings : List Wrapper → List ℕ → ℕ → List ℕ
 wrapper_openings [] inner n = inner
-wrapper_openings (w ∷ ws) inner n = let rest = wrapper_openings ws inner n in wrapper_opening w (length rest + n) ++ rest
+wrapper_openings (w ∷ ws) inner n = let rest = wrapper_openings ws inner n in
+    wrapper_opening w (length rest + n) ++ rest
 
 -- the header of an implicit tag directly around a tagged content, which is in place of that content's own
 abbrev pub joint_header : Wrapper → Header → Option Header
@@ -58,7 +60,9 @@ headed_wrappers (Some j) ws = take (length ws - 1) ws
 
 -- all that is before a content of n bytes
 abbrev pub headers : List Wrapper → Header → ℕ → List ℕ
-headers ws h n = wrapper_openings (headed_wrappers (innermost_joint_header ws h) ws) (own_header (unwrap_or (innermost_joint_header ws h) h) n) n
+headers ws h n =
+    wrapper_openings (headed_wrappers (innermost_joint_header ws h) ws)
+    (own_header (unwrap_or (innermost_joint_header ws h) h) n) n
 
 -- each tag number is at most 30
 abbrev pub HasNumber : Header → Type 0

@@ -1,5 +1,6 @@
 -- How marks divide one list of bytes, one of seams and one of wrappers among the levels.
-use Rattle.std.specs.Prelude.{ℕ, ◌≢◌, ◌+◌, ◌<◌, ◌≤◌, ⊤, Bool, true, false, List, [], ◌∷◌, length, take, drop, Option, None, Some, refl}
+use Rattle.std.specs.Prelude.{ℕ, ◌≢◌, ◌+◌, ◌<◌, ◌≤◌, ⊤, Bool, true, false, List, [], ◌∷◌, length, take, drop, Option}
+use Rattle.std.specs.Prelude.{None, Some, refl}
 use Rattle.picky_der_core.specs.declared.asn1.wrapper.Wrapper.{Wrapper}
 use Rattle.picky_der_ser.specs.declared.marks.Mark.{Mark}
 use Rattle.picky_der_ser.specs.State.{Level}
@@ -12,12 +13,19 @@ use Rattle.picky_der_core.specs.contracts.asn1.wrapper.Wrapper as wrapper
 
 -- the level of a mark, which is the last one, where these are all bytes, seams and wrappers
 abbrev pub level_at : Mark → List ℕ → List ℕ → List Wrapper → Level
-level_at m s seams ws = record { header = m.header; around = drop m.first_wrapper ws; content = drop m.start s; seams = drop m.first_seam seams }
+level_at m s seams ws = record {
+  header = m.header;
+  around = drop m.first_wrapper ws;
+  content = drop m.start s;
+  seams =
+      drop m.first_seam seams;
+}
 
 -- the levels of these marks, innermost first
 abbrev pub levels_of : List Mark → List ℕ → List ℕ → List Wrapper → List Level
 levels_of [] s seams ws = []
-levels_of (m ∷ ms) s seams ws = level_at m s seams ws ∷ levels_of ms (take m.at s) (take m.first_seam seams) (take m.first_wrapper ws)
+levels_of (m ∷ ms) s seams ws = level_at m s seams ws ∷ levels_of ms (take m.at s) (take m.first_seam seams)
+    (take m.first_wrapper ws)
 
 -- the levels of which a member is being written: all but the innermost one, if that is pending
 abbrev pub inside_of : Bool → List Mark → List ℕ → List ℕ → List Wrapper → List Level
@@ -44,7 +52,8 @@ pub record IsMark (m : Mark) (n : ℕ) (seams : List ℕ) (ws : List Wrapper) : 
 -- the marks are within n bytes, each before the one further in
 abbrev pub AreMarks : List Mark → ℕ → List ℕ → List Wrapper → Type 0
 AreMarks [] n seams ws = ⊤
-AreMarks (m ∷ ms) n seams ws = IsMark m n seams ws × AreMarks ms m.at (take m.first_seam seams) (take m.first_wrapper ws)
+AreMarks (m ∷ ms) n seams ws = IsMark m n seams ws
+    × AreMarks ms m.at (take m.first_seam seams) (take m.first_wrapper ws)
 
 -- the rooms and the contents after them are within n bytes, each before the ones further in
 abbrev pub AreRooms : List Mark → ℕ → Type 0
@@ -64,7 +73,8 @@ pub record KeptMarks : Type 0 where
   pub spare : ℕ
 
 abbrev pub kept_marks_code : Coded KeptMarks
-kept_marks_code = code_by (List Mark × ℕ) (coded× (coded_list mark.the_row.coded) coded_ℕ) (λ k. (k.marks, k.spare)) (λ p. record { marks = p.0; spare = p.1 }) (λ _. refl)
+kept_marks_code = code_by (List Mark × ℕ) (coded× (coded_list mark.the_row.coded) coded_ℕ) (λ k. (k.marks, k.spare))
+    (λ p. record { marks = p.0; spare = p.1 }) (λ _. refl)
 
 -- that of a root, before whose content nothing is
 abbrev pub root_mark : Mark
@@ -78,4 +88,6 @@ pub record KeptWrappers : Type 0 where
   pub around : List Wrapper
 
 abbrev pub kept_wrappers_code : Coded KeptWrappers
-kept_wrappers_code = code_by (List Wrapper × List Wrapper) (coded× (coded_list wrapper.the_row.coded) (coded_list wrapper.the_row.coded)) (λ k. (k.of_levels, k.around)) (λ p. record { of_levels = p.0; around = p.1 }) (λ _. refl)
+kept_wrappers_code =
+    code_by (List Wrapper × List Wrapper) (coded× (coded_list wrapper.the_row.coded) (coded_list wrapper.the_row.coded))
+    (λ k. (k.of_levels, k.around)) (λ p. record { of_levels = p.0; around = p.1 }) (λ _. refl)

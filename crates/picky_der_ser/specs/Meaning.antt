@@ -20,7 +20,8 @@ unless_default is_default x = if is_default x then None else Some x
 abbrev pub list_meaning : {A : Type 0} → ListKind → (A → Tree) → List A → Tree
 list_meaning kind meaning items = Tree.list kind (trees (map meaning items))
 
--- The values of an array. One that had another number of them, as no array of a program has, would mean what is never read.
+-- The values of an array. One that had another number of them, as no array of a program has, would mean what is never
+-- read.
 abbrev pub if_as_many : Bool → Trees → Trees
 if_as_many true ts = ts
 if_as_many false ts = Trees.more Tree.absent ts

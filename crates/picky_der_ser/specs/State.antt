@@ -26,7 +26,8 @@ pub record Level : Type 0 where
 abbrev pub level_code : Coded Level
 level_code =
     code_by (Header × (List Wrapper × (List ℕ × List ℕ)))
-    (coded× header.the_row.coded (coded× (coded_list wrapper.the_row.coded) (coded× (coded_list coded_ℕ) (coded_list coded_ℕ))))
+    (coded× header.the_row.coded
+    (coded× (coded_list wrapper.the_row.coded) (coded× (coded_list coded_ℕ) (coded_list coded_ℕ))))
     (λ l. (l.header, (l.around, (l.content, l.seams))))
     (λ p. record { header = p.0; around = p.1.0; content = p.1.1.0; seams = p.1.1.1 })
     (λ _. refl)
@@ -60,8 +61,8 @@ final_content l = concat (in_ascending_order (cut_at_seams l.seams l.content))
 abbrev pub in_order : Level → Level
 in_order l = record l { content = final_content l; seams = [] }
 
--- The levels of a serializer: the levels of which a member is being written, innermost first; and the one that was opened last, until it ends or another call
--- is made. Then the open wrappers, outermost first.
+-- The levels of a serializer: the levels of which a member is being written, innermost first; and the one that was
+-- opened last, until it ends or another call is made. Then the open wrappers, outermost first.
 pub record Stack : Type 0 where
   pub inside : List Level
   pub pending : Option Level
@@ -77,7 +78,8 @@ stack_code =
 
 -- a member of the level that was opened last is being written from here on
 abbrev pub EntersLevel : Stack → Stack → Type 0
-EntersLevel old new = IfSome old.pending (λ l. new ≡ record old { inside = at_next_member l ∷ old.inside; pending = None })
+EntersLevel old new =
+    IfSome old.pending (λ l. new ≡ record old { inside = at_next_member l ∷ old.inside; pending = None })
 
 -- the tag numbers of the level that was opened last, and of the wrappers around it, are at most 30
 abbrev pub HasLevelNumbers : Stack → Type 0
@@ -97,7 +99,9 @@ pub record State (W : Type 0) : Type 0 where
 abbrev pub state_code : {W : Type 0} → Coded W → Coded (State W)
 state_code {W} sink =
     code_by (W × (List Wrapper × (Option Failure × (List Level × Option Level))))
-    (coded× sink (coded× (coded_list wrapper.the_row.coded) (coded× (coded_option failure.the_row.coded) (coded× (coded_list level_code) (coded_option level_code)))))
+    (coded× sink
+    (coded× (coded_list wrapper.the_row.coded)
+    (coded× (coded_option failure.the_row.coded) (coded× (coded_list level_code) (coded_option level_code)))))
     (λ s. (s.sink, (s.around, (s.failed, (s.inside, s.pending)))))
     (λ p. record { sink = p.0; around = p.1.0; failed = p.1.1.0; inside = p.1.1.1.0; pending = p.1.1.1.1 })
     (λ _. refl)

@@ -13,13 +13,14 @@ use picky_der_core::Result;
 use picky_der_core::misc::{BufSink, SliceSink, WriteExt};
 use std::alloc::Global;
 
-/// Writes the canonical encoding of a value into a slice, and returns its length in bytes. Bytes past the encoding stay.
+/// Writes the canonical encoding of a value into a slice, and returns its length in bytes. Bytes past the encoding
+/// stay.
 ///
-/// `InvalidSink` if the slice is too short: it holds the first bytes of the encoding then. `UnsupportedValue` if the value
-/// can't be written: the slice is unchanged then. `OutOfMemory` if an allocation fails.
+/// `InvalidSink` if the slice is too short: it holds the first bytes of the encoding then. `UnsupportedValue` if the
+/// value can't be written: the slice is unchanged then. `OutOfMemory` if an allocation fails.
 ///
-/// After `OutOfMemory` the slice may hold a beginning of the encoding, if the value's type allocates after it began to write.
-/// Plain values, lists, structs, tuples and application tags never do.
+/// After `OutOfMemory` the slice may hold a beginning of the encoding, if the value's type allocates after it began to
+/// write. Plain values, lists, structs, tuples and application tags never do.
 pub fn to_bytes<T: Serialize>(alloc: Global, value: &T, buf: &mut [u8]) -> Result<usize>
     ensures ok { IfOk result (λ n. Overwrites (T.meaning value.now) buf.old n buf.new) }
     ensures fits { OnOk result (length (der (T.meaning value.now)) ≤ length buf.old) }
@@ -31,11 +32,11 @@ pub fn to_bytes<T: Serialize>(alloc: Global, value: &T, buf: &mut [u8]) -> Resul
     outcome
 }
 
-/// Writes the canonical encoding of a value over the first bytes of a vector, and returns its length in bytes. The vector grows
-/// if it is shorter, and bytes past the encoding stay.
+/// Writes the canonical encoding of a value over the first bytes of a vector, and returns its length in bytes. The
+/// vector grows if it is shorter, and bytes past the encoding stay.
 ///
-/// `OutOfMemory` if an allocation fails: the vector may hold a beginning of the encoding then. `UnsupportedValue` if the value
-/// can't be written: the vector is unchanged then.
+/// `OutOfMemory` if an allocation fails: the vector may hold a beginning of the encoding then. `UnsupportedValue` if
+/// the value can't be written: the vector is unchanged then.
 pub fn to_byte_buf<T: Serialize>(alloc: Global, value: &T, buf: &mut Vec<u8>) -> Result<usize>
     ensures ok { IfOk result (λ n. Overwrites (T.meaning value.now) buf.old.items n buf.new.items) }
     ensures err { IfErr result (λ e. VecRefuses
@@ -51,8 +52,8 @@ pub fn to_byte_buf<T: Serialize>(alloc: Global, value: &T, buf: &mut Vec<u8>) ->
 
 /// The canonical encoding of a value, in a vector that may have room for more bytes.
 ///
-/// `OutOfMemory` if an allocation fails. `UnsupportedValue` if the value can't be written: a tag number in it is past 30, the
-/// tag of an `ImplicitList` isn't constructed, or the encoding is longer than `usize::MAX`.
+/// `OutOfMemory` if an allocation fails. `UnsupportedValue` if the value can't be written: a tag number in it is past
+/// 30, the tag of an `ImplicitList` isn't constructed, or the encoding is longer than `usize::MAX`.
 pub fn to_vec<T: Serialize>(alloc: Global, value: &T) -> Result<Vec<u8>>
     ensures ok { IfOk result (λ bytes. bytes.items ≡ der (T.meaning value.now)) }
     ensures writable { OnOk result (IsWritable (T.meaning value.now)) }
@@ -77,13 +78,15 @@ pub fn to_vec<T: Serialize>(alloc: Global, value: &T) -> Result<Vec<u8>>
     Ok(levels.into_content())
 }
 
-/// Writes the canonical encoding of a value to a writer, after what was written before, and returns its length in bytes.
+/// Writes the canonical encoding of a value to a writer, after what was written before, and returns its length in
+/// bytes.
 ///
-/// `UnsupportedValue` if the value can't be written: nothing is written then. If the writer fails, the error is the writer's: a
-/// beginning of the encoding is written then, and at least one byte is missing. `OutOfMemory` if an allocation fails.
+/// `UnsupportedValue` if the value can't be written: nothing is written then. If the writer fails, the error is the
+/// writer's: a beginning of the encoding is written then, and at least one byte is missing. `OutOfMemory` if an
+/// allocation fails.
 ///
-/// After `OutOfMemory` a beginning of the encoding may be written, if the value's type allocates after it began to write. Plain
-/// values, lists, structs, tuples and application tags never do.
+/// After `OutOfMemory` a beginning of the encoding may be written, if the value's type allocates after it began to
+/// write. Plain values, lists, structs, tuples and application tags never do.
 pub fn to_writer<T: Serialize, W: WriteExt>(
     alloc: Global,
     value: &T,

@@ -8,14 +8,15 @@ ghost use Rattle.picky_der_core.specs.OpenWrappers.{under};
 ghost use Rattle.picky_der_core.specs.Primitive.{Primitive};
 ghost use Rattle.picky_der_core.specs.Tree.{Tree};
 ghost use Rattle.picky_der_core.specs.Wrapper.{HasTagNumber};
-ghost use Rattle.picky_der_ser.specs.Headers.{is_set, tree_of, wrapper_opening, own_header, headers, joint_header, innermost_joint_header, HasNumber, CanAllBeOpen};
+ghost use Rattle.picky_der_ser.specs.Headers.{is_set, tree_of, wrapper_opening, own_header, headers, joint_header};
+ghost use Rattle.picky_der_ser.specs.Headers.{innermost_joint_header, HasNumber, CanAllBeOpen};
 
 use picky_der_core::asn1::{Tag, Wrapper};
 use picky_der_core::misc::Length;
 use std::alloc::AllocError;
 
-/// The header of a content that is being written. Directly under an implicit tag the header of a plain value is left out, and
-/// that of an application tag is kept.
+/// The header of a content that is being written. Directly under an implicit tag the header of a plain value is left
+/// out, and that of an application tag is kept.
 #[derive(Debug, Clone, Copy, PartialEq, Eq)]
 pub enum Header {
     /// The header of a plain value, as a sequence, with this tag.
@@ -154,8 +155,8 @@ fn innermost_joined(around: &[Wrapper], header: &Header) -> Option<Header>
     }
 }
 
-// The identifier byte before a content of `len` bytes, if nothing but this byte and a length of one byte is before it (X.690,
-// 8.1.3.4). Nearly always it is so.
+// The identifier byte before a content of `len` bytes, if nothing but this byte and a length of one byte is before it
+// (X.690, 8.1.3.4). Nearly always it is so.
 pub(crate) fn short_identifier(around: &[Wrapper], header: &Header, len: usize) -> Option<u8>
     requires { HasNumber header.now }
     ensures header { IfSome result (λ identifier.
@@ -173,8 +174,8 @@ pub(crate) fn short_identifier(around: &[Wrapper], header: &Header, len: usize) 
     }
 }
 
-// Writes the header of the content from `start` on into the room from `at` to `start`, if it is a short one that fits exactly.
-// Else nothing is done.
+// Writes the header of the content from `start` on into the room from `at` to `start`, if it is a short one that fits
+// exactly. Else nothing is done.
 #[inline(always)]
 pub(crate) fn fill_short(
     out: &mut Vec<u8>,

@@ -10,8 +10,8 @@ use crate::header::{fill_short, push_headers};
 use picky_der_core::asn1::Wrapper;
 use std::alloc::AllocError;
 
-// Moves the last bytes before the others. Headers mostly grow by one byte or two. A turn by one byte is one move of memory. Two
-// of them are faster than one turn by two, which clears a buffer of its own first.
+// Moves the last bytes before the others. Headers mostly grow by one byte or two. A turn by one byte is one move of
+// memory. Two of them are faster than one turn by two, which clears a buffer of its own first.
 #[tactic(auto, using(crate::proofs::Brought::turn))]
 fn turn(bytes: &mut [u8], count: usize)
     requires { count ≤ length bytes.old }
@@ -99,8 +99,8 @@ fn narrow_room(out: &mut Vec<u8>, at: usize, start: usize, size: usize) -> usize
     size
 }
 
-// Puts the headers of the content from `start` on before it. The first of them go into the room from `at` to `start`, so the
-// content moves only if they are longer, or shorter.
+// Puts the headers of the content from `start` on before it. The first of them go into the room from `at` to `start`,
+// so the content moves only if they are longer, or shorter.
 #[cold]
 #[inline(never)]
 fn enclose_nested(
@@ -126,8 +126,8 @@ fn enclose_nested(
     Ok(())
 }
 
-// Puts the headers of the content from `start` on before it, into the room from `at` to `start`. One header with a short
-// length mostly fills it exactly.
+// Puts the headers of the content from `start` on before it, into the room from `at` to `start`. One header with a
+// short length mostly fills it exactly.
 #[inline(always)]
 pub(crate) fn enclose(
     out: &mut Vec<u8>,

@@ -11,8 +11,8 @@ use picky_der_core::misc::Length;
 // A content of at least this many bytes is a long one.
 const LONG: usize = 4_096;
 
-// Widens the room of this mark for the header that it has once `more` bytes have come. The content ends at `end` and has moved
-// by `moved` bytes. Returns the number of bytes by which the room was widened.
+// Widens the room of this mark for the header that it has once `more` bytes have come. The content ends at `end` and
+// has moved by `moved` bytes. Returns the number of bytes by which the room was widened.
 fn widen_room(out: &mut Vec<u8>, mark: &Mark, moved: usize, end: usize, more: usize) -> usize
     requires room { mark.now.at ≤ mark.now.start }
     requires content { mark.now.start ≤ end }
@@ -38,8 +38,8 @@ fn widen_room(out: &mut Vec<u8>, mark: &Mark, moved: usize, end: usize, more: us
     }
 }
 
-// Widens the rooms before the contents that end at `end`, the outermost first, since `more` bytes will be added. Returns by how
-// many bytes the bytes from `end` on have moved. If an allocation fails, a room stays as it was.
+// Widens the rooms before the contents that end at `end`, the outermost first, since `more` bytes will be added.
+// Returns by how many bytes the bytes from `end` on have moved. If an allocation fails, a room stays as it was.
 fn widen_all(out: &mut Vec<u8>, marks: &mut Marks, end: usize, more: usize) -> usize
     requires rooms { AreRooms marks.old.marks end }
     requires within { end ≤ vec_len out.old }
@@ -66,8 +66,8 @@ fn widen_all(out: &mut Vec<u8>, marks: &mut Marks, end: usize, more: usize) -> u
     moved + wider
 }
 
-// Widens the rooms of all levels for a content of `len` bytes that comes, if it is a long one. The levels mostly hold few bytes
-// by now. So these are moved, and not the long content, which would move once in each level.
+// Widens the rooms of all levels for a content of `len` bytes that comes, if it is a long one. The levels mostly hold
+// few bytes by now. So these are moved, and not the long content, which would move once in each level.
 pub(crate) fn widen_rooms(out: &mut Vec<u8>, marks: &mut Marks, len: usize)
     requires rooms { AreRooms marks.old.marks (vec_len out.old) }
     requires fits { len < 2 ^ 63 }

@@ -6,7 +6,8 @@ ghost use Rattle.picky_der_core.specs.OpenWrappers.{under};
 ghost use Rattle.picky_der_core.specs.Encoding.{der};
 ghost use Rattle.picky_der_core.specs.Tree.{Tree};
 ghost use Rattle.picky_der_ser.specs.Headers.{tree_of, headers, HasNumber, CanBeOpen, CanAllBeOpen};
-ghost use Rattle.picky_der_ser.specs.State.{Level, root, with_bytes, at_next_member, in_order, final_content, EntersLevel, HasLevelNumbers};
+ghost use Rattle.picky_der_ser.specs.State.{Level, root, with_bytes, at_next_member, in_order, final_content};
+ghost use Rattle.picky_der_ser.specs.State.{EntersLevel, HasLevelNumbers};
 
 use crate::Header;
 use crate::header::{fill_short, push_few, push_headers, push_short};
@@ -19,16 +20,16 @@ use picky_der_core::asn1::{Tag, Wrapper};
 use std::alloc::{AllocError, Global};
 use std::marker::Model;
 
-// How many bytes are allocated first: at once by `to_vec`, and else when the first member of an outermost level comes. With so
-// many the vector grows once for most certificates, and never for a public key of RSA with 2048 bits.
+// How many bytes are allocated first: at once by `to_vec`, and else when the first member of an outermost level comes.
+// With so many the vector grows once for most certificates, and never for a public key of RSA with 2048 bits.
 pub(crate) const FIRST_ROOM: usize = 1_000;
 
-// How many bytes are allocated in addition to a content: the bytes of its own headers, and the bytes by which the headers
-// around it grow.
+// How many bytes are allocated in addition to a content: the bytes of its own headers, and the bytes by which the
+// headers around it grow.
 const SPARE_ROOM: usize = 128;
 
-// The contents of the levels are one after the other, the innermost last. The wrappers around them are too, and their seams.
-// The seams of a set say how many bytes of its content are before each member but the first.
+// The contents of the levels are one after the other, the innermost last. The wrappers around them are too, and their
+// seams. The seams of a set say how many bytes of its content are before each member but the first.
 //
 // Vectors in each mark would be copied and dropped with most levels too, which have no seams and are in no wrapper.
 //
@@ -75,8 +76,8 @@ impl Levels {
         }
     }
 
-    // Levels within one that is around all, in this vector, which has no bytes. Inlined, so that they are made in their final
-    // place.
+    // Levels within one that is around all, in this vector, which has no bytes. Inlined, so that they are made in their
+    // final place.
     #[inline(always)]
     pub(crate) fn new_in_root(alloc: Global, scratch: Vec<u8>) -> Levels
         requires { scratch.items ≡ [] }
@@ -91,7 +92,8 @@ impl Levels {
         }
     }
 
-    // Returns what is in the level of which a member was being written. Inlined, so that the levels aren't copied first.
+    // Returns what is in the level of which a member was being written. Inlined, so that the levels aren't copied
+    // first.
     #[inline(always)]
     pub(crate) fn into_content(self) -> Vec<u8>
         ensures { (l : Level) (ls : List Level) → self.inside ≡ l ∷ ls → result.items ≡ l.content }
@@ -211,8 +213,8 @@ impl Levels {
         Ok(())
     }
 
-    // From here on a member of the level that was opened last is written. The first member of all makes some bytes of room at
-    // once, so that small values need no other allocation.
+    // From here on a member of the level that was opened last is written. The first member of all makes some bytes of
+    // room at once, so that small values need no other allocation.
     #[cold]
     #[inline(never)]
     pub(crate) fn enter(&mut self) -> Result<(), AllocError>
@@ -256,8 +258,8 @@ impl Levels {
         self.pending = self.is_inside();
     }
 
-    // Adds an element with a length of one byte to the level of which a member is being written, if no wrapper is open, no level
-    // was opened in it, and there is room for the element. Else nothing is done.
+    // Adds an element with a length of one byte to the level of which a member is being written, if no wrapper is open,
+    // no level was opened in it, and there is room for the element. Else nothing is done.
     #[inline(always)]
     pub(crate) fn append_short(&mut self, tag: Tag, content: &[u8]) -> bool
         ensures inside { result ≡ true → self.old.inside ≢ [] }
@@ -282,8 +284,8 @@ impl Levels {
         true
     }
 
-    // Adds less than 128 bytes as they are to the level of which a member is being written, if no wrapper is open, no level was
-    // opened in it, and there is room for them. Else nothing is done.
+    // Adds less than 128 bytes as they are to the level of which a member is being written, if no wrapper is open, no
+    // level was opened in it, and there is room for them. Else nothing is done.
     #[inline(always)]
     pub(crate) fn append_few(&mut self, bytes: &[u8]) -> bool
         ensures inside { result ≡ true → self.old.inside ≢ [] }
@@ -306,8 +308,8 @@ impl Levels {
         true
     }
 
-    // Adds the encoding of a content under this header, in the open wrappers, to the level of which a member is being written.
-    // Returns the length of the encoding.
+    // Adds the encoding of a content under this header, in the open wrappers, to the level of which a member is being
+    // written. Returns the length of the encoding.
     pub(crate) fn append(&mut self, header: Header, content: &[u8]) -> Result<usize, AllocError>
         requires { HasNumber header }
         ensures numbers { CanAllBeOpen self.old.around }
@@ -371,8 +373,8 @@ impl Levels {
         Ok(())
     }
 
-    // Puts the headers of the level that was opened last before its content, and adds all this to the level around it. Returns
-    // the number of these bytes.
+    // Puts the headers of the level that was opened last before its content, and adds all this to the level around it.
+    // Returns the number of these bytes.
     #[inline(always)]
     pub(crate) fn merge(&mut self) -> Result<usize, AllocError>
         requires { IsSome self.old.pending }
@@ -399,8 +401,9 @@ impl Levels {
         Ok(self.scratch.len() - mark.at)
     }
 
-    // Ends the level that was opened last as `arrange` and `merge` do. This is for a level in another one, without seams or open
-    // wrappers, whose header fits the two bytes before it, as most do. Else it does nothing and returns `None`.
+    // Ends the level that was opened last as `arrange` and `merge` do. This is for a level in another one, without
+    // seams or open wrappers, whose header fits the two bytes before it, as most do. Else it does nothing and returns
+    // `None`.
     #[inline(always)]
     pub(crate) fn merge_short(&mut self) -> Option<usize>
         requires { IsSome self.old.pending }

@@ -7,8 +7,8 @@ use crate::Header;
 use std::alloc::{AllocError, Global};
 use std::marker::Model;
 
-// Where a level begins: the room for its headers, and after it its content. It also has the number of the seams of the levels
-// around it, and of the wrappers around them.
+// Where a level begins: the room for its headers, and after it its content. It also has the number of the seams of the
+// levels around it, and of the wrappers around them.
 #[derive(Clone, Copy)]
 pub(crate) struct Mark {
     pub(crate) at: usize,
@@ -40,7 +40,8 @@ pub(crate) struct Marks {
 }
 
 impl Model for Marks {
-    ghost use Rattle.std.specs.Prelude.{◌≡◌, ◌≤◌, ◌<◌, ◌+◌, ◌-◌, ◌++◌, [], reverse, take, length, vec_len, vec_capacity};
+    ghost use Rattle.std.specs.Prelude.{◌≡◌, ◌≤◌, ◌<◌, ◌+◌, ◌-◌, ◌++◌, [], reverse, take, length, vec_len};
+    ghost use Rattle.std.specs.Prelude.{vec_capacity};
     ghost use Rattle.picky_der_ser.specs.Marks.{KeptMarks, kept_marks_code};
 
     ghost Value = { KeptMarks };

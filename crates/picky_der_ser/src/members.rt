@@ -35,8 +35,8 @@ impl<T: Serialize> SerializeMember for T {
     }
 }
 
-/// An element of a tuple, as a member: a value of any type, written as it is. An absent one can't be read back, so the members
-/// of a struct that may be absent are `Optional`.
+/// An element of a tuple, as a member: a value of any type, written as it is. An absent one can't be read back, so the
+/// members of a struct that may be absent are `Optional`.
 #[derive(Debug, Drop, PartialEq, Eq)]
 pub struct Element<T>(pub T);
 
@@ -70,7 +70,8 @@ pub trait SerializeMembers {
         ensures err { IfErr result (λ e. RefusesToAddAll W.WriteExt.own (members self.now)
             (state_of sequence.old) e (state_of sequence.new)) };
 
-    /// Writes the members as a sequence. It is the whole body of `Serialize::serialize` of a struct, and has its errors.
+    /// Writes the members as a sequence. It is the whole body of `Serialize::serialize` of a struct, and has its
+    /// errors.
     fn serialize_sequence<W: WriteExt>(&self, ser: &mut Serializer<W>) -> Result<usize>
         ensures wrote { IfOk result (λ n. Writes W.WriteExt.own
             (Tree.list ListKind.sequence (members self.now)) ser.old n ser.new) }

@@ -7,7 +7,8 @@ ghost use Rattle.picky_der_ser.specs.Seams.{cut_at_seams, AreSeams, last_seam, n
 use crate::Header;
 use std::alloc::{AllocError, Global};
 
-// Keeps where the next member of a set begins, after `held` bytes of other members. If an allocation fails nothing changes.
+// Keeps where the next member of a set begins, after `held` bytes of other members. If an allocation fails nothing
+// changes.
 pub(crate) fn begin_member(
     seams: &mut Vec<usize>,
     header: Header,
@@ -51,8 +52,8 @@ fn sorted_content(content: &[u8], seams: &[usize], alloc: Global) -> Result<Vec<
     members.concat(alloc)
 }
 
-// Sorts the members from `start` on in ascending order. Most lists have no seam and don't come here, so this function isn't
-// inlined.
+// Sorts the members from `start` on in ascending order. Most lists have no seam and don't come here, so this function
+// isn't inlined.
 #[inline(never)]
 pub(crate) fn arrange(
     out: &mut Vec<u8>,

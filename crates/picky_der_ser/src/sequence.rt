@@ -8,8 +8,8 @@ use picky_der_core::Result;
 use picky_der_core::asn1::Tag;
 use picky_der_core::misc::WriteExt;
 
-/// A sequence or a set that is being written. If it is dropped without `end`, it writes nothing, and the wrappers that were
-/// open when it began are dropped.
+/// A sequence or a set that is being written. If it is dropped without `end`, it writes nothing, and the wrappers that
+/// were open when it began are dropped.
 #[derive(Drop)]
 pub struct Sequence<'a, W: WriteExt> {
     pub(crate) ser: &'a mut Serializer<W>,
@@ -34,8 +34,8 @@ impl<'a, W: WriteExt> Sequence<'a, W> {
 
     /// Adds a member, in no wrapper but its own.
     ///
-    /// If the serializer has failed before, its earlier error is returned. `UnsupportedValue` if the member can't be written,
-    /// and `OutOfMemory` if an allocation fails. Nothing is written to the sink.
+    /// If the serializer has failed before, its earlier error is returned. `UnsupportedValue` if the member can't be
+    /// written, and `OutOfMemory` if an allocation fails. Nothing is written to the sink.
     pub fn serialize_element<T: Serialize>(&mut self, value: &T) -> Result<()>
         ensures same_reference { borrowed_by self.new ≡ borrowed_by self.old }
         ensures added { OnOk result (AddsMember W.WriteExt.own (T.meaning value.now)
@@ -57,12 +57,12 @@ impl<'a, W: WriteExt> Sequence<'a, W> {
         self.serialize_element(value)
     }
 
-    /// Writes the members in the wrappers that were open when the sequence began. Returns how many bytes were written, with the
-    /// header and the wrappers. The members of a set are written in ascending order of their encodings, each as often as it was
-    /// added (X.690, 11.6).
+    /// Writes the members in the wrappers that were open when the sequence began. Returns how many bytes were written,
+    /// with the header and the wrappers. The members of a set are written in ascending order of their encodings, each
+    /// as often as it was added (X.690, 11.6).
     ///
-    /// If the serializer has failed before, its earlier error is returned. `OutOfMemory` if an allocation fails; if it is the
-    /// allocation for the order of a set, nothing was written. Any other error is the sink's.
+    /// If the serializer has failed before, its earlier error is returned. `OutOfMemory` if an allocation fails; if it
+    /// is the allocation for the order of a set, nothing was written. Any other error is the sink's.
     pub fn end(self) -> Result<usize>
         ensures { EndsLevel W.WriteExt.own (state_of self.entry) result self.exit.0.now }
     {

@@ -26,12 +26,13 @@ pub trait Serialize {
     // The tree that the value means.
     ghost meaning: { Self → Tree };
 
-    /// Writes the value in the serializer's open wrappers, and closes them. Returns how many bytes were written, with those of
-    /// the wrappers.
+    /// Writes the value in the serializer's open wrappers, and closes them. Returns how many bytes were written, with
+    /// those of the wrappers.
     ///
-    /// `UnsupportedValue` if the value can't be written: nothing is written then. `OutOfMemory` if an allocation fails. Any
-    /// other error is the sink's. After an error of the sink, or `OutOfMemory`, a beginning of the encoding may be written. If
-    /// only an allocation failed, the plain values, lists and tuples of this library leave the sink unchanged (`untouched`).
+    /// `UnsupportedValue` if the value can't be written: nothing is written then. `OutOfMemory` if an allocation fails.
+    /// Any other error is the sink's. After an error of the sink, or `OutOfMemory`, a beginning of the encoding may be
+    /// written. If only an allocation failed, the plain values, lists and tuples of this library leave the sink
+    /// unchanged (`untouched`).
     ///
     /// An implementation returns the errors of the calls that it makes, and makes none of its own. After an error the
     /// serializer has failed with it.
@@ -44,14 +45,15 @@ pub trait Serialize {
         ensures continues { W.later ser.old.sink ser.new.sink };
 }
 
-/// Writes values to a sink. After an error it has failed: each later call returns an error of its kind and writes nothing.
+/// Writes values to a sink. After an error it has failed: each later call returns an error of its kind and writes
+/// nothing.
 ///
 /// A call that writes a value returns `UnsupportedValue` if the value can't be written. It returns `OutOfMemory` if an
-/// allocation fails; only wrappers, sequences and application tags allocate. Else the error is the sink's: `InvalidSink` if it
-/// accepts too few bytes, or the kind of its I/O error.
+/// allocation fails; only wrappers, sequences and application tags allocate. Else the error is the sink's:
+/// `InvalidSink` if it accepts too few bytes, or the kind of its I/O error.
 ///
-/// A beginning of the encoding may have been written before an error of the sink, or before an allocation failed in a type of
-/// your own. Else nothing was written.
+/// A beginning of the encoding may have been written before an error of the sink, or before an allocation failed in a
+/// type of your own. Else nothing was written.
 #[derive(Drop)]
 pub struct Serializer<W: WriteExt> {
     pub(crate) sink: W,

@@ -6,8 +6,8 @@ use picky_der_core::asn1::Wrapper;
 use std::alloc::{AllocError, Global};
 use std::marker::Model;
 
-// The wrappers around the levels are in front, the outermost first, and the open ones after them. So a level only keeps where
-// its own begin, and no wrapper is moved when it is opened.
+// The wrappers around the levels are in front, the outermost first, and the open ones after them. So a level only keeps
+// where its own begin, and no wrapper is moved when it is opened.
 #[derive(Drop)]
 pub(crate) struct Wrappers {
     all: Vec<Wrapper>,

@@ -23,7 +23,8 @@ pub(crate) trait Named: Deserialize {
         ensures err { IfErr result (RefusesNamed named de.old de.new) };
 
     // A value with the shape of the description means the same there.
-    ghost same_meaning: { (v : Self) → IsOf (description_of named).shape ((description_of named).meaning (described_as v))
+    ghost same_meaning: { (v : Self)
+        → IsOf (description_of named).shape ((description_of named).meaning (described_as v))
         → (description_of named).meaning (described_as v) ≡ Self.meaning v };
 }
 

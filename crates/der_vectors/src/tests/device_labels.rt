@@ -24,7 +24,8 @@ fn is_no_label(rt: &(impl Abort + AllocGlobal), encoding: &str, error: Asn1DerEr
     is_refused::<DeviceLabel>(rt, encoding, error);
 }
 
-// Countries of three letters and of one letter; serial numbers 65537 and -1; a letter in the article number; no contact.
+// Countries of three letters and of one letter; serial numbers 65537 and -1; a letter in the article number; no
+// contact.
 #[test]
 fn what_a_constraint_forbids_is_refused(rt: HostRuntime) {
     is_no_label(

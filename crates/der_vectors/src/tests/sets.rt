@@ -40,8 +40,8 @@ fn set_of(rt: &(impl Abort + AllocGlobal), header: &str, members: &[u16]) -> Vec
     bytes
 }
 
-// A set whose members are given in this order is written as the ascending one. It is read only if it is in ascending order. Otherwise it is
-// refused after the first member that is less than the one before it.
+// A set whose members are given in this order is written as the ascending one. It is read only if it is in ascending
+// order. Otherwise it is refused after the first member that is less than the one before it.
 fn goes_there_and_back(
     rt: &(impl Abort + AllocGlobal),
     header: &str,

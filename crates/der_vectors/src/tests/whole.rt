@@ -40,8 +40,9 @@ fn a_whole_input_is_one_value(rt: HostRuntime) {
     same!(rt; from_der(rt.alloc(), bytes), Ok(128u8));
 }
 
-// The position is what is read before the error: the tag for a wrong tag, the length for one that reaches past the end, and the content
-// for one that isn't canonical. Bytes after the value, and a choice whose tag is only looked at, are not read.
+// The position is what is read before the error: the tag for a wrong tag, the length for one that reaches past the end,
+// and the content for one that isn't canonical. Bytes after the value, and a choice whose tag is only looked at, are
+// not read.
 #[test]
 fn a_refusal_says_where_it_came(rt: HostRuntime) {
     is_no_number(&rt, "", TruncatedData, 0);

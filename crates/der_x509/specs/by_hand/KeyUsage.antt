@@ -5,7 +5,10 @@ use Rattle.der_types.specs.BitString.{bits_of}
 use Rattle.der_types.specs.contracts.generated.named_bits.NamedBitsContents.TheImpl as named_bits
 use Rattle.der_x509.specs.declared.pkix1_implicit88.KeyUsage.{KeyUsage}
 use Rattle.der_x509.specs.declared.by_hand.key_usage_flag.KeyUsageFlag.{KeyUsageFlag}
-use Rattle.der_x509.specs.declared.by_hand.key_usage_flag.KeyUsageFlag.TheVariants.{DigitalSignature, ContentCommitment, KeyEncipherment, DataEncipherment, KeyAgreement, KeyCertSign, CrlSign, EncipherOnly, DecipherOnly}
+use Rattle.der_x509.specs.declared.by_hand.key_usage_flag.KeyUsageFlag.TheVariants.{DigitalSignature, ContentCommitment}
+use Rattle.der_x509.specs.declared.by_hand.key_usage_flag.KeyUsageFlag.TheVariants.{KeyEncipherment, DataEncipherment}
+use Rattle.der_x509.specs.declared.by_hand.key_usage_flag.KeyUsageFlag.TheVariants.{KeyAgreement, KeyCertSign, CrlSign}
+use Rattle.der_x509.specs.declared.by_hand.key_usage_flag.KeyUsageFlag.TheVariants.{EncipherOnly, DecipherOnly}
 
 abbrev pub flag_number : KeyUsageFlag → ℕ
 flag_number DigitalSignature = 0
@@ -28,4 +31,6 @@ is_listed flags flag = list_any (λ one. flag_number one == flag_number flag) fl
 
 -- the bit of each flag, in order
 abbrev pub flag_bits : List KeyUsageFlag → List Bool
-flag_bits flags = map (is_listed flags) (DigitalSignature ∷ ContentCommitment ∷ KeyEncipherment ∷ DataEncipherment ∷ KeyAgreement ∷ KeyCertSign ∷ CrlSign ∷ EncipherOnly ∷ DecipherOnly ∷ [])
+flag_bits flags =
+    map (is_listed flags) (DigitalSignature ∷ ContentCommitment ∷ KeyEncipherment ∷ DataEncipherment ∷ KeyAgreement
+    ∷ KeyCertSign ∷ CrlSign ∷ EncipherOnly ∷ DecipherOnly ∷ [])

@@ -45,7 +45,8 @@ impl KeyUsageFlag {
 }
 
 impl KeyUsage {
-    /// Returns the set of these flags. Their order doesn't matter, and a flag may occur twice. `OutOfMemory` if the allocation fails.
+    /// Returns the set of these flags. Their order doesn't matter, and a flag may occur twice. `OutOfMemory` if the
+    /// allocation fails.
     pub fn from_flags(alloc: Global, flags: &[KeyUsageFlag]) -> Result<KeyUsage>
         ensures flags { IfOk result (λ it. (flag : KeyUsageFlag)
             → has_flag it flag ≡ is_listed flags.now flag) }

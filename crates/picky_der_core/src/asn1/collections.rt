@@ -26,8 +26,8 @@ impl<T> From<Vec<T>> for Asn1SequenceOf<T> {
     }
 }
 
-/// A SET OF (X.690, 8.12): values of one type. They keep the order in which they are given. They are written in ascending order
-/// of their encodings (11.6).
+/// A SET OF (X.690, 8.12): values of one type. They keep the order in which they are given. They are written in
+/// ascending order of their encodings (11.6).
 #[derive(Debug, Clone, Drop, PartialEq, Eq)]
 pub struct Asn1SetOf<T>(pub Vec<T>);
 

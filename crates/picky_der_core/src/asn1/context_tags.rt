@@ -25,8 +25,8 @@ impl<T, const N: u8> From<T> for ExplicitContextTag<T, N> {
     }
 }
 
-/// A value under the implicit context tag with the number `N`, at most 30. The tag `80+N` is in place of the header of a plain
-/// value or of a list, and around the encoding of any other.
+/// A value under the implicit context tag with the number `N`, at most 30. The tag `80+N` is in place of the header of
+/// a plain value or of a list, and around the encoding of any other.
 ///
 /// X.690 (8.14) has `A0+N` over a list. This type follows the Rust crate there; `ImplicitList` writes and reads `A0+N`.
 #[derive(Debug, Clone, Drop, PartialEq, Eq)]

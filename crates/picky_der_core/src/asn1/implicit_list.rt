@@ -3,14 +3,14 @@ ghost use Rattle.std.specs.Prelude.{◌≡◌, IfOk, IfErr};
 
 use crate::{Asn1DerError, Result};
 
-/// A SEQUENCE or SET, of fixed members or of many, under the tag `TAG` in place of its own tag 30 or 31. This is an implicit
-/// tag by X.690, 8.14: `A0+n` is the context tag n, and `60+n` the application tag n.
+/// A SEQUENCE or SET, of fixed members or of many, under the tag `TAG` in place of its own tag 30 or 31. This is an
+/// implicit tag by X.690, 8.14: `A0+n` is the context tag n, and `60+n` the application tag n.
 ///
-/// `TAG` is a whole identifier byte. It has to be constructed (bit 6 is set) with a number of at most 30. Else writing and
-/// reading return `UnsupportedValue`.
+/// `TAG` is a whole identifier byte. It has to be constructed (bit 6 is set) with a number of at most 30. Else writing
+/// and reading return `UnsupportedValue`.
 ///
-/// `ImplicitContextTag` writes `80+n` over everything, also over a list, as the Rust crate does. The structures of standards
-/// need this type instead.
+/// `ImplicitContextTag` writes `80+n` over everything, also over a list, as the Rust crate does. The structures of
+/// standards need this type instead.
 #[derive(Debug, Clone, Drop, PartialEq, Eq)]
 pub struct ImplicitList<T, const TAG: u8>(pub T);
 
@@ -49,6 +49,6 @@ pub type ImplicitList6<T> = ImplicitList<T, 0xA6>;
 /// A list under the implicit context tag 7, `A7`.
 pub type ImplicitList7<T> = ImplicitList<T, 0xA7>;
 
-/// A SET OF whose members are read in any order and written in that order. It is for data that isn't DER, since X.690 (11.6)
-/// requires ascending order. `Asn1SetOf` writes ascending order, and refuses any other.
+/// A SET OF whose members are read in any order and written in that order. It is for data that isn't DER, since X.690
+/// (11.6) requires ascending order. `Asn1SetOf` writes ascending order, and refuses any other.
 pub type SetOfAsGiven<T> = ImplicitList<Vec<T>, 0x31>;

@@ -19,8 +19,8 @@ pub enum TagClass {
 
 /// An identifier byte: the class, whether it is constructed, and a number (X.690, 8.1.2).
 ///
-/// The number is at most 30. 31, all five bits set, announces the long form, which isn't supported: writing or reading such a
-/// tag returns `UnsupportedValue`.
+/// The number is at most 30. 31, all five bits set, announces the long form, which isn't supported: writing or reading
+/// such a tag returns `UnsupportedValue`.
 #[derive(Debug, Clone, Copy, PartialEq, Eq)]
 pub struct Tag(u8);
 

@@ -3,8 +3,8 @@ ghost use Rattle.std.specs.Prelude.{◌≡◌, IfOk, IfErr};
 
 use crate::{Asn1DerError, Result};
 
-/// A content under the tag byte `TAG`. The content isn't checked. Whoever makes a value of a type below has to give it bytes
-/// that are a content of that type.
+/// A content under the tag byte `TAG`. The content isn't checked. Whoever makes a value of a type below has to give it
+/// bytes that are a content of that type.
 #[derive(Debug, Clone, Drop, PartialEq, Eq)]
 pub struct TaggedBytes<const TAG: u8>(pub Vec<u8>);
 

@@ -1,4 +1,5 @@
-//! What a copy of a value of a type of this crate is, by `Clone`: each law is the contract of a function that does nothing.
+//! What a copy of a value of a type of this crate is, by `Clone`: each law is the contract of a function that does
+//! nothing.
 ghost use Rattle.std.specs.List.{AllZip};
 ghost use Rattle.picky_der_core.specs.Equality.{IsKept, IsCopied};
 

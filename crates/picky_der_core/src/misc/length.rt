@@ -13,18 +13,18 @@ use super::{ReadExt, WriteExt};
 use crate::{Asn1DerError, Result};
 use arrayvec::ArrayVec;
 
-/// The length of a content in canonical DER (X.690, 8.1.3 and 10.1): one byte below 128. Else a byte `80+k` and the `k` bytes
-/// of the number, as few as possible.
+/// The length of a content in canonical DER (X.690, 8.1.3 and 10.1): one byte below 128. Else a byte `80+k` and the `k`
+/// bytes of the number, as few as possible.
 pub struct Length;
 
 impl Length {
     /// Reads a length and returns it, in bytes.
     ///
-    /// `TruncatedData` if a byte is missing. `InvalidData` for `80`, for a first length byte 00, and for a number below 128 in
-    /// the long form. `UnsupportedValue` for a first byte past `88`. Any other error is the reader's.
+    /// `TruncatedData` if a byte is missing. `InvalidData` for `80`, for a first length byte 00, and for a number below
+    /// 128 in the long form. `UnsupportedValue` for a first byte past `88`. Any other error is the reader's.
     ///
-    /// If the first byte announces no length, only this byte is consumed. Else all length bytes are consumed before they are
-    /// refused.
+    /// If the first byte announces no length, only this byte is consumed. Else all length bytes are consumed before
+    /// they are refused.
     pub fn deserialized<R: ReadExt>(reader: &mut R) -> Result<usize>
         ensures ok { IfOk result (λ n. Consumes (R.remaining reader.old) (R.remaining reader.new)
             (length_octets n)) }
@@ -55,8 +55,8 @@ impl Length {
         Length::shortest(count, len)
     }
 
-    /// Writes a length, and returns how many bytes were written. After an error of the writer only a beginning was written, and
-    /// at least one byte is missing.
+    /// Writes a length, and returns how many bytes were written. After an error of the writer only a beginning was
+    /// written, and at least one byte is missing.
     pub fn serialize<W: WriteExt>(len: usize, writer: &mut W) -> Result<usize>
         ensures count { IfOk result (λ n. n ≡ length (length_octets len)) }
         ensures appends { OnOk result (Appends (W.written writer.old) (W.written writer.new)

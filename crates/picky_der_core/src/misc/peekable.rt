@@ -1,10 +1,12 @@
 //! A reader whose next byte can be looked at.
-ghost use Rattle.std.specs.Prelude.{◌≡◌, ◌+◌, ◌<◌, ◌≤◌, ◌^◌, ◌∷◌, [], false, length, drop, Ok, None, Some, IfNone, IfSome, IfOk};
+ghost use Rattle.std.specs.Prelude.{◌≡◌, ◌+◌, ◌<◌, ◌≤◌, ◌^◌, ◌∷◌, [], false, length, drop, Ok, None, Some, IfNone};
+ghost use Rattle.std.specs.Prelude.{IfSome, IfOk};
 ghost use Rattle.std.specs.Prelude.{OnOk, IfErr, OnErr};
 ghost use Rattle.std.specs.Io.KnownBytes.{Consumes, Keeps, IsAtEnd, ReadConsumes};
 ghost use Rattle.std.specs.Io.{ReadsAtMost, StartsWith};
 ghost use Rattle.picky_der_core.specs.Reader.{GivesByte, GivesNext, ConsumesFirst, CountsFault, FailsOnce};
-ghost use Rattle.picky_der_core.specs.Peeking.{prepend, left_in, shown_by, IsFirstIn, IsByteIfAny, count_of_any, position_after};
+ghost use Rattle.picky_der_core.specs.Peeking.{prepend, left_in, shown_by, IsFirstIn, IsByteIfAny, count_of_any};
+ghost use Rattle.picky_der_core.specs.Peeking.{position_after};
 
 use super::ReadExt;
 use std::io;
@@ -48,8 +50,8 @@ impl<R: ReadExt> PeekableReader<R> {
         }
     }
 
-    /// The next byte without consuming it, or `None` at the end of the input. A byte in `ahead` of the inner reader stays
-    /// there. If a byte was peeked already, the inner reader isn't called. Each error is the inner reader's.
+    /// The next byte without consuming it, or `None` at the end of the input. A byte in `ahead` of the inner reader
+    /// stays there. If a byte was peeked already, the inner reader isn't called. Each error is the inner reader's.
     pub fn peek_next(&mut self) -> io::Result<Option<u8>>
         ensures again { IfSome self.old.peeked
             (λ b. (result ≡ Ok (Some b)) × (self.new ≡ self.old)) }
@@ -78,8 +80,8 @@ impl<R: ReadExt> PeekableReader<R> {
         Ok(self.peeked)
     }
 
-    /// The next byte without consuming it. At the end of the input the error is of kind `UnexpectedEof`; any other error is the
-    /// inner reader's. If a byte was peeked already, the inner reader isn't called.
+    /// The next byte without consuming it. At the end of the input the error is of kind `UnexpectedEof`; any other
+    /// error is the inner reader's. If a byte was peeked already, the inner reader isn't called.
     pub fn peek_one(&mut self) -> io::Result<u8>
         ensures again { IfSome self.old.peeked (λ b. (result ≡ Ok b) × (self.new ≡ self.old)) }
         ensures ok { IfOk result (λ b. self.new.peeked ≡ Some b) }
@@ -106,7 +108,8 @@ impl<R: ReadExt> PeekableReader<R> {
         let _ = &self.reader;
     }
 
-    /// The number of bytes that were consumed. A peeked byte isn't counted. The number stays at `usize::MAX` once it is there.
+    /// The number of bytes that were consumed. A peeked byte isn't counted. The number stays at `usize::MAX` once it is
+    /// there.
     pub fn pos(&self) -> usize
         ensures { result ≡ self.now.pos }
     {
@@ -173,8 +176,8 @@ impl<R: ReadExt> PeekableReader<R> {
     }
 }
 
-/// While a byte is peeked, a read returns this byte alone and doesn't call the inner reader. With an empty buffer nothing is
-/// consumed.
+/// While a byte is peeked, a read returns this byte alone and doesn't call the inner reader. With an empty buffer
+/// nothing is consumed.
 impl<R: ReadExt> Read for PeekableReader<R> {
     ghost remaining = { λ p. left_in R.remaining p };
 

@@ -19,8 +19,8 @@ pub trait ReadExt: Read {
     // How many bytes it shows.
     ghost shown: { Self → ℕ };
 
-    /// Consumes the next byte and returns it, or returns `None` at the end of the input. Each error is the reader's, and
-    /// consumes no byte.
+    /// Consumes the next byte and returns it, or returns `None` at the end of the input. Each error is the reader's,
+    /// and consumes no byte.
     fn read_next(&mut self) -> io::Result<Option<u8>>
         ensures byte { GivesNext (Self.remaining self.old) (Self.remaining self.new) result }
         ensures fault { IfErr result (FailsOnce (faults self.old) (faults self.new)
@@ -28,8 +28,8 @@ pub trait ReadExt: Read {
         ensures no_fault { OnOk result (faults self.new ≡ faults self.old) }
         ensures same_references { references self.new ≡ references self.old };
 
-    /// Fills the front of the buffer with the next bytes, and returns their number: as many as one read gives. It is 0 only if
-    /// the buffer is empty or at the end of the input. Each error is the reader's, and consumes no byte.
+    /// Fills the front of the buffer with the next bytes, and returns their number: as many as one read gives. It is 0
+    /// only if the buffer is empty or at the end of the input. Each error is the reader's, and consumes no byte.
     fn read_some(&mut self, buf: &mut [u8]) -> io::Result<usize>
         ensures bound { ReadsAtMost result buf.new }
         ensures bytes { ReadConsumes (Self.remaining self.old)
@@ -39,8 +39,8 @@ pub trait ReadExt: Read {
         ensures no_fault { OnOk result (faults self.new ≡ faults self.old) }
         ensures same_references { references self.new ≡ references self.old };
 
-    /// The next bytes that are in memory already, so that no I/O is needed to read them. It may be empty before the end of the
-    /// input. It is empty unless the reader's bytes are known to contracts.
+    /// The next bytes that are in memory already, so that no I/O is needed to read them. It may be empty before the end
+    /// of the input. It is empty unless the reader's bytes are known to contracts.
     fn ahead(&self) -> &[u8]
         ensures front { IfSome (Self.remaining self.now) (λ bytes. StartsWith bytes result.now) }
         ensures size { length result.now ≡ shown self.now }
@@ -53,8 +53,8 @@ pub trait ReadExt: Read {
         ensures no_fault { faults self.new ≡ faults self.old }
         ensures same_references { references self.new ≡ references self.old };
 
-    /// Consumes the next byte and returns it. At the end of the input the error is of kind `UnexpectedEof`; any other error is
-    /// the reader's.
+    /// Consumes the next byte and returns it. At the end of the input the error is of kind `UnexpectedEof`; any other
+    /// error is the reader's.
     fn read_one(&mut self) -> io::Result<u8>
         ensures byte { GivesByte (Self.remaining self.old) (Self.remaining self.new) result }
         ensures fault { CountsFault (Self.remaining self.old) (Self.remaining self.new)

@@ -108,7 +108,8 @@ impl Write for SliceSink<'_> {
     }
 }
 
-/// An exact write also accepts as many bytes as there is room for. If this isn't all of them, the error is of kind `WriteZero`.
+/// An exact write also accepts as many bytes as there is room for. If this isn't all of them, the error is of kind
+/// `WriteZero`.
 impl WriteExt for SliceSink<'_> {
     ghost use Rattle.picky_der_core.specs.SliceSink.{slice_of, filled_of, room_of, written_of, faults_of, IsLater};
 

@@ -13,8 +13,8 @@ use std::io;
 use std::io::{Error, ErrorKind, Read, Write};
 use std::marker::Model;
 
-/// Any reader or writer, as a file or a pipe. Its bytes are known as far as the inner one's are. Each of its I/O errors is
-/// known to contracts, with its kind.
+/// Any reader or writer, as a file or a pipe. Its bytes are known as far as the inner one's are. Each of its I/O errors
+/// is known to contracts, with its kind.
 #[derive(Drop)]
 pub struct Watched<T> {
     inner: T,

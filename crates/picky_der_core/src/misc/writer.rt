@@ -23,9 +23,9 @@ pub trait WriteExt: Write {
     // The second is the first at a later time: what it borrows and what lies past its bytes is the same.
     ghost later: { Self → Self → Type 0 };
 
-    /// Writes all of the bytes, and returns their number. After an error a beginning of them was written, and at least one is
-    /// missing. If the writer accepts no byte, the error is of kind `WriteZero`. Without bytes nothing is written, and it never
-    /// fails.
+    /// Writes all of the bytes, and returns their number. After an error a beginning of them was written, and at least
+    /// one is missing. If the writer accepts no byte, the error is of kind `WriteZero`. Without bytes nothing is
+    /// written, and it never fails.
     fn write_exact(&mut self, bytes: &[u8]) -> io::Result<usize>
         ensures count { IfOk result (λ n. n ≡ length bytes.now) }
         ensures appends { OnOk result (Appends (written self.old) (written self.new) bytes.now) }

@@ -1,5 +1,5 @@
-//! Reads of bytes that the reader has ahead, each in one step. If they aren't all there, nothing is consumed and the caller
-//! reads them one by one. So the only error here is `OutOfMemory`.
+//! Reads of bytes that the reader has ahead, each in one step. If they aren't all there, nothing is consumed and the
+//! caller reads them one by one. So the only error here is `OutOfMemory`.
 ghost use Rattle.std.specs.Prelude.{◌≡◌, ◌+◌, ◌≤◌, ◌<◌, ◌^◌, ◌∷◌, length, true, None, IfNone, IfSome, IfOk};
 ghost use Rattle.std.specs.Prelude.{IfErr, OnOk};
 ghost use Rattle.picky_der_core.specs.Element.{length_octets, IsPrefix, AreBytes};
@@ -18,8 +18,8 @@ use picky_der_core::misc::{Length, PeekableReader, ReadExt};
 use picky_der_core::{Asn1DerError, Result};
 use std::alloc::{AllocError, Global};
 
-// The length at the front of these bytes, and the number of its bytes. `None` if none is there, or if it has more than three
-// bytes.
+// The length at the front of these bytes, and the number of its bytes. `None` if none is there, or if it has more than
+// three bytes.
 fn length_at_front(bytes: &[u8]) -> Option<(usize, usize)>
     ensures is { IfSome result (λ r. IsPrefix (length_octets r.0) bytes.now) }
     ensures size { IfSome result (λ r. r.1 ≡ length (length_octets r.0)) }
@@ -41,8 +41,8 @@ fn length_at_front(bytes: &[u8]) -> Option<(usize, usize)>
     None
 }
 
-// For the element with this tag at the front of these bytes: the length of its content, and of its header. `None` if it isn't
-// there whole, or if its length has more than three bytes.
+// For the element with this tag at the front of these bytes: the length of its content, and of its header. `None` if it
+// isn't there whole, or if its length has more than three bytes.
 fn headed_at_front(bytes: &[u8], tag: Tag) -> Option<(usize, usize)>
     ensures is { IfSome result (λ h. IsPrefix (tag ∷ length_octets h.0) bytes.now) }
     ensures size { IfSome result (λ h. h.1 ≡ length (tag ∷ length_octets h.0)) }
@@ -58,8 +58,8 @@ fn headed_at_front(bytes: &[u8], tag: Tag) -> Option<(usize, usize)>
     Some((len, digits + 1))
 }
 
-// The content of the element with this tag at the front of these bytes. `None` if the element isn't there whole, or if its
-// length has more than one byte.
+// The content of the element with this tag at the front of these bytes. `None` if the element isn't there whole, or if
+// its length has more than one byte.
 pub(super) fn short_at_front(bytes: &[u8], tag: Tag) -> Option<&[u8]>
     ensures is { IfSome result (λ content. IsPrefix (tag ∷ (length content.now ∷ content.now)) bytes.now) }
     ensures short { IfSome result (λ content. length content.now < 128) }
@@ -75,8 +75,8 @@ pub(super) fn short_at_front(bytes: &[u8], tag: Tag) -> Option<&[u8]>
     Some(&bytes[2..end])
 }
 
-// The number of bytes of the element at the front of these bytes. `None` if none is there whole, or if its length has more than
-// three bytes.
+// The number of bytes of the element at the front of these bytes. `None` if none is there whole, or if its length has
+// more than three bytes.
 pub(super) fn element_at_front(bytes: &[u8]) -> Option<usize>
     ensures is { IfSome result (λ count. IsElementInFront bytes.now count) }
 {
@@ -156,7 +156,8 @@ impl<R: ReadExt> Deserializer<R> {
         Ok(Some(bytes))
     }
 
-    // Consumes the next element, under this tag, and returns its content in a vector, or `None` if it isn't ahead whole.
+    // Consumes the next element, under this tag, and returns its content in a vector, or `None` if it isn't ahead
+    // whole.
     #[inline(always)]
     pub(crate) fn copy_content_ahead(&mut self, tag: Tag) -> Result<Option<Vec<u8>>>
         requires number { IsTagNumber (number_of tag) }

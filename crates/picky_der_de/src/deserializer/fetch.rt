@@ -2,7 +2,8 @@
 ghost use Rattle.picky_der_core.specs.Element.{AreBytes};
 ghost use Rattle.picky_der_core.specs.Failure.{failure_of};
 ghost use Rattle.std.specs.Prelude.{◌≡◌, ◌<◌, ◌≤◌, ◌∷◌, [], ℕ, List, length, None, Some, IfOk, IfErr, OnOk};
-ghost use Rattle.picky_der_de.specs.Steps.{Consumed, ConsumesBytes, ConsumesKept, ConsumesAfter, GrowsByConsumed, ConsumesPiece, StopsShort};
+ghost use Rattle.picky_der_de.specs.Steps.{Consumed, ConsumesBytes, ConsumesKept, ConsumesAfter, GrowsByConsumed};
+ghost use Rattle.picky_der_de.specs.Steps.{ConsumesPiece, StopsShort};
 ghost use Rattle.picky_der_de.specs.Steps.{Fails, IsMissing, UsesNoMemory};
 
 use super::Deserializer;
@@ -13,7 +14,8 @@ use picky_der_core::{Asn1DerError, Result};
 // The greatest number of bytes that are read at a time, whatever length the header of a content has.
 const PIECE: usize = 512;
 
-// How many bytes of a content are kept: one more than the longest content of a plain kind has, which is that of a number.
+// How many bytes of a content are kept: one more than the longest content of a plain kind has, which is that of a
+// number.
 const KEPT: usize = 18;
 
 impl<R: ReadExt> Deserializer<R> {
@@ -98,8 +100,8 @@ impl<R: ReadExt> Deserializer<R> {
         Ok(content)
     }
 
-    // Reads the content, and appends it to the vector. Whatever length the header has, the vector grows only by the bytes that
-    // were read.
+    // Reads the content, and appends it to the vector. Whatever length the header has, the vector grows only by the
+    // bytes that were read.
     pub(crate) fn fetch_after(&mut self, bytes: &mut Vec<u8>, len: usize) -> Result<()>
         requires had_not_failed { self.old.failed ≡ None }
         requires unpeeked { self.old.peeked ≡ None }
@@ -157,8 +159,8 @@ impl<R: ReadExt> Deserializer<R> {
         Ok(())
     }
 
-    // Reads as many bytes of the content as one read gives, where `left` bytes are left of it, into the front of the piece. At
-    // least one byte is read.
+    // Reads as many bytes of the content as one read gives, where `left` bytes are left of it, into the front of the
+    // piece. At least one byte is read.
     fn fetch_piece(&mut self, piece: &mut [u8], left: usize) -> Result<usize>
         requires had_not_failed { self.old.failed ≡ None }
         requires unpeeked { self.old.peeked ≡ None }

@@ -108,7 +108,8 @@ impl<R: ReadExt> Deserializer<R> {
         self.read_content_length()
     }
 
-    // What `begin` does in the other cases: it has failed, or is directly under an implicit tag, or its header isn't ahead whole.
+    // What `begin` does in the other cases: it has failed, or is directly under an implicit tag, or its header isn't
+    // ahead whole.
     #[cold]
     #[inline(never)]
     pub(super) fn fetch_begin(&mut self, tag: Tag) -> Result<usize>

@@ -6,9 +6,11 @@ ghost use Rattle.picky_der_core.specs.Tag.{number_of, IsTagNumber};
 ghost use Rattle.picky_der_core.specs.Wrapper.{HasTagNumber};
 ghost use Rattle.picky_der_de.specs.Steps.{Consumed, UsesNoMemory};
 ghost use Rattle.picky_der_de.specs.Headers.{BeginsContent, RefusesBegin};
-ghost use Rattle.picky_der_de.specs.Ends.{innermost, with_inner_end, Closes, RefusesClose, OpensList, RefusesList, OpensLazily};
+ghost use Rattle.picky_der_de.specs.Ends.{innermost, with_inner_end, Closes, RefusesClose, OpensList, RefusesList};
+ghost use Rattle.picky_der_de.specs.Ends.{OpensLazily};
 ghost use Rattle.picky_der_de.specs.Order.{order_of, cut_at};
-ghost use Rattle.picky_der_de.specs.Wrappers.{implicit_tag_of, BeginsWrapper, OpensWrapper, RefusesOpening, RefusesUnusedBits};
+ghost use Rattle.picky_der_de.specs.Wrappers.{implicit_tag_of, BeginsWrapper, OpensWrapper, RefusesOpening};
+ghost use Rattle.picky_der_de.specs.Wrappers.{RefusesUnusedBits};
 ghost use Rattle.picky_der_de.specs.Members.{ReadsMember, RefusesMember};
 ghost use Rattle.picky_der_de.specs.Wrappers.{ReadsWrapped, RefusesWrapped};
 ghost use Rattle.picky_der_de.specs.TagNumbers.{RefusesNumber};
@@ -67,8 +69,8 @@ impl<R: ReadExt> Deserializer<R> {
         outer
     }
 
-    // The length of the content of a plain value with this tag. Directly under an implicit tag the header is that tag's, and
-    // all bytes before its end are the content.
+    // The length of the content of a plain value with this tag. Directly under an implicit tag the header is that
+    // tag's, and all bytes before its end are the content.
     #[inline(always)]
     pub(crate) fn begin(&mut self, tag: Tag) -> Result<usize>
         requires number { IsTagNumber (number_of tag) }
@@ -85,8 +87,8 @@ impl<R: ReadExt> Deserializer<R> {
         }
     }
 
-    // Consumes the header of a sequence or set under this tag, and opens its end. Directly under an implicit tag the header
-    // was consumed with that tag. In a set the order of the members is tested from here on (X.690, 11.6).
+    // Consumes the header of a sequence or set under this tag, and opens its end. Directly under an implicit tag the
+    // header was consumed with that tag. In a set the order of the members is tested from here on (X.690, 11.6).
     //
     // `InvalidData` for another tag. Any other error is that of a header or of an end, or the reader's I/O error.
     #[inline(always)]
@@ -102,11 +104,11 @@ impl<R: ReadExt> Deserializer<R> {
         Ok(outer)
     }
 
-    // Opens a soft end `len` bytes from here, before which no order is tested. Directly under an implicit tag the contents
-    // have their own header.
+    // Opens a soft end `len` bytes from here, before which no order is tested. Directly under an implicit tag the
+    // contents have their own header.
     //
-    // If these bytes reach past the innermost end, the deserializer has failed: with `InvalidData` at a hard end, and else with
-    // `TruncatedData`. If it had failed before, nothing changes.
+    // If these bytes reach past the innermost end, the deserializer has failed: with `InvalidData` at a hard end, and
+    // else with `TruncatedData`. If it had failed before, nothing changes.
     pub(crate) fn open_lazily(&mut self, len: usize) -> EnclosingEnd
         ensures opened { OpensLazily len self.old self.new result }
         ensures bounded { result.position ≤ self.new.limit }
@@ -156,9 +158,9 @@ impl<R: ReadExt> Deserializer<R> {
 
     // Consumes the bytes before the value in a wrapper, and opens the wrapper's end.
     //
-    // `UnsupportedValue` for a tag number past 30, and for a tag in place of a list's own that isn't constructed: nothing is
-    // consumed then. `InvalidData` for another tag, and for unused bits (X.690, 8.6.2). Any other error is that of a header or
-    // of an end, or the reader's I/O error.
+    // `UnsupportedValue` for a tag number past 30, and for a tag in place of a list's own that isn't constructed:
+    // nothing is consumed then. `InvalidData` for another tag, and for unused bits (X.690, 8.6.2). Any other error is
+    // that of a header or of an end, or the reader's I/O error.
     pub(crate) fn open_wrapper(&mut self, wrapper: Wrapper) -> Result<EnclosingEnd>
         ensures ok { IfOk result (OpensWrapper wrapper self.old self.new) }
         ensures bounded { IfOk result (λ outer. outer.position ≤ self.new.limit) }

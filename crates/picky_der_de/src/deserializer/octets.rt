@@ -20,9 +20,9 @@ use picky_der_core::{Asn1DerError, Result};
 impl<R: ReadExt> Deserializer<R> {
     /// Reads the content under this tag into one vector. The content isn't checked.
     ///
-    /// `UnsupportedValue` for a tag with the number 31, which announces the long form: nothing is consumed or allocated then.
-    /// `InvalidData` for another tag. `OutOfMemory` if an allocation fails. Any other error is that of a header or of an end,
-    /// or the reader's I/O error.
+    /// `UnsupportedValue` for a tag with the number 31, which announces the long form: nothing is consumed or allocated
+    /// then. `InvalidData` for another tag. `OutOfMemory` if an allocation fails. Any other error is that of a header
+    /// or of an end, or the reader's I/O error.
     #[inline(always)]
     pub fn deserialize_tagged_bytes(&mut self, tag: Tag) -> Result<Vec<u8>>
         ensures ok { IfOk result (λ content. ReadsPrimitive (PrimitiveShape.bytes tag) self.old self.new
@@ -41,11 +41,11 @@ impl<R: ReadExt> Deserializer<R> {
         self.fetch_tagged_bytes(tag)
     }
 
-    /// Reads the content under this tag into a value in one step. The whole element has to be in memory before the innermost
-    /// end, with a length of one byte, and the type has to make a value of its content.
+    /// Reads the content under this tag into a value in one step. The whole element has to be in memory before the
+    /// innermost end, with a length of one byte, and the type has to make a value of its content.
     ///
-    /// Else it returns `None` and does nothing. It does so too for a tag with the number 31, directly under an implicit tag,
-    /// and after an error. Nothing is allocated.
+    /// Else it returns `None` and does nothing. It does so too for a tag with the number 31, directly under an implicit
+    /// tag, and after an error. Nothing is allocated.
     #[inline(always)]
     pub fn deserialize_short<C: ShortContent>(&mut self, tag: Tag) -> Option<C>
         ensures read { IfSome result (λ it. ReadsPrimitive (PrimitiveShape.bytes tag) self.old self.new

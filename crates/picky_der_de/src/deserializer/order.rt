@@ -47,7 +47,8 @@ impl<R: ReadExt> Deserializer<R> {
         }
     }
 
-    // Replaces the encoding of the last member by this one, if the order is tested. If an allocation fails nothing changes.
+    // Replaces the encoding of the last member by this one, if the order is tested. If an allocation fails nothing
+    // changes.
     fn keep_last(&mut self, member: &[u8]) -> std::result::Result<(), AllocError>
         ensures ok { OnOk result
             (self.new ≡ record self.old { sets = with_last self.old.sets member.now }) }
@@ -59,9 +60,9 @@ impl<R: ReadExt> Deserializer<R> {
         }
     }
 
-    // Looks at the next member of a set before it is read, and returns whether its encoding is less than the last one. If it
-    // isn't, it is kept as the last one. If the member isn't in memory whole, it returns `None` and does nothing. No byte is
-    // consumed.
+    // Looks at the next member of a set before it is read, and returns whether its encoding is less than the last one.
+    // If it isn't, it is kept as the last one. If the member isn't in memory whole, it returns `None` and does nothing.
+    // No byte is consumed.
     //
     // `OutOfMemory` if the allocation fails.
     #[inline(always)]
@@ -106,8 +107,8 @@ impl<R: ReadExt> Deserializer<R> {
         Ok(())
     }
 
-    // The next member of a set. If the whole member is in memory, its encoding is compared before it is read. Most members are
-    // those of sequences, so this function isn't inlined.
+    // The next member of a set. If the whole member is in memory, its encoding is compared before it is read. Most
+    // members are those of sequences, so this function isn't inlined.
     #[inline(never)]
     pub(super) fn next_in_set<T: Deserialize>(&mut self) -> Result<T>
         requires had_not_failed { self.old.failed ≡ None }
@@ -164,8 +165,8 @@ impl<R: ReadExt> Deserializer<R> {
         }
     }
 
-    // Tests that a member of a set that was read isn't less than the one before it. No byte is consumed: the encoding is
-    // written again. A value that was read can be written, so the only failure is that of an allocation.
+    // Tests that a member of a set that was read isn't less than the one before it. No byte is consumed: the encoding
+    // is written again. A value that was read can be written, so the only failure is that of an allocation.
     fn test_order<T: Serialize>(&mut self, value: &T) -> Result<()>
         requires had_not_failed { self.old.failed ≡ None }
         requires in_set { self.old.sets.last ≢ None }

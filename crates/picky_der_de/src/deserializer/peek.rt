@@ -1,7 +1,8 @@
 //! The next tag, looked at and left.
 ghost use Rattle.std.specs.Prelude.{◌≡◌, None, IfNone, IfSome, IfOk, IfErr};
 ghost use Rattle.picky_der_de.specs.Steps.{IsJudged};
-ghost use Rattle.picky_der_de.specs.LookAhead.{HasEnded, IdentifiesChoice, RefusesChoice, Identifies, RefusesIdentifier};
+ghost use Rattle.picky_der_de.specs.LookAhead.{HasEnded, IdentifiesChoice, RefusesChoice, Identifies};
+ghost use Rattle.picky_der_de.specs.LookAhead.{RefusesIdentifier};
 
 use super::Deserializer;
 use picky_der_core::asn1::Tag;
@@ -43,10 +44,11 @@ impl<R: ReadExt> Deserializer<R> {
         }
     }
 
-    /// The next tag, without consuming it. Directly under an implicit tag this tag was consumed already, and is returned.
+    /// The next tag, without consuming it. Directly under an implicit tag this tag was consumed already, and is
+    /// returned.
     ///
-    /// If no byte is left, the error is `InvalidData` at a hard end, and else `TruncatedData`. Any other error is the reader's
-    /// I/O error. Nothing is allocated.
+    /// If no byte is left, the error is `InvalidData` at a hard end, and else `TruncatedData`. Any other error is the
+    /// reader's I/O error. Nothing is allocated.
     pub fn deserialize_identifier(&mut self) -> Result<Tag>
         ensures ok { IfOk result (Identifies self.old self.new) }
         ensures err { IfErr result (RefusesIdentifier self.old self.new) }
@@ -60,11 +62,11 @@ impl<R: ReadExt> Deserializer<R> {
         }
     }
 
-    // The next tag, without consuming it, or `None` if the input ended here, before the innermost end. Directly under an
-    // implicit tag this tag was consumed already, and is returned.
+    // The next tag, without consuming it, or `None` if the input ended here, before the innermost end. Directly under
+    // an implicit tag this tag was consumed already, and is returned.
     //
-    // At the innermost end the error is `InvalidData` if it is a hard one, and else `TruncatedData`. Any other error is the
-    // reader's I/O error. Nothing is allocated.
+    // At the innermost end the error is `InvalidData` if it is a hard one, and else `TruncatedData`. Any other error is
+    // the reader's I/O error. Nothing is allocated.
     pub(crate) fn identify_next(&mut self) -> Result<Option<Tag>>
         ensures tag { IfOk result (λ next. IfSome next (Identifies self.old self.new)) }
         ensures ended { IfOk result (λ next. IfNone next (HasEnded self.old self.new)) }
@@ -82,9 +84,9 @@ impl<R: ReadExt> Deserializer<R> {
 
     /// The tag of the next alternative of a choice, without consuming it. The names aren't used.
     ///
-    /// `InvalidData` directly under an implicit tag, where no byte distinguishes the alternatives: nothing is consumed then. If
-    /// no byte is left, the error is `InvalidData` at a hard end, and else `TruncatedData`. Any other error is the reader's I/O
-    /// error. Nothing is allocated.
+    /// `InvalidData` directly under an implicit tag, where no byte distinguishes the alternatives: nothing is consumed
+    /// then. If no byte is left, the error is `InvalidData` at a hard end, and else `TruncatedData`. Any other error is
+    /// the reader's I/O error. Nothing is allocated.
     pub fn deserialize_enum(
         &mut self,
         _name: &'static str,

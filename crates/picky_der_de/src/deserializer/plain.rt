@@ -4,7 +4,8 @@ ghost use Rattle.picky_der_core.specs.Primitive.{Primitive, PrimitiveShape};
 ghost use Rattle.picky_der_core.specs.Shape.{Shape};
 ghost use Rattle.picky_der_core.specs.Integer.{int_tree};
 ghost use Rattle.picky_der_de.specs.Steps.{UsesNoMemory};
-ghost use Rattle.picky_der_de.specs.Reading.{Reads, ReadsInt, RefusesInt, ReadsJudged, RefusesJudged, ReadsPrimitive, RefusesPrimitive};
+ghost use Rattle.picky_der_de.specs.Reading.{Reads, ReadsInt, RefusesInt, ReadsJudged, RefusesJudged, ReadsPrimitive};
+ghost use Rattle.picky_der_de.specs.Reading.{RefusesPrimitive};
 
 use super::Deserializer;
 use super::ahead::{near, short_at_front};
@@ -17,8 +18,8 @@ use picky_der_core::{Int, Result};
 impl<R: ReadExt> Deserializer<R> {
     /// Reads a BOOLEAN (X.690, 8.2 and 11.1).
     ///
-    /// `InvalidData` for another tag, and for a content other than one byte `00` or `FF`. `TruncatedData` for an empty content.
-    /// Any other error is that of a header or of an end, or the reader's I/O error.
+    /// `InvalidData` for another tag, and for a content other than one byte `00` or `FF`. `TruncatedData` for an empty
+    /// content. Any other error is that of a header or of an end, or the reader's I/O error.
     #[inline(always)]
     pub fn deserialize_bool(&mut self) -> Result<bool>
         ensures ok { IfOk result (λ value. ReadsPrimitive PrimitiveShape.boolean self.old self.new
@@ -32,9 +33,9 @@ impl<R: ReadExt> Deserializer<R> {
 
     /// Reads an unsigned number of 8 bits (X.690, 8.3).
     ///
-    /// `InvalidData` for another tag, and for a needless 00 in front. `UnsupportedValue` for a negative number, and for one
-    /// past the greatest. `TruncatedData` for an empty content. Any other error is that of a header or of an end, or the
-    /// reader's I/O error.
+    /// `InvalidData` for another tag, and for a needless 00 in front. `UnsupportedValue` for a negative number, and for
+    /// one past the greatest. `TruncatedData` for an empty content. Any other error is that of a header or of an end,
+    /// or the reader's I/O error.
     #[inline(always)]
     pub fn deserialize_u8(&mut self) -> Result<u8>
         ensures ok { IfOk result (λ value. ReadsPrimitive (PrimitiveShape.unsigned (2 ^ 8 - 1))
@@ -96,8 +97,9 @@ impl<R: ReadExt> Deserializer<R> {
 
     /// Reads an INTEGER into an integer type, signed or not (X.690, 8.3).
     ///
-    /// `InvalidData` for another tag, and for a content that isn't two's complement in the fewest bytes. `UnsupportedValue` for
-    /// a number that the type doesn't have. Any other error is that of a header or of an end, or the reader's I/O error.
+    /// `InvalidData` for another tag, and for a content that isn't two's complement in the fewest bytes.
+    /// `UnsupportedValue` for a number that the type doesn't have. Any other error is that of a header or of an end, or
+    /// the reader's I/O error.
     pub fn deserialize_int<N: Int>(&mut self) -> Result<N>
         ensures ok { IfOk result (λ value. ReadsInt N.fits self.old self.new (N.number value)) }
         ensures meant { IfOk result (λ value. Reads (Shape.primitive (PrimitiveShape.bytes 0x02)) self.old self.new
@@ -110,8 +112,8 @@ impl<R: ReadExt> Deserializer<R> {
 
     /// Reads a null (X.690, 8.8).
     ///
-    /// `InvalidData` for another tag, and for a content that isn't empty. Any other error is that of a header or of an end, or
-    /// the reader's I/O error.
+    /// `InvalidData` for another tag, and for a content that isn't empty. Any other error is that of a header or of an
+    /// end, or the reader's I/O error.
     #[inline(always)]
     pub fn deserialize_unit(&mut self) -> Result<()>
         ensures ok { OnOk result (ReadsPrimitive PrimitiveShape.null self.old self.new

@@ -18,8 +18,9 @@ use picky_der_core::{Asn1DerError, Result};
 impl<R: ReadExt> Deserializer<R> {
     /// Reads a text of one character (X.690, 8.23).
     ///
-    /// `InvalidData` for another tag, for a content that isn't UTF-8, and for more than one character. `UnsupportedValue` for
-    /// an empty content. Any other error is that of a header or of an end, or the reader's I/O error.
+    /// `InvalidData` for another tag, for a content that isn't UTF-8, and for more than one character.
+    /// `UnsupportedValue` for an empty content. Any other error is that of a header or of an end, or the reader's I/O
+    /// error.
     pub fn deserialize_char(&mut self) -> Result<char>
         ensures ok { IfOk result (λ value. ReadsPrimitive PrimitiveShape.character self.old self.new
             (Primitive.text (encode_utf8 value))) }
@@ -32,8 +33,8 @@ impl<R: ReadExt> Deserializer<R> {
 
     /// Reads a text (X.690, 8.23) into one string.
     ///
-    /// `InvalidData` for another tag, and for a content that isn't UTF-8. `OutOfMemory` if an allocation fails. Any other error
-    /// is that of a header or of an end, or the reader's I/O error.
+    /// `InvalidData` for another tag, and for a content that isn't UTF-8. `OutOfMemory` if an allocation fails. Any
+    /// other error is that of a header or of an end, or the reader's I/O error.
     pub fn deserialize_string(&mut self) -> Result<String>
         ensures ok { IfOk result (λ text. ReadsPrimitive PrimitiveShape.text self.old self.new
             (Primitive.text (string_bytes text))) }

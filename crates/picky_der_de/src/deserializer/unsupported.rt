@@ -13,8 +13,8 @@ impl<R: ReadExt> Deserializer<R> {
         Err(self.refuse(Asn1DerError::UnsupportedType))
     }
 
-    /// Only fails, with `UnsupportedType`: `i8::deserialize(..)` reads such a number. As in all calls below, nothing is consumed
-    /// or allocated.
+    /// Only fails, with `UnsupportedType`: `i8::deserialize(..)` reads such a number. As in all calls below, nothing is
+    /// consumed or allocated.
     pub fn deserialize_i8(&mut self) -> Result<()>
         ensures { IsUnsupported self.old result self.new }
     {

@@ -21,9 +21,9 @@ use picky_der_ser::List;
 impl<R: ReadExt> Deserializer<R> {
     /// Reads the value of a newtype, in the wrapper around it (X.690, 8.6.2, 8.7 and 8.14). `Newtype::Plain` has none.
     ///
-    /// `UnsupportedValue` for a tag number past 30: nothing is consumed or allocated then. `InvalidData` for another tag, and
-    /// for a bit string with unused bits. `InvalidData` too for bytes that are left over before the wrapper's end: none of them
-    /// is consumed.
+    /// `UnsupportedValue` for a tag number past 30: nothing is consumed or allocated then. `InvalidData` for another
+    /// tag, and for a bit string with unused bits. `InvalidData` too for bytes that are left over before the wrapper's
+    /// end: none of them is consumed.
     ///
     /// Any other error is that of a header, of an end, or of the value.
     pub fn deserialize_newtype_struct<T: Deserialize>(&mut self, kind: Newtype) -> Result<T>
@@ -47,9 +47,9 @@ impl<R: ReadExt> Deserializer<R> {
 
     /// Reads a list under this tag, which replaces the list's own (X.690, 8.14).
     ///
-    /// `UnsupportedValue` for a tag that isn't constructed, and for a tag number past 30: nothing is consumed or allocated
-    /// then. `InvalidData` for another tag. `InvalidData` too for bytes that are left over before the list's end: none of them
-    /// is consumed.
+    /// `UnsupportedValue` for a tag that isn't constructed, and for a tag number past 30: nothing is consumed or
+    /// allocated then. `InvalidData` for another tag. `InvalidData` too for bytes that are left over before the list's
+    /// end: none of them is consumed.
     ///
     /// Any other error is that of a header, of an end, or of the list.
     pub fn deserialize_implicit_list<T: List + Deserialize>(&mut self, tag: Tag) -> Result<T>
@@ -67,11 +67,12 @@ impl<R: ReadExt> Deserializer<R> {
         self.read_wrapped(Wrapper::ImplicitList(tag.inner()))
     }
 
-    /// Reads the value under the explicit application tag with this number (X.690, 8.14). Directly under an implicit tag the
-    /// application tag has its header too.
+    /// Reads the value under the explicit application tag with this number (X.690, 8.14). Directly under an implicit
+    /// tag the application tag has its header too.
     ///
-    /// `UnsupportedValue` for a number past 30: nothing is consumed or allocated then. `InvalidData` for a tag of another class
-    /// or number. `InvalidData` too for bytes that are left over before the tag's end: none of them is consumed.
+    /// `UnsupportedValue` for a number past 30: nothing is consumed or allocated then. `InvalidData` for a tag of
+    /// another class or number. `InvalidData` too for bytes that are left over before the tag's end: none of them is
+    /// consumed.
     ///
     /// Any other error is that of a header, of an end, or of the value.
     pub fn deserialize_application<T: Deserialize>(&mut self, number: u8) -> Result<T>
@@ -89,8 +90,8 @@ impl<R: ReadExt> Deserializer<R> {
         self.read_wrapped(Wrapper::Application(number))
     }
 
-    /// Reads a value that could be missing, and returns `Some`. A missing value has no bytes, so only the call that reads its
-    /// list can find it missing. Each error is the value's.
+    /// Reads a value that could be missing, and returns `Some`. A missing value has no bytes, so only the call that
+    /// reads its list can find it missing. Each error is the value's.
     pub fn deserialize_option<T: Deserialize>(&mut self) -> Result<Option<T>>
         ensures ok { IfOk result (λ value. Reads (Shape.optional T.shape) self.old self.new
             (option_meaning T.meaning value)) }

@@ -43,8 +43,8 @@ trait Fill: Drop + Sized {
         ensures err { IfErr result (Refuses meaning shape de.old de.new) };
 }
 
-// Reads into a value that is there already. This is all that `deserialize` of an array does. That function returns the array in
-// a `Result`, which the borrow checker doesn't cover. So it makes this one call and is proved by hand.
+// Reads into a value that is there already. This is all that `deserialize` of an array does. That function returns the
+// array in a `Result`, which the borrow checker doesn't cover. So it makes this one call and is proved by hand.
 fn read_filled<V: Fill, R: ReadExt>(de: &mut Deserializer<R>) -> Result<V>
     ensures ok { IfOk result (λ value. Reads V.shape de.old de.new (V.meaning value)) }
     ensures err { IfErr result (Refuses V.meaning V.shape de.old de.new) }

@@ -18,7 +18,8 @@ fn is_tag(tag: Tag, wanted: u8) -> bool
     number <= Tag::MAX_NUMBER && tag.inner() == wanted
 }
 
-// Whether it is the tag of the class and form of this first one, with this number. The number has to be one of the short form.
+// Whether it is the tag of the class and form of this first one, with this number. The number has to be one of the
+// short form.
 fn is_numbered(tag: Tag, first: u8, number: u8) -> bool
     requires { first ≤ 0xE0 }
     ensures { IsTrue result ↔ IsTrue (contains (tag_with_number number (first + number)) tag) }

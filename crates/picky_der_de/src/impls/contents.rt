@@ -1,4 +1,5 @@
-//! Octet strings, bytes under tags of their own, characters, texts and null, as they are read. Values that may be missing.
+//! Octet strings, bytes under tags of their own, characters, texts and null, as they are read. Values that may be
+//! missing.
 ghost use Rattle.std.specs.Prelude.{◌<◌, IfOk, IfErr, encode_utf8, string_bytes, OnOk};
 ghost use Rattle.picky_der_core.specs.Primitive.{Primitive, PrimitiveShape};
 ghost use Rattle.picky_der_core.specs.Tag.{number_of};

@@ -1,5 +1,6 @@
 //! Containers and context tags, as they are written.
-ghost use Rattle.picky_der_core.specs.declared.asn1.wrapper.Wrapper.TheVariants.{OctetContainer, BitContainer, Explicit, Implicit, ImplicitList};
+ghost use Rattle.picky_der_core.specs.declared.asn1.wrapper.Wrapper.TheVariants.{OctetContainer, BitContainer};
+ghost use Rattle.picky_der_core.specs.declared.asn1.wrapper.Wrapper.TheVariants.{Explicit, Implicit, ImplicitList};
 ghost use Rattle.picky_der_core.specs.Tree.{Tree};
 
 use crate::{List, Serialize, Serializer};

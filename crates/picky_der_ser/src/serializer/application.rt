@@ -12,11 +12,11 @@ use picky_der_core::misc::WriteExt;
 use picky_der_core::{Asn1DerError, Result};
 
 impl<W: WriteExt> Serializer<W> {
-    /// Writes the value under the explicit application tag with this number (X.690, 8.14), in the open wrappers. If nothing is
-    /// written for the value, the tag has the length 0.
+    /// Writes the value under the explicit application tag with this number (X.690, 8.14), in the open wrappers. If
+    /// nothing is written for the value, the tag has the length 0.
     ///
-    /// `UnsupportedValue` for a number past 30: this is tested before the value, and nothing is written or allocated then. Any
-    /// other error is the value's or the sink's, or `OutOfMemory`.
+    /// `UnsupportedValue` for a number past 30: this is tested before the value, and nothing is written or allocated
+    /// then. Any other error is the value's or the sink's, or `OutOfMemory`.
     #[tactic(auto, using(crate::proofs::WrapWrites::application))]
     pub fn serialize_application<T: Serialize>(&mut self, number: u8, value: &T) -> Result<usize>
         ensures wrote { IfOk result (λ n. Writes W.WriteExt.own

@@ -28,8 +28,9 @@ impl<W: WriteExt> Serializer<W> {
         Ok(Sequence::serialize_lazy(self, tag))
     }
 
-    /// Begins a sequence in the open wrappers (X.690, 8.9 and 8.10). The length isn't used: all members that are added are
-    /// written. The only error is the earlier one, if the serializer has failed; the same holds for all calls below.
+    /// Begins a sequence in the open wrappers (X.690, 8.9 and 8.10). The length isn't used: all members that are added
+    /// are written. The only error is the earlier one, if the serializer has failed; the same holds for all calls
+    /// below.
     pub fn serialize_seq(&mut self, _len: Option<usize>) -> Result<Sequence<'_, W>>
         ensures* rests { sem 𝓛 (LendsList W.row W.WriteExt.own W.Write self.entry result) }
         ensures same_reference { IfOk result (λ q. borrowed_by q ≡ self.entry.ghost_name) }
@@ -77,9 +78,9 @@ impl<W: WriteExt> Serializer<W> {
         self.begin_list(Tag::SEQUENCE)
     }
 
-    /// Begins a set in the open wrappers (X.690, 8.11 and 8.12). Its members may be added in any order. They are written in
-    /// ascending order of their encodings (11.6). For a SET with members of several types, 10.3 has the order of their tags
-    /// instead; this library writes the order of their encodings.
+    /// Begins a set in the open wrappers (X.690, 8.11 and 8.12). Its members may be added in any order. They are
+    /// written in ascending order of their encodings (11.6). For a SET with members of several types, 10.3 has the
+    /// order of their tags instead; this library writes the order of their encodings.
     pub fn serialize_set(&mut self) -> Result<Sequence<'_, W>>
         ensures* rests { sem 𝓛 (LendsList W.row W.WriteExt.own W.Write self.entry result) }
         ensures same_reference { IfOk result (λ q. borrowed_by q ≡ self.entry.ghost_name) }

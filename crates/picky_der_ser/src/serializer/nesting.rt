@@ -78,8 +78,8 @@ impl<W: WriteExt> Serializer<W> {
         outcome
     }
 
-    // Writes the level that was opened last, in its wrappers, with the members of a set in order. If an allocation for this
-    // order fails, nothing of the set is written.
+    // Writes the level that was opened last, in its wrappers, with the members of a set in order. If an allocation for
+    // this order fails, nothing of the set is written.
     #[cold]
     #[inline(never)]
     pub(crate) fn close(&mut self) -> Result<usize>

@@ -9,8 +9,8 @@ use picky_der_core::Result;
 use picky_der_core::misc::WriteExt;
 
 impl<W: WriteExt> Serializer<W> {
-    /// Drops the open wrappers, writes nothing and returns 0. Nothing is allocated. The only error is the earlier one, if the
-    /// serializer has failed.
+    /// Drops the open wrappers, writes nothing and returns 0. Nothing is allocated. The only error is the earlier one,
+    /// if the serializer has failed.
     pub fn serialize_none(&mut self) -> Result<usize>
         ensures { WritesAbsent W.WriteExt.own self.old result self.new }
     {

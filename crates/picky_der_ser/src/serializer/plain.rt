@@ -105,8 +105,8 @@ impl<W: WriteExt> Serializer<W> {
         self.write_plain(Tag::INTEGER, digits.as_slice())
     }
 
-    /// Writes a BOOLEAN (X.690, 8.2 and 11.1). Outside wrappers, sequences and application tags nothing is allocated, and each
-    /// error is the sink's. The same holds for the other calls of plain values.
+    /// Writes a BOOLEAN (X.690, 8.2 and 11.1). Outside wrappers, sequences and application tags nothing is allocated,
+    /// and each error is the sink's. The same holds for the other calls of plain values.
     #[inline(always)]
     pub fn serialize_bool(&mut self, value: bool) -> Result<usize>
         ensures { WritesPrimitive W.WriteExt.own (Primitive.boolean value) self.old result self.new }
@@ -209,8 +209,8 @@ impl<W: WriteExt> Serializer<W> {
 
     /// Writes a content under this tag, unchecked.
     ///
-    /// `UnsupportedValue` for a tag with the number 31, which would announce the long form (X.690, 8.1.2.4): nothing is written
-    /// or allocated then. Only the earlier error of a serializer that has failed comes before it.
+    /// `UnsupportedValue` for a tag with the number 31, which would announce the long form (X.690, 8.1.2.4): nothing is
+    /// written or allocated then. Only the earlier error of a serializer that has failed comes before it.
     pub fn serialize_tagged_bytes(&mut self, tag: Tag, content: &[u8]) -> Result<usize>
         ensures { WritesPrimitive W.WriteExt.own (Primitive.bytes tag content.now) self.old result self.new }
     {

@@ -40,8 +40,8 @@ impl<W: WriteExt> Serializer<W> {
         self.put_wrapped(Header::Raw, bytes)
     }
 
-    /// Writes bytes as they are, in the open wrappers. They aren't checked: what isn't exactly one element is written, but
-    /// can't be read back. Directly under an implicit tag all of them are kept.
+    /// Writes bytes as they are, in the open wrappers. They aren't checked: what isn't exactly one element is written,
+    /// but can't be read back. Directly under an implicit tag all of them are kept.
     pub fn serialize_raw(&mut self, bytes: &[u8]) -> Result<usize>
         ensures { WritesPlain W.WriteExt.own (Tree.raw bytes.now) self.old result self.new }
     {

@@ -1,4 +1,5 @@
-//! The calls of the Rust crate that only fail with `UnsupportedType`: numbers with a sign, maps, and the variants of enums.
+//! The calls of the Rust crate that only fail with `UnsupportedType`: numbers with a sign, maps, and the variants of
+//! enums.
 ghost use Rattle.picky_der_ser.specs.Calls.{IsUnsupported};
 
 use super::Serializer;
@@ -17,8 +18,8 @@ impl<W: WriteExt> Serializer<W> {
         }
     }
 
-    /// Only fails, with `UnsupportedType`: `(-1i8).serialize(..)` writes such a number. As in all calls below, nothing is written
-    /// or allocated, and a serializer that has failed returns its earlier error.
+    /// Only fails, with `UnsupportedType`: `(-1i8).serialize(..)` writes such a number. As in all calls below, nothing
+    /// is written or allocated, and a serializer that has failed returns its earlier error.
     pub fn serialize_i8(&mut self, _value: i8) -> Result<usize>
         ensures { IsUnsupported self.old result self.new }
     {

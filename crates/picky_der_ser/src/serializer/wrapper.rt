@@ -55,11 +55,11 @@ impl<W: WriteExt> Serializer<W> {
         value.serialize(self)
     }
 
-    /// Writes the value in a wrapper (X.690, 8.6.2, 8.7 and 8.14), which is opened inside the open ones. `Newtype::Plain` has
-    /// none.
+    /// Writes the value in a wrapper (X.690, 8.6.2, 8.7 and 8.14), which is opened inside the open ones.
+    /// `Newtype::Plain` has none.
     ///
-    /// `UnsupportedValue` for a tag number past 30: this is tested before the value, and nothing is written or allocated then.
-    /// Any other error is the value's.
+    /// `UnsupportedValue` for a tag number past 30: this is tested before the value, and nothing is written or
+    /// allocated then. Any other error is the value's.
     pub fn serialize_newtype_struct<T: Serialize>(
         &mut self,
         kind: Newtype,
@@ -82,8 +82,8 @@ impl<W: WriteExt> Serializer<W> {
 
     /// Writes a list under this tag, which replaces the list's own (X.690, 8.14), in the open wrappers.
     ///
-    /// `UnsupportedValue` for a tag that isn't constructed, and for a tag number past 30: this is tested before the value, and
-    /// nothing is written or allocated then. Any other error is the list's.
+    /// `UnsupportedValue` for a tag that isn't constructed, and for a tag number past 30: this is tested before the
+    /// value, and nothing is written or allocated then. Any other error is the list's.
     pub fn serialize_implicit_list<T: List>(&mut self, tag: Tag, value: &T) -> Result<usize>
         ensures wrote { IfOk result (λ n. Writes W.WriteExt.own
             (Tree.wrapped (ImplicitList tag) (T.meaning value.now)) self.old n self.new) }

@@ -16,9 +16,15 @@ returns-after-view g c =
     let are = subst (IsContentsOf c.args.request.now.form c.args.input.now) c.in-Der.is c.in_ok-contents_of.ensures in
     let front : Appends (g.W.WriteExt.written c.args.output.now) (g.W.WriteExt.written c.if-view.output)
     (if c.args.view.has_headings then front_text c.args.request.now source None else []) =
-    elim c.if-view.branch [ then-view+in_ok-print_heading-in-Der w ↦ rw (w.if-view.true, w.output-is) w.in_ok-print_heading-in-Der.ensures | else-view w ↦ rw (w.if-view.false, w.output-is) (Appends-nil _) ] in
+    elim c.if-view.branch [
+      | then-view+in_ok-print_heading-in-Der w
+          ↦ rw (w.if-view.true, w.output-is) w.in_ok-print_heading-in-Der.ensures
+      | else-view w
+          ↦ rw (w.if-view.false, w.output-is) (Appends-nil _)
+    ] in
     IfOk-weaker c.print_message.result _ _
-    (λ status h. reported c.args.request.now c.args.view source c.args.file.now c.args.input.now Der status _ _ refl refl are
+    (λ status h. reported c.args.request.now c.args.view source c.args.file.now c.args.input.now Der status _ _ refl
+    refl are
     (prints_after _ _ _ _ _ front h))
     c.print_message.ensures
 
@@ -26,13 +32,16 @@ pub returns-in_ok-print_skipped-in-Pem : goal.returns-in_ok-print_skipped-in-Pem
 returns-in_ok-print_skipped-in-Pem g c =
     let source : Source = record { file = c.args.file; block = None } in
     let are = subst (IsContentsOf c.args.request.now.form c.args.input.now) c.in-Pem.is c.in_ok-contents_of.ensures in
-    reported c.args.request.now c.args.view source c.args.file.now c.args.input.now (Pem c.in-Pem.blocks) c.in_ok-status-in-Pem.status _ _ refl refl are
-    (prints_before _ _ _ _ _ (rw c.deref.ensures.value at c.in_ok-status-in-Pem.ensures) c.in_ok-print_skipped-in-Pem.ensures)
+    reported c.args.request.now c.args.view source c.args.file.now c.args.input.now (Pem c.in-Pem.blocks)
+    c.in_ok-status-in-Pem.status _ _ refl refl are
+    (prints_before _ _ _ _ _ (rw c.deref.ensures.value at c.in_ok-status-in-Pem.ensures)
+    c.in_ok-print_skipped-in-Pem.ensures)
 
 pub returns-in-Other : goal.returns-in-Other
 returns-in-Other g c =
     let source : Source = record { file = c.args.file; block = None } in
     let are = subst (IsContentsOf c.args.request.now.form c.args.input.now) c.in-Other.is c.in_ok-contents_of.ensures in
     IfOk-weaker c.print_refusal.result _ _
-    (λ status h. reported c.args.request.now c.args.view source c.args.file.now c.args.input.now (Other c.in-Other.guess) status _ _ refl refl are h)
+    (λ status h. reported c.args.request.now c.args.view source c.args.file.now c.args.input.now
+    (Other c.in-Other.guess) status _ _ refl refl are h)
     c.print_refusal.ensures

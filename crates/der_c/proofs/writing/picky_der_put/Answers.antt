@@ -22,7 +22,8 @@ returns-in_default c =
 pub returns-then-end-out : goal.returns-then-end-out
 returns-then-end-out c =
     let e = length_tlv c.args.tag c.args.content.now in
-    IsPut.short (omega (arith, c.if-end-out.true)) (omega (arith, e, c.encoded_len.ensures, c.in-Some.ensures)) refl refl
+    IsPut.short (omega (arith, c.if-end-out.true)) (omega (arith, e, c.encoded_len.ensures, c.in-Some.ensures)) refl
+    refl
 
 pub put_at-requires : goal.put_at-requires
 put_at-requires c =
@@ -32,4 +33,5 @@ put_at-requires c =
 pub returns : goal.returns
 returns c =
     let e = length_tlv c.args.tag c.args.content.now in
-    IsPut.put (omega (arith, c.if-end-out.false)) (omega (arith, e, c.encoded_len.ensures, c.in-Some.ensures)) c.put_at.ensures refl
+    IsPut.put (omega (arith, c.if-end-out.false)) (omega (arith, e, c.encoded_len.ensures, c.in-Some.ensures))
+    c.put_at.ensures refl

@@ -9,7 +9,8 @@ pub put_header-start-requires : goal.put_header-start-requires
 put_header-start-requires c = let e = length_tlv c.args.tag c.args.content.now in omega (arith, e, c.requires)
 
 pub slice_bounds-copy_from_slice-end : goal.slice_bounds-copy_from_slice-end
-slice_bounds-copy_from_slice-end c = let e = length_tlv c.args.tag c.args.content.now in search (rules, e, c.requires, c.put_header-start.ensures.next, c.put_header-start.auto.out)
+slice_bounds-copy_from_slice-end c = let e = length_tlv c.args.tag c.args.content.now in
+    search (rules, e, c.requires, c.put_header-start.ensures.next, c.put_header-start.auto.out)
 
 pub returns : goal.returns
 unfolding tlv

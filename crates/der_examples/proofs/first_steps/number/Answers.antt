@@ -16,7 +16,8 @@ unfolding element.tlv element.length_octets element.big_endian kinds.unsigned_co
 of_128 = der-primitive (Primitive.unsigned 128)
 
 -- it can be written, so memory alone can be missing
-only_memory : {V : Type 0} (r : Result V Asn1DerError) → IfErr r (MemoryExcuse (IsWritable (Tree.primitive (Primitive.unsigned 128)))) → IfErr r (λ e. e ≡ OutOfMemory)
+only_memory : {V : Type 0} (r : Result V Asn1DerError)
+    → IfErr r (MemoryExcuse (IsWritable (Tree.primitive (Primitive.unsigned 128)))) → IfErr r (λ e. e ≡ OutOfMemory)
 only_memory (Ok v) h = tt
 only_memory (Err e) (no_room m) = m
 only_memory (Err e) (no_way m n) = absurd (n (record { numbers = refl; fits = omega (arith, ap length of_128) }))

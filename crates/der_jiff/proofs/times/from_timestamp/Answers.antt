@@ -7,10 +7,14 @@ use Rattle.der_jiff.proofs.times.from_timestamp.Goals as goal
 
 pub returns-clause-some : goal.returns-clause-some
 returns-clause-some c =
-    let shown : civil_nanos c.to_datetime.result ≡ c.args.instant.nanosecond = omega (arith, signed_arith, c.to_datetime.ensures) in
-    IfSome_then c.from_civil.result c.from_civil.ensures.some (λ it same. sym (same_nanos it c.to_datetime.result same) ∙ shown)
+    let shown : civil_nanos c.to_datetime.result ≡ c.args.instant.nanosecond =
+    omega (arith, signed_arith, c.to_datetime.ensures) in
+    IfSome_then c.from_civil.result c.from_civil.ensures.some (λ it same. sym (same_nanos it c.to_datetime.result same)
+    ∙ shown)
 
 pub returns-clause-none : goal.returns-clause-none
 returns-clause-none c =
-    let shown : civil_nanos c.to_datetime.result ≡ c.args.instant.nanosecond = omega (arith, signed_arith, c.to_datetime.ensures) in
-    none_then c.from_civil.result (λ none it e. shows_none c.to_datetime.result none it (shown ∙ sym e)) c.from_civil.ensures.none
+    let shown : civil_nanos c.to_datetime.result ≡ c.args.instant.nanosecond =
+    omega (arith, signed_arith, c.to_datetime.ensures) in
+    none_then c.from_civil.result (λ none it e. shows_none c.to_datetime.result none it (shown ∙ sym e))
+    c.from_civil.ensures.none

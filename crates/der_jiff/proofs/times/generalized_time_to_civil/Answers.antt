@@ -9,11 +9,13 @@ use Rattle.der_jiff.proofs.times.generalized_time_to_civil.Goals as goal
 pub digits_value-requires-clause-digits : goal.digits_value-requires-clause-digits
 digits_value-requires-clause-digits c =
     let fraction = (generalized_of c.args.time.now.content.items c.args.time.now.canonical).fraction in
-    ap are_digits c.fraction-fraction.ensures ∙ (and_parts (are_digits (fraction_of c.args.time.now.content.items)) _ fraction).0
+    ap are_digits c.fraction-fraction.ensures
+    ∙ (and_parts (are_digits (fraction_of c.args.time.now.content.items)) _ fraction).0
 
 pub returns-clause-some : goal.returns-clause-some
 returns-clause-some c =
-    let value : c.digits_value.result ≡ scaled 9 (fraction_of c.args.time.now.content.items) = c.digits_value.ensures.value ∙ ap (scaled 9) c.fraction-fraction.ensures in
+    let value : c.digits_value.result ≡ scaled 9 (fraction_of c.args.time.now.content.items) =
+    c.digits_value.ensures.value ∙ ap (scaled 9) c.fraction-fraction.ensures in
     record {
       at = c.whole_seconds.result;
       is = c.whole_seconds.ensures;

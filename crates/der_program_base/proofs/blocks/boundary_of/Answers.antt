@@ -6,7 +6,8 @@ pub returns-in-Some : goal.returns-in-Some
 returns-in-Some c = record { is = sym (trimmed_is _ _ c.trim_ascii-line.ensures.value) ∙ c.in-Some.ensures }
 
 pub returns-in-Some-label_of : goal.returns-in-Some-label_of
-returns-in-Some-label_of c = record { is = sym (trimmed_is _ _ c.trim_ascii-line.ensures.value) ∙ c.in-Some-label_of.ensures }
+returns-in-Some-label_of c =
+    record { is = sym (trimmed_is _ _ c.trim_ascii-line.ensures.value) ∙ c.in-Some-label_of.ensures }
 
 pub returns-in-None : goal.returns-in-None
 returns-in-None c =

@@ -8,5 +8,8 @@ use Rattle.der_program_base.proofs.blocks.filled_lines.Goals as goal
 
 pub returns : goal.returns
 returns c =
-    count_from_yields_List c.filter.result c.count.result c.count.ensures.ran (YieldsList-from_filter _ (λ line. is_filled line.now) (YieldsList-from_slice c.args.lines.now cc) c.filter.ensures.closure (λ x r q k. search (rules, tests)))
-    ∙ length-filter (λ line. is_filled line.now) c.args.lines.now ∙ sym (count_by-map is_filled (λ line. line.now) c.args.lines.now)
+    count_from_yields_List c.filter.result c.count.result c.count.ensures.ran
+    (YieldsList-from_filter _ (λ line. is_filled line.now) (YieldsList-from_slice c.args.lines.now cc)
+    c.filter.ensures.closure (λ x r q k. search (rules, tests)))
+    ∙ length-filter (λ line. is_filled line.now) c.args.lines.now
+    ∙ sym (count_by-map is_filled (λ line. line.now) c.args.lines.now)

@@ -10,6 +10,8 @@ pub returns-in-Ok : goal.returns-in-Ok
 returns-in-Ok c =
     let (same, utf8) = c.in-Ok.ensures.cases in
     let road = YieldsList-from_chars c.in-Ok.text.now (subst IsUtf8 (sym same) utf8) cc in
-    let all : c.all.result ≡ list_all is_text_character (chars c.in-Ok.text.now) = all_from_yields_List is_text_character _ _ c.all.result c.all.ensures.ran road (λ x b q k. search (rules, tests)) in
+    let all : c.all.result ≡ list_all is_text_character (chars c.in-Ok.text.now) =
+    all_from_yields_List is_text_character _ _ c.all.result c.all.ensures.ran road
+    (λ x b q k. search (rules, tests)) in
     let is = rw same at all in
     (λ t. record { utf8 = utf8; characters = sym is ∙ t }, λ h. is ∙ h.characters)

@@ -5,4 +5,7 @@ use Rattle.der_program_base.specs.Lines.{ends_line}
 use Rattle.der_program_base.proofs.contents.lines_of.Goals as goal
 
 pub returns : goal.returns
-returns c = map_from_collect _ c.collect.ensures.ran (YieldsList-from_slice_split _ ends_line c.args.input.now c.split.ensures.rest c.split.ensures.done c.split.ensures.closure (λ x r q k. search (rules, tests)))
+returns c =
+    map_from_collect _ c.collect.ensures.ran
+    (YieldsList-from_slice_split _ ends_line c.args.input.now c.split.ensures.rest c.split.ensures.done
+    c.split.ensures.closure (λ x r q k. search (rules, tests)))

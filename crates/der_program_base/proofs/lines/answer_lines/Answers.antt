@@ -1,10 +1,14 @@
-use Rattle.std.proofs.Common.{ℕ, ◌<◌, ◌==◌, false, rules, ◌≡◌, ◌≢◌, vec_len, is_ok, not, true, refl, ◌∙◌, sym, ap, arith}
+use Rattle.std.proofs.Common.{ℕ, ◌<◌, ◌==◌, false, rules, ◌≡◌, ◌≢◌, vec_len, is_ok, not, true, refl, ◌∙◌, sym, ap}
+use Rattle.std.proofs.Common.{arith}
 use Rattle.std.proofs.lemmas.Bool.Decides.{Decides-eqb, not_from_Decides}
 use Rattle.std.proofs.lemmas.Result.{err_from_is_err_and}
 use Rattle.der_program_base.proofs.RunSteps.{run_starts, byte_read, line_answered, line_push, ends, ends_answered}
-use Rattle.der_program_base.proofs.RunStops.{fault_reported, reader_stops, byte_stops, line_stops, last_stops, limit_stops}
+use Rattle.der_program_base.proofs.RunStops.{fault_reported, reader_stops, byte_stops, line_stops, last_stops}
+use Rattle.der_program_base.proofs.RunStops.{limit_stops}
 use Rattle.der_program_base.proofs.lines.answer_lines.Goals as goal
-use Rattle.der_program_base.proofs.lines.answer_lines.Goals.{then-byte-eq10+in_ok-answer_line-2, else-byte-eq10+else-is_err, then-not-is_empty+in_ok-answer_line, else-not-is_empty}
+use Rattle.der_program_base.proofs.lines.answer_lines.Goals.{then-byte-eq10+in_ok-answer_line-2}
+use Rattle.der_program_base.proofs.lines.answer_lines.Goals.{else-byte-eq10+else-is_err}
+use Rattle.der_program_base.proofs.lines.answer_lines.Goals.{then-not-is_empty+in_ok-answer_line, else-not-is_empty}
 
 -- the test whether a line is empty
 is_some : (count : ℕ) → false ≡ (count == 0) → 0 < count
@@ -36,7 +40,8 @@ returns-in_err-byte-clause-reads g c =
 
 pub returns-in_err-answer_line-2-clause-stops : goal.returns-in_err-answer_line-2-clause-stops
 returns-in_err-answer_line-2-clause-stops g c =
-    let p = err_from_is_err_and c.from_residual-in_err-answer_line-2.result c.from_residual-in_err-answer_line-2.ensures.1 in
+    let p = err_from_is_err_and c.from_residual-in_err-answer_line-2.result
+    c.from_residual-in_err-answer_line-2.ensures.1 in
     let i = c.loop-read.invariant in
     let byte = rw (c.in-Some.is, c.if-byte-eq10.true) at c.in_ok-byte.ensures.byte in
     let stops = rw c.deref-then-byte-eq10.ensures.value at c.in_err-answer_line-2.ensures.err in
@@ -50,12 +55,14 @@ returns-then-is_err-clause-stops g c =
 
 pub returns-in_err-answer_line-clause-stops : goal.returns-in_err-answer_line-clause-stops
 returns-in_err-answer_line-clause-stops g c =
-    let p = err_from_is_err_and c.from_residual-in_err-answer_line.result c.from_residual-in_err-answer_line.ensures.1 in
+    let p = err_from_is_err_and c.from_residual-in_err-answer_line.result
+    c.from_residual-in_err-answer_line.ensures.1 in
     let i = c.loop-read.invariant in
     let end = rw c.in_default.is at c.in_ok-byte.ensures.byte in
     let some = is_some (vec_len c.loop-read.line) c.if-not-is_empty.ensures in
     let stops = rw c.deref.ensures.value at c.in_err-answer_line.ensures.err in
-    rw (p.1, p.2) (last_stops g.W.WriteExt i.runs _ _ _ _ _ end.0 end.1 (omega (arith, some, c.loop-read.line.ok.0)) i.writes stops)
+    rw (p.1, p.2) (last_stops g.W.WriteExt i.runs _ _ _ _ _ end.0 end.1 (omega (arith, some, c.loop-read.line.ok.0))
+    i.writes stops)
 
 pub returns-in_default-clause-text : goal.returns-in_default-clause-text
 returns-in_default-clause-text g c =
@@ -94,7 +101,8 @@ loop-read-preserved g c =
       | else-byte-eq10+else-is_err w ↦
           let pushed : is_ok w.push.result ≡ true = w.is_err.ensures.negation ∙ ap not w.if-is_err.false in
           record {
-            runs = rw (w.output-is, w.line-is, w.push.ensures.items, pushed) (byte_read i.runs _ _ byte w.if-byte-eq10.false);
+            runs = rw (w.output-is, w.line-is, w.push.ensures.items, pushed)
+                (byte_read i.runs _ _ byte w.if-byte-eq10.false);
             reads = consumed.no_fault ∙ i.reads;
             writes = rw w.output-is i.writes;
             same_references = consumed.same_references ∙ i.same_references;

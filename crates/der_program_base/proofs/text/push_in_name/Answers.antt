@@ -3,15 +3,18 @@ use Rattle.std.proofs.lemmas.Result.{MatchResult-weaker}
 use Rattle.der_program_base.specs.Line.{is_special_in_names}
 use Rattle.der_program_base.proofs.Escapes.{special_pushed, plain_pushed}
 use Rattle.der_program_base.proofs.text.push_in_name.Goals as goal
-use Rattle.der_program_base.proofs.text.push_in_name.Goals.{then-is_special_in_names+in_ok-push, else-is_special_in_names}
+use Rattle.der_program_base.proofs.text.push_in_name.Goals.{then-is_special_in_names+in_ok-push}
+use Rattle.der_program_base.proofs.text.push_in_name.Goals.{else-is_special_in_names}
 
 pub returns : goal.returns
 returns c =
     elim c.if-is_special_in_names.branch [
       | then-is_special_in_names+in_ok-push w ↦ MatchResult-weaker c.push-2.result c.push-2.ensures
-          (λ v h. special_pushed is_special_in_names c.args.character _ _ _ (sym c.is_special_in_names.ensures ∙ w.if-is_special_in_names.true) w.in_ok-push.ensures (rw w.line-is at h))
+          (λ v h. special_pushed is_special_in_names c.args.character _ _ _ (sym c.is_special_in_names.ensures
+          ∙ w.if-is_special_in_names.true) w.in_ok-push.ensures (rw w.line-is at h))
           (λ e h. tt)
       | else-is_special_in_names w ↦ MatchResult-weaker c.push-2.result c.push-2.ensures
-          (λ v h. plain_pushed is_special_in_names c.args.character _ _ (sym c.is_special_in_names.ensures ∙ w.if-is_special_in_names.false) (rw w.line-is at h))
+          (λ v h. plain_pushed is_special_in_names c.args.character _ _ (sym c.is_special_in_names.ensures
+          ∙ w.if-is_special_in_names.false) (rw w.line-is at h))
           (λ e h. tt)
     ]

@@ -9,11 +9,15 @@ use Rattle.der_program_base.proofs.text.push_quoted.Goals as goal
 pub returns : goal.returns
 returns c =
     let road = YieldsList-from_chars c.args.text.now c.utf8.text cc in
-    let all = YieldsList-end road c.loop-character.yielded _ c.loop-character.yielded_by _ _ c.in-None.is c.next.ensures.steps in
+    let all = YieldsList-end road c.loop-character.yielded _ c.loop-character.yielded_by _ _ c.in-None.is
+    c.next.ensures.steps in
     let text = escaped is_special_in_quotes c.args.text.now in
     let quote = shown_ascii 39 (lit< tt) refl in
-    let inside = all_pushed is_special_in_quotes c.args.text.now _ _ c.loop-character.yielded all.0 c.loop-character.invariant in
+    let inside = all_pushed is_special_in_quotes c.args.text.now _ _ c.loop-character.yielded all.0
+    c.loop-character.invariant in
     let begun = inside ∙ ap (λ l. l ++ text) (c.in_ok-push.ensures ∙ ap (λ l. c.args.line.now ++ l) quote) in
     MatchResult-weaker c.push-2.result c.push-2.ensures
-    (λ v h. h ∙ ap (λ l. c.loop-character.line ++ l) quote ∙ ap (λ l. l ++ (39 ∷ [])) begun ∙ append_assoc (c.args.line.now ++ (39 ∷ [])) text (39 ∷ []) ∙ append_assoc c.args.line.now (39 ∷ []) (text ++ (39 ∷ [])))
+    (λ v h. h ∙ ap (λ l. c.loop-character.line ++ l) quote ∙ ap (λ l. l ++ (39 ∷ [])) begun
+    ∙ append_assoc (c.args.line.now ++ (39 ∷ [])) text (39 ∷ [])
+    ∙ append_assoc c.args.line.now (39 ∷ []) (text ++ (39 ∷ [])))
     (λ e h. tt)

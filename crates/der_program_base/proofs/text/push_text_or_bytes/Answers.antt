@@ -19,5 +19,6 @@ returns-in-Ok c =
 
 pub returns-in-Err : goal.returns-in-Err
 returns-in-Err c =
-    let is = not_true (is_utf8 c.args.bytes.now) (λ e. c.in-Err.ensures.cases.0 (IsUtf8-from_is_utf8 c.args.bytes.now e)) in
+    let is = not_true (is_utf8 c.args.bytes.now)
+    (λ e. c.in-Err.ensures.cases.0 (IsUtf8-from_is_utf8 c.args.bytes.now e)) in
     MatchResult-weaker c.push_bytes.result c.push_bytes.ensures (λ v h. rw is h) (λ e h. tt)

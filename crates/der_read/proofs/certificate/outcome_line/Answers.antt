@@ -7,7 +7,9 @@ use Rattle.der_read.proofs.certificate.outcome_line.Goals as goal
 
 pub returns-in_ok-summary-in-Read : goal.returns-in_ok-summary-in-Read
 returns-in_ok-summary-in-Read c =
-    rw c.in-Read.is (IfOk-weaker c.summary_line.result _ _ (λ line e. (c.in_ok-summary-in-Read.summary, c.in_ok-summary-in-Read.ensures, e)) c.summary_line.ensures)
+    rw c.in-Read.is
+    (IfOk-weaker c.summary_line.result _ _
+    (λ line e. (c.in_ok-summary-in-Read.summary, c.in_ok-summary-in-Read.ensures, e)) c.summary_line.ensures)
 
 pub returns-in_ok-text-in-Refused : goal.returns-in_ok-text-in-Refused
 returns-in_ok-text-in-Refused c =
@@ -16,5 +18,10 @@ returns-in_ok-text-in-Refused c =
     let line_of = refusal_line c.args.format c.args.file.now c.args.block in
     rw c.in-Refused.is
     (IfOk-weaker c.refusal_line.result _ _
-    (λ line e. (reason, c.in_ok-reason-in-Refused.ensures, e ∙ ap (λ offset. line_of offset c.deref.result.now) c.from.ensures ∙ ap (line_of (number (unsigned reason.offset))) said))
+    (λ line e. (
+      reason,
+      c.in_ok-reason-in-Refused.ensures,
+      e ∙ ap (λ offset. line_of offset c.deref.result.now) c.from.ensures
+          ∙ ap (line_of (number (unsigned reason.offset))) said,
+    ))
     c.refusal_line.ensures)

@@ -2,4 +2,9 @@ use Rattle.std.proofs.lemmas.Result.{IfOk-weaker}
 use Rattle.der_read.proofs.explanation.explanation_of.Goals as goal
 
 pub returns : goal.returns
-returns c = IfOk-weaker c.explained.result _ _ (λ it e. record { reason = c.in_ok-reason.reason; is = c.in_ok-reason.ensures; offset = e }) c.explained.ensures
+returns c =
+    IfOk-weaker c.explained.result _ _ (λ it e. record {
+      reason = c.in_ok-reason.reason;
+      is = c.in_ok-reason.ensures;
+      offset = e;
+    }) c.explained.ensures

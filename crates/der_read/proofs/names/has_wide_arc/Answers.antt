@@ -9,4 +9,6 @@ use Rattle.der_read.proofs.names.has_wide_arc.Goals as goal
 
 pub returns : goal.returns
 returns c =
-    any_from_yields_List is_err c.any.new.self _ _ c.any.ensures.ran (YieldsList-from_first (λ x. x) (λ s. map fitted (arcs_left s)) {s = c.arcs.result} _ (ap (map fitted) c.arcs.ensures)) (λ x b q k. search (rules, tests))
+    any_from_yields_List is_err c.any.new.self _ _ c.any.ensures.ran
+    (YieldsList-from_first (λ x. x) (λ s. map fitted (arcs_left s)) {s = c.arcs.result} _
+    (ap (map fitted) c.arcs.ensures)) (λ x b q k. search (rules, tests))

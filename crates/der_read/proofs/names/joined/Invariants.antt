@@ -3,4 +3,5 @@ use Rattle.std.specs.List.{flat_map}
 use Rattle.der_read.proofs.names.joined.Given as goal
 
 abbrev pub invariant-loop-other : goal.invariant-loop-other
-invariant-loop-other l = string_bytes l.text ≡ string_bytes l.initial.text ++ flat_map (λ other. l.separator ++ other) (map string_bytes (take l.other-index l.others))
+invariant-loop-other l = string_bytes l.text ≡ string_bytes l.initial.text ++ flat_map (λ other. l.separator ++ other)
+    (map string_bytes (take l.other-index l.others))

@@ -9,7 +9,8 @@ returns c =
     IfOk-weaker c.joined.result _ _
     (λ text e. record {
       texts = map string_bytes c.in_ok-texts.texts.items;
-      each = zip_right IsAttributeText string_bytes c.args.attributes.now c.in_ok-texts.texts.items c.in_ok-texts.ensures;
+      each = zip_right IsAttributeText string_bytes c.args.attributes.now c.in_ok-texts.texts.items
+          c.in_ok-texts.ensures;
       is = e ∙ ap (λ l. joined (codes " + ") (map string_bytes l)) c.deref.ensures.value;
     })
     c.joined.ensures

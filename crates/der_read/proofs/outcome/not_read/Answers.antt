@@ -12,6 +12,7 @@ returns c = record {
 pub returns-in-Err : goal.returns-in-Err
 returns-in-Err c = record {
   refused = c.requires.refused;
-  none = none_at_front c.requires.refused c.requires.memory c.in-Err.ensures.err (λ e. c.in_ok-reported.ensures.1 (ap (λ r. r.error) c.in_ok-reported.ensures.0 ∙ e));
+  none = none_at_front c.requires.refused c.requires.memory c.in-Err.ensures.err
+      (λ e. c.in_ok-reported.ensures.1 (ap (λ r. r.error) c.in_ok-reported.ensures.0 ∙ e));
   memory = c.requires.memory;
 }

@@ -9,4 +9,5 @@ pub returns-in_ok-value-in-Json : goal.returns-in_ok-value-in-Json
 returns-in_ok-value-in-Json c =
     let e = c.in_ok-value-in-Json.ensures in
     let none = message_no_float c.args.file.now c.args.block c.args.size c.args.types.now in
-    rw c.in-Json.is (IfOk-weaker c.json_line.result _ _ (λ text h. h (ap has_float e ∙ none) ∙ ap json_line e) c.json_line.ensures.text)
+    rw c.in-Json.is (IfOk-weaker c.json_line.result _ _ (λ text h. h (ap has_float e ∙ none) ∙ ap json_line e)
+    c.json_line.ensures.text)

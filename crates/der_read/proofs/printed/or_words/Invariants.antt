@@ -4,4 +4,5 @@ use Rattle.der_read.specs.Printed.{or_word}
 use Rattle.der_read.proofs.printed.or_words.Given as goal
 
 abbrev pub invariant-loop-other : goal.invariant-loop-other
-invariant-loop-other l = string_bytes l.words ≡ string_bytes l.initial.words ++ flat_map or_word (take l.other-index l.others)
+invariant-loop-other l = string_bytes l.words ≡ string_bytes l.initial.words
+    ++ flat_map or_word (take l.other-index l.others)

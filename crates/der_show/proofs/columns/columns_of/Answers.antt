@@ -5,6 +5,7 @@ use Rattle.der_show.proofs.columns.columns_of.Goals as goal
 
 pub returns : goal.returns
 returns c =
-    let h = rw (c.laid_out.ensures, c.laid_out-2.ensures, c.laid_out-3.ensures, c.laid_out-4.ensures) at c.format.ensures.ok in
+    let h = rw (c.laid_out.ensures, c.laid_out-2.ensures, c.laid_out-3.ensures, c.laid_out-4.ensures) at
+    c.format.ensures.ok in
     let k = simp (padded_right, padded_left, append_assoc) at h in
     simp append_assoc k

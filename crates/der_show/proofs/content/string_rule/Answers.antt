@@ -5,4 +5,5 @@ use Rattle.der_show.proofs.content.string_rule.Goals as goal
 pub returns-in-12 : goal.returns-in-12
 returns-in-12 c =
     let tested = text_tested _ _ c.args.content.now c.from_utf8.result c.from_utf8.ensures.cases in
-    c.unless.ensures ∙ text_rule c.args.tag c.args.content.now c.is_ok.result (sym c.inner.ensures ∙ c.in-12.is) (c.is_ok.ensures.value ∙ tested)
+    c.unless.ensures ∙ text_rule c.args.tag c.args.content.now c.is_ok.result (sym c.inner.ensures ∙ c.in-12.is)
+    (c.is_ok.ensures.value ∙ tested)

@@ -12,16 +12,20 @@ returns-in_err-line-clause-err g c =
     rw p.1 (stops_before g.W.WriteExt c.args.format.now (c.args.entry ∷ []) _ _ _ (memory p.2 refl) refl)
 
 pub returns-then-is_err-clause-err : goal.returns-then-is_err-clause-err
-returns-then-is_err-clause-err g c = stops_before g.W.WriteExt c.args.format.now (c.args.entry ∷ []) _ _ _ (memory refl refl) refl
+returns-then-is_err-clause-err g c =
+    stops_before g.W.WriteExt c.args.format.now (c.args.entry ∷ []) _ _ _ (memory refl refl) refl
 
 pub returns-in_err-write_exact-clause-err : goal.returns-in_err-write_exact-clause-err
 returns-in_err-write_exact-clause-err g c =
-    let p = err_from_is_err_and c.from_residual-in_err-write_exact.result c.from_residual-in_err-write_exact.ensures.1 in
+    let p = err_from_is_err_and c.from_residual-in_err-write_exact.result
+    c.from_residual-in_err-write_exact.ensures.1 in
     let pushed : is_ok c.push.result ≡ true = c.is_err.ensures.negation ∙ ap not c.if-is_err.false in
     let text = c.as_bytes.ensures.value ∙ rw (pushed, c.push.ensures.ascii (omega arith)) at c.push.ensures.bytes in
     let failed = c.in_err-write_exact.ensures in
-    let fault : WriterFails g.W.WriteExt c.args.output.now p.0 c.write_exact.new.self = record { rose = failed.fault.0; kind = _; answered = failed.fault.1; is = p.2 } in
-    rw p.1 (stops_in_line g.W.WriteExt c.args.format.now c.args.entry (string_bytes c.in_ok-line.line) _ _ _ c.in_ok-line.ensures (writer fault) (rw text at failed.beginning.begins))
+    let fault : WriterFails g.W.WriteExt c.args.output.now p.0 c.write_exact.new.self =
+    record { rose = failed.fault.0; kind = _; answered = failed.fault.1; is = p.2 } in
+    rw p.1 (stops_in_line g.W.WriteExt c.args.format.now c.args.entry (string_bytes c.in_ok-line.line) _ _ _
+    c.in_ok-line.ensures (writer fault) (rw text at failed.beginning.begins))
 
 pub returns-clause-ok : goal.returns-clause-ok
 returns-clause-ok g c =

@@ -10,14 +10,17 @@ use Rattle.der_show.proofs.listing.show_as.Goals as goal
 
 pub loop-offset-init : goal.loop-offset-init
 loop-offset-init g c = record {
-  comes = rw c.new-ends.ensures (comes_first c.args.form.now c.args.options.now c.args.bytes.now _ _ c.min-offset.ensures);
+  comes = rw c.new-ends.ensures (comes_first c.args.form.now c.args.options.now c.args.bytes.now _ _
+      c.min-offset.ensures);
   faults = refl;
   continues = search rules;
 }
 
 pub slice_bounds-ahead-end : goal.slice_bounds-ahead-end
 slice_bounds-ahead-end g c =
-    let (low, high) = place_open c.args.bytes.now c.loop-offset.ends c.loop-offset.offset c.loop-offset.invariant.comes.place c.loop-offset-test.true in
+    let (low, high) =
+    place_open c.args.bytes.now c.loop-offset.ends c.loop-offset.offset c.loop-offset.invariant.comes.place
+    c.loop-offset-test.true in
     let end = c.innermost-end.ensures in
     omega arith
 
@@ -25,7 +28,8 @@ pub returns-in_err-step-clause-err : goal.returns-in_err-step-clause-err
 returns-in_err-step-clause-err g c =
     let p = err_from_is_err_and c.from_residual.result c.from_residual.ensures.1 in
     let i = c.loop-offset.invariant in
-    rw p.1 (stops_here g.W.WriteExt c.args.form.now c.args.options.now c.args.bytes.now c.loop-offset.ends c.loop-offset.offset c.loop-offset.is_der _ _ i.comes i.faults _ (memory p.2 refl))
+    rw p.1 (stops_here g.W.WriteExt c.args.form.now c.args.options.now c.args.bytes.now c.loop-offset.ends
+    c.loop-offset.offset c.loop-offset.is_der _ _ i.comes i.faults _ (memory p.2 refl))
 
 pub returns-in_err-write_step-clause-err : goal.returns-in_err-write_step-clause-err
 returns-in_err-write_step-clause-err g c =
@@ -36,9 +40,12 @@ returns-in_err-write_step-clause-err g c =
     let ends = c.loop-offset.ends in
     let at = c.loop-offset.offset in
     let t = c.in_ok-step.step in
-    let is = subst (λ k. IsStep o k (ahead b ends at) t) c.depth-depth.ensures (subst (λ k. IsStep o c.depth-depth.result (slice_range b at k) t) c.innermost-end.ensures c.in_ok-step.ensures) in
+    let is = subst (λ k. IsStep o k (ahead b ends at) t) c.depth-depth.ensures
+    (subst (λ k. IsStep o c.depth-depth.result (slice_range b at k) t) c.innermost-end.ensures
+    c.in_ok-step.ensures) in
     let stops = rw c.depth-depth.ensures at c.in_err-write_step.ensures.err in
-    rw (p.1, p.2) (stops_in_step g.W.WriteExt c.args.form.now o b ends at c.loop-offset.is_der _ _ i.comes i.faults _ t _ is stops)
+    rw (p.1, p.2) (stops_in_step g.W.WriteExt c.args.form.now o b ends at c.loop-offset.is_der _ _ i.comes i.faults _ t
+    _ is stops)
 
 pub returns-then-not-continues-clause-ok : goal.returns-then-not-continues-clause-ok
 returns-then-not-continues-clause-ok g c =
@@ -48,9 +55,13 @@ returns-then-not-continues-clause-ok g c =
     let ends = c.loop-offset.ends in
     let at = c.loop-offset.offset in
     let t = c.in_ok-step.step in
-    let is = subst (λ k. IsStep o k (ahead b ends at) t) c.depth-depth.ensures (subst (λ k. IsStep o c.depth-depth.result (slice_range b at k) t) c.innermost-end.ensures c.in_ok-step.ensures) in
+    let is = subst (λ k. IsStep o k (ahead b ends at) t) c.depth-depth.ensures
+    (subst (λ k. IsStep o c.depth-depth.result (slice_range b at k) t) c.innermost-end.ensures
+    c.in_ok-step.ensures) in
     let written = rw c.depth-depth.ensures at c.in_ok-write_step.ensures.ok in
-    rw c.is_element-is_der.ensures (comes_to_stop c.args.form.now o b ends at c.loop-offset.is_der _ _ c.loop-offset.invariant.comes c.loop-offset-test.true small t (sym c.continues.ensures ∙ c.if-not-continues.true) is _ written)
+    rw c.is_element-is_der.ensures (comes_to_stop c.args.form.now o b ends at c.loop-offset.is_der _ _
+    c.loop-offset.invariant.comes c.loop-offset-test.true small t (sym c.continues.ensures
+    ∙ c.if-not-continues.true) is _ written)
 
 pub move_past-requires : goal.move_past-requires
 move_past-requires g c =
@@ -60,7 +71,9 @@ move_past-requires g c =
     let ends = c.loop-offset.ends in
     let at = c.loop-offset.offset in
     let t = c.in_ok-step.step in
-    let is = subst (λ k. IsStep o k (ahead b ends at) t) c.depth-depth.ensures (subst (λ k. IsStep o c.depth-depth.result (slice_range b at k) t) c.innermost-end.ensures c.in_ok-step.ensures) in
+    let is = subst (λ k. IsStep o k (ahead b ends at) t) c.depth-depth.ensures
+    (subst (λ k. IsStep o c.depth-depth.result (slice_range b at k) t) c.innermost-end.ensures
+    c.in_ok-step.ensures) in
     step_moves b ends at c.loop-offset.invariant.comes.place c.loop-offset-test.true o small t is
 
 pub returns-in_err-offset : goal.returns-in_err-offset
@@ -72,10 +85,13 @@ returns-in_err-offset g c =
     let ends = c.loop-offset.ends in
     let at = c.loop-offset.offset in
     let t = c.in_ok-step.step in
-    let is = subst (λ k. IsStep o k (ahead b ends at) t) c.depth-depth.ensures (subst (λ k. IsStep o c.depth-depth.result (slice_range b at k) t) c.innermost-end.ensures c.in_ok-step.ensures) in
+    let is = subst (λ k. IsStep o k (ahead b ends at) t) c.depth-depth.ensures
+    (subst (λ k. IsStep o c.depth-depth.result (slice_range b at k) t) c.innermost-end.ensures
+    c.in_ok-step.ensures) in
     let written = rw c.depth-depth.ensures at c.in_ok-write_step.ensures.ok in
     let on = sym c.continues.ensures ∙ c.if-not-continues.false in
-    let next = comes_on c.args.form.now o b ends at c.loop-offset.is_der _ _ i.comes c.loop-offset-test.true t is _ written on in
+    let next = comes_on c.args.form.now o b ends at c.loop-offset.is_der _ _ i.comes c.loop-offset-test.true t is _
+    written on in
     let same = c.in_ok-write_step.ensures.no_fault ∙ i.faults in
     rw p.1 (record {
       ok = tt;
@@ -92,8 +108,12 @@ loop-offset-smaller g c =
     let ends = c.loop-offset.ends in
     let at = c.loop-offset.offset in
     let t = c.in_ok-step.step in
-    let is = subst (λ k. IsStep o k (ahead b ends at) t) c.depth-depth.ensures (subst (λ k. IsStep o c.depth-depth.result (slice_range b at k) t) c.innermost-end.ensures c.in_ok-step.ensures) in
-    let further = subst (λ k. at < offset_after k at t) (sym c.innermost-end.ensures) (step_place b ends at c.loop-offset.invariant.comes.place c.loop-offset-test.true o t is).1 in
+    let is = subst (λ k. IsStep o k (ahead b ends at) t) c.depth-depth.ensures
+    (subst (λ k. IsStep o c.depth-depth.result (slice_range b at k) t) c.innermost-end.ensures
+    c.in_ok-step.ensures) in
+    let further =
+    subst (λ k. at < offset_after k at t) (sym c.innermost-end.ensures)
+    (step_place b ends at c.loop-offset.invariant.comes.place c.loop-offset-test.true o t is).1 in
     omega (arith, c.in_ok-offset.ensures.offset, c.loop-offset-test.true, further)
 
 pub loop-offset-preserved : goal.loop-offset-preserved
@@ -104,14 +124,23 @@ loop-offset-preserved g c =
     let ends = c.loop-offset.ends in
     let at = c.loop-offset.offset in
     let t = c.in_ok-step.step in
-    let is = subst (λ k. IsStep o k (ahead b ends at) t) c.depth-depth.ensures (subst (λ k. IsStep o c.depth-depth.result (slice_range b at k) t) c.innermost-end.ensures c.in_ok-step.ensures) in
+    let is = subst (λ k. IsStep o k (ahead b ends at) t) c.depth-depth.ensures
+    (subst (λ k. IsStep o c.depth-depth.result (slice_range b at k) t) c.innermost-end.ensures
+    c.in_ok-step.ensures) in
     let written = rw c.depth-depth.ensures at c.in_ok-write_step.ensures.ok in
     let on = sym c.continues.ensures ∙ c.if-not-continues.false in
-    rw (c.in_ok-offset.ensures.ends, c.in_ok-offset.ensures.offset, c.innermost-end.ensures, c.is_element-is_der.ensures) (record {
-      comes = comes_on c.args.form.now o b ends at c.loop-offset.is_der _ _ i.comes c.loop-offset-test.true t is _ written on;
+    rw (
+      c.in_ok-offset.ensures.ends,
+      c.in_ok-offset.ensures.offset,
+      c.innermost-end.ensures,
+      c.is_element-is_der.ensures,
+    ) (record {
+      comes = comes_on c.args.form.now o b ends at c.loop-offset.is_der _ _ i.comes c.loop-offset-test.true t is _
+          written on;
       faults = c.in_ok-write_step.ensures.no_fault ∙ i.faults;
       continues = g.met.W.WriteExt.later_trans _ _ _ i.continues c.in_ok-write_step.ensures.continues;
     })
 
 pub returns-clause-ok : goal.returns-clause-ok
-returns-clause-ok g c = comes_to_end c.args.form.now c.args.options.now c.args.bytes.now c.loop-offset.ends c.loop-offset.offset c.loop-offset.is_der _ _ c.loop-offset.invariant.comes c.loop-offset-test.false
+returns-clause-ok g c = comes_to_end c.args.form.now c.args.options.now c.args.bytes.now c.loop-offset.ends
+    c.loop-offset.offset c.loop-offset.is_der _ _ c.loop-offset.invariant.comes c.loop-offset-test.false

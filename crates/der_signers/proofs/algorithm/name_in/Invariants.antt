@@ -4,4 +4,5 @@ use Rattle.der_signers.proofs.algorithm.name_in.Given as goal
 
 abbrev pub invariant-loop-known : goal.invariant-loop-known
 invariant-loop-known l =
-    name_in (map (λ entry. (entry.0.now, entry.1.now)) (drop l.known-index l.table)) l.identifier ≡ name_in (map (λ entry. (entry.0.now, entry.1.now)) l.table) l.identifier
+    name_in (map (λ entry. (entry.0.now, entry.1.now)) (drop l.known-index l.table)) l.identifier
+    ≡ name_in (map (λ entry. (entry.0.now, entry.1.now)) l.table) l.identifier

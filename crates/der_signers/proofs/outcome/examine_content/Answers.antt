@@ -25,8 +25,10 @@ returns-clause-ok c =
     let kind : content_of c.args.message.content_type ≡ signed_data_identifier = search rules in
     let content = content_bytes c.args.message in
     let was = c.in_ok-error-in-Err.field-0 in
-    let refused : IsNoSignedData content c.in-Err.refusal c.in-Err.refusal.position = rw c.deref.ensures.value at c.in-Err.ensures.err in
-    let position : c.saturating_sub.result + was.position ≡ (length c.args.bytes.now - length content) + was.position = omega (arith, c.saturating_sub.ensures, c.len.ensures, c.deref.ensures.len, ap length c.deref.ensures.value) in
+    let refused : IsNoSignedData content c.in-Err.refusal c.in-Err.refusal.position =
+    rw c.deref.ensures.value at c.in-Err.ensures.err in
+    let position : c.saturating_sub.result + was.position ≡ (length c.args.bytes.now - length content) + was.position =
+    omega (arith, c.saturating_sub.ensures, c.len.ensures, c.deref.ensures.len, ap length c.deref.ensures.value) in
     record {
       message = c.args.message;
       whole = c.requires;

@@ -11,7 +11,8 @@ loop-index-preserved c =
     let items = message.reports.items in
     let i = c.loop-index.index in
     let report = c.report-item.result in
-    let line : ℕ × Report → List ℕ = λ numbered. signer_text c.args.format c.args.file.now c.args.block message.content numbered.0 numbered.1 in
+    let line : ℕ × Report → List ℕ = λ numbered. signer_text c.args.format c.args.file.now c.args.block message.content
+    numbered.0 numbered.1 in
     let same : c.deref-report-items.result.now ≡ items = c.deref-report-items.ensures.value in
     let inside : i < length items = rw (← same) c.loop-index-test.true in
     let is : report ≡ get_or items i report = rw (← same) c.report-item.is in

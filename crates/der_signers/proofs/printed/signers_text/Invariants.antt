@@ -6,4 +6,5 @@ use Rattle.der_signers.proofs.printed.signers_text.Given as goal
 abbrev pub invariant-loop-index : goal.invariant-loop-index
 invariant-loop-index l =
     string_bytes l.text
-    ≡ flat_map (λ numbered. signer_text l.format l.file l.block l.message.content numbered.0 numbered.1) (enumerate_from 0 (take l.index l.message.reports.items))
+    ≡ flat_map (λ numbered. signer_text l.format l.file l.block l.message.content numbered.0 numbered.1)
+    (enumerate_from 0 (take l.index l.message.reports.items))

@@ -5,4 +5,5 @@ use Rattle.der_signers.specs.Report.{IsReport}
 use Rattle.der_signers.proofs.report.reports_on.Given as goal
 
 abbrev pub invariant-loop-signer : goal.invariant-loop-signer
-invariant-loop-signer l = AllZip (IsReport l.signed_data (option_copied l.content)) (take l.signer-index l.signers) l.reports.items
+invariant-loop-signer l = AllZip (IsReport l.signed_data (option_copied l.content)) (take l.signer-index l.signers)
+    l.reports.items

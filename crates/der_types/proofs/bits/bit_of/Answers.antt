@@ -9,4 +9,5 @@ returns c =
     let bs = c.args.content.now in
     let i = c.args.index in
     let few : i < length (bits_of bs) = omega (arith, c.len_of.ensures) in
-    ap Some c.byte_bit.ensures ∙ ap (λ bytes. Some (byte_bit (get_or bytes (i / 8) 0) (i % 8))) (take_rest bs 1) ∙ sym (slice_get-bits_of bs i c.requires few)
+    ap Some c.byte_bit.ensures ∙ ap (λ bytes. Some (byte_bit (get_or bytes (i / 8) 0) (i % 8))) (take_rest bs 1)
+    ∙ sym (slice_get-bits_of bs i c.requires few)

@@ -28,7 +28,9 @@ loop-character-preserved g c =
     let yes : p character ≡ true = sym c.is_character.ensures ∙ c.if-not-is_character.false in
     record {
       text = IsUtf8-past_char _ _ character held.text parts;
-      content = ap (λ bs. bs ++ string_content width after) c.in_ok-push_character.ensures ∙ append_assoc items (character_bytes width character) (string_content width after) ∙ ap (λ cs. items ++ string_content width cs) (sym step) ∙ held.content;
+      content = ap (λ bs. bs ++ string_content width after) c.in_ok-push_character.ensures
+          ∙ append_assoc items (character_bytes width character) (string_content width after)
+          ∙ ap (λ cs. items ++ string_content width cs) (sym step) ∙ held.content;
       decides = held.decides ∙ ap (list_all p) step ∙ ap (λ b. b && list_all p after) yes;
     }
 
@@ -36,7 +38,8 @@ pub returns-clause-some : goal.returns-clause-some
 returns-clause-some g c =
     let held = c.loop-character.invariant in
     let end = chars_of_empty _ c.in-None.ensures.steps.0.0 in
-    sym (append-nil _) ∙ (rw end at held.content) ∙ ap (λ w. string_content w (chars c.args.text.now)) c.WIDTH-width.ensures
+    sym (append-nil _) ∙ (rw end at held.content)
+    ∙ ap (λ w. string_content w (chars c.args.text.now)) c.WIDTH-width.ensures
 
 pub returns-clause-each : goal.returns-clause-each
 returns-clause-each g c =

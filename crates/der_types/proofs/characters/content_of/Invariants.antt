@@ -14,5 +14,7 @@ pub record Written (IsText SameContent LeftDecides : Type 0) : Type 0 where
 abbrev pub invariant-loop-character : goal.invariant-loop-character
 invariant-loop-character g l = Written
     (IsUtf8 (chars_rest l.character-iterator))
-    (l.content.items ++ string_content l.width (chars (chars_rest l.character-iterator)) ≡ string_content l.width (chars l.fn.text))
-    (list_all g.S.CharacterSet.is_character (chars l.fn.text) ≡ list_all g.S.CharacterSet.is_character (chars (chars_rest l.character-iterator)))
+    (l.content.items ++ string_content l.width (chars (chars_rest l.character-iterator))
+    ≡ string_content l.width (chars l.fn.text))
+    (list_all g.S.CharacterSet.is_character (chars l.fn.text)
+    ≡ list_all g.S.CharacterSet.is_character (chars (chars_rest l.character-iterator)))

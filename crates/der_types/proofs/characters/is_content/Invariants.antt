@@ -7,4 +7,5 @@ decreases-loop-code g l = length l.rest
 
 -- what is left decides
 abbrev pub invariant-loop-code : goal.invariant-loop-code
-invariant-loop-code g l = is_string_content g.S.CharacterSet.WIDTH g.S.CharacterSet.is_character l.bytes ≡ is_string_content g.S.CharacterSet.WIDTH g.S.CharacterSet.is_character l.rest
+invariant-loop-code g l = is_string_content g.S.CharacterSet.WIDTH g.S.CharacterSet.is_character l.bytes
+    ≡ is_string_content g.S.CharacterSet.WIDTH g.S.CharacterSet.is_character l.rest

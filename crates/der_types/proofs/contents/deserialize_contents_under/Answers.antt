@@ -13,8 +13,12 @@ returns-in-Some-clause-read g c =
     let content = g.T.Contents.content made in
     let read = c.in-Some.ensures.read in
     let small : length content < 2 ^ 64 = omega (arith, c.in-Some.ensures.short) in
-    reads_judged (test_error g.T.Contents.is_content) read.reads.readable.0 small (passes g.T.Contents.is_content content (g.met.T.Contents.valid made)) read.reads
+    reads_judged (test_error g.T.Contents.is_content) read.reads.readable.0 small
+    (passes g.T.Contents.is_content content (g.met.T.Contents.valid made)) read.reads
 
 pub returns-in-None-clause-err : goal.returns-in-None-clause-err
 returns-in-None-clause-err g c =
-    subst (λ state. IfErr c.read_contents_under.result (Refuses (λ it. Tree.primitive (Primitive.bytes c.args.tag (g.T.Contents.content it))) (Shape.primitive (PrimitiveShape.bytes c.args.tag)) state c.read_contents_under.new.de)) c.in-None.ensures.none c.read_contents_under.ensures.err
+    subst (λ state. IfErr c.read_contents_under.result
+    (Refuses (λ it. Tree.primitive (Primitive.bytes c.args.tag (g.T.Contents.content it)))
+    (Shape.primitive (PrimitiveShape.bytes c.args.tag)) state c.read_contents_under.new.de)) c.in-None.ensures.none
+    c.read_contents_under.ensures.err

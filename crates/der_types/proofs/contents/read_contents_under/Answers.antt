@@ -11,15 +11,18 @@ use Rattle.der_types.proofs.contents.read_contents_under.Given.{Over}
 use Rattle.der_types.proofs.contents.read_contents_under.Goals as goal
 use Rattle.der_types.proofs.contents.read_contents_under.Goals.{In_err-bytes, After-refuse}
 
-before : (g : Over) (c : In_err-bytes g) → RefusesContent g.T.Contents.content c.args.tag g.T.Contents.is_content c.args.de.now c.deserialize_tagged_bytes.new.self c.in_err-bytes.field-0.0
+before : (g : Over) (c : In_err-bytes g) → RefusesContent g.T.Contents.content c.args.tag g.T.Contents.is_content
+    c.args.de.now c.deserialize_tagged_bytes.new.self c.in_err-bytes.field-0.0
 before g c = refuses_before g.T.Contents.content (test_error g.T.Contents.is_content) c.in_err-bytes.ensures.err
 
 pub returns-in_err-bytes-clause-err : goal.returns-in_err-bytes-clause-err
-returns-in_err-bytes-clause-err g c = refusal_passed_on _ c.from_residual.ensures.1 (search rules) (before g c.before).refuses
+returns-in_err-bytes-clause-err g c =
+    refusal_passed_on _ c.from_residual.ensures.1 (search rules) (before g c.before).refuses
 
 pub returns-in_err-bytes-clause-refused : goal.returns-in_err-bytes-clause-refused
 returns-in_err-bytes-clause-refused g c =
-    passed_on (λ s e. RefusesContent g.T.Contents.content c.args.tag g.T.Contents.is_content c.args.de.now s e) _ c.from_residual.ensures.1 (search rules) (before g c.before)
+    passed_on (λ s e. RefusesContent g.T.Contents.content c.args.tag g.T.Contents.is_content c.args.de.now s e) _
+    c.from_residual.ensures.1 (search rules) (before g c.before)
 
 pub returns-in-Some-clause-read : goal.returns-in-Some-clause-read
 returns-in-Some-clause-read g c =
@@ -28,16 +31,23 @@ returns-in-Some-clause-read g c =
     let small : length bytes.items < 2 ^ 64 = omega (arith, bytes.small, bytes.ok) in
     let read = c.in_ok-bytes.ensures.ok in
     let good = ap g.T.Contents.is_content (sym is) ∙ g.met.T.Contents.valid c.in-Some.value in
-    subst (λ x. ReadsPlain c.args.tag (test_error g.T.Contents.is_content) (Shape.primitive (PrimitiveShape.bytes c.args.tag)) c.args.de.now c.deserialize_tagged_bytes.new.self (Tree.primitive (Primitive.bytes c.args.tag x))) (sym is)
-    (reads_judged (test_error g.T.Contents.is_content) read.reads.readable.0 small (passes g.T.Contents.is_content bytes.items good) read.reads)
+    subst (λ x. ReadsPlain c.args.tag (test_error g.T.Contents.is_content)
+    (Shape.primitive (PrimitiveShape.bytes c.args.tag)) c.args.de.now c.deserialize_tagged_bytes.new.self
+    (Tree.primitive (Primitive.bytes c.args.tag x))) (sym is)
+    (reads_judged (test_error g.T.Contents.is_content) read.reads.readable.0 small
+    (passes g.T.Contents.is_content bytes.items good) read.reads)
 
-none : (g : Over) (c : After-refuse g) → RefusesContent g.T.Contents.content c.args.tag g.T.Contents.is_content c.args.de.now c.refuse.new.self c.refuse.result
+none : (g : Over) (c : After-refuse g) → RefusesContent g.T.Contents.content c.args.tag g.T.Contents.is_content
+    c.args.de.now c.refuse.new.self c.refuse.result
 none g c =
     let bytes = c.in_ok-bytes.bytes in
     let small : length bytes.items < 2 ^ 64 = omega (arith, bytes.small, bytes.ok) in
     let read = c.in_ok-bytes.ensures.ok in
-    refuses_judged g.T.Contents.content (test_error g.T.Contents.is_content) InvalidData read.reads.readable.0 small (λ e. cc)
-    (λ v. passes g.T.Contents.is_content (g.T.Contents.content v) (g.met.T.Contents.valid v)) (fails g.T.Contents.is_content bytes.items c.in-None.ensures.none) read.reads c.refuse.ensures.is c.refuse.ensures.fails
+    refuses_judged g.T.Contents.content (test_error g.T.Contents.is_content) InvalidData read.reads.readable.0 small
+    (λ e. cc)
+    (λ v. passes g.T.Contents.is_content (g.T.Contents.content v) (g.met.T.Contents.valid v))
+    (fails g.T.Contents.is_content bytes.items c.in-None.ensures.none) read.reads c.refuse.ensures.is
+    c.refuse.ensures.fails
 
 pub returns-in-None-clause-refused : goal.returns-in-None-clause-refused
 returns-in-None-clause-refused g c = none g c

@@ -1,4 +1,5 @@
-use Rattle.der_types.specs.CharacterStringLaws.{is_string_content-content, content-characters, characters-content, whole-content, each-character, same_text}
+use Rattle.der_types.specs.CharacterStringLaws.{is_string_content-content, content-characters, characters-content}
+use Rattle.der_types.specs.CharacterStringLaws.{whole-content, each-character, same_text}
 use Rattle.der_types.proofs.laws.character_strings.Goals as goal
 
 pub returns-clause-made : goal.returns-clause-made

@@ -8,7 +8,8 @@ returns-in_ok-push t c =
     let n = c.args.number in
     let old = c.args.bytes.now.items in
     let last = (0x80 + n % 128) ∷ [] in
-    c.in_ok-push.ensures.items ∙ ap (λ bs. bs ++ last) c.in_ok-push_marked.ensures ∙ append_assoc old (marked (n / 128)) last ∙ ap (λ bs. old ++ bs) (sym (marked-step n c.if-number-gt0.true))
+    c.in_ok-push.ensures.items ∙ ap (λ bs. bs ++ last) c.in_ok-push_marked.ensures
+    ∙ append_assoc old (marked (n / 128)) last ∙ ap (λ bs. old ++ bs) (sym (marked-step n c.if-number-gt0.true))
 
 pub returns-else-number-gt0 : goal.returns-else-number-gt0
 returns-else-number-gt0 t c =

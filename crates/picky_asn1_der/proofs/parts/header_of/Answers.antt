@@ -12,8 +12,10 @@ returns-in_default-split_length-clause-found c = λ tag content rest is.
 
 pub returns-then-content_len-rest-clause-found : goal.returns-then-content_len-rest-clause-found
 returns-then-content_len-rest-clause-found c = λ tag content rest is.
-    enough c.args.bytes.now tag content rest is (omega arith) c.in-Some.content_len c.in-Some.rest.now c.in-Some.ensures.some (omega arith)
+    enough c.args.bytes.now tag content rest is (omega arith) c.in-Some.content_len c.in-Some.rest.now
+    c.in-Some.ensures.some (omega arith)
 
 pub returns-clause-found : goal.returns-clause-found
 returns-clause-found c = λ tag content rest is.
-    header_found c.args.bytes.now tag content rest is (omega arith) c.in-Some.content_len c.in-Some.rest.now c.in-Some.ensures.some _ refl refl
+    header_found c.args.bytes.now tag content rest is (omega arith) c.in-Some.content_len c.in-Some.rest.now
+    c.in-Some.ensures.some _ refl refl

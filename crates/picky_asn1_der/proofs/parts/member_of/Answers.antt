@@ -3,25 +3,32 @@ use Rattle.picky_asn1_der.proofs.PartLemmas.{none_skipped, one_more, some_more, 
 use Rattle.picky_asn1_der.proofs.parts.member_of.Goals as goal
 
 pub returns-in_default-clause-found : goal.returns-in_default-clause-found
-returns-in_default-clause-found c = λ tag content member is has. c.in_default.ensures.found tag content [] (is ∙ sym (append-nil _))
+returns-in_default-clause-found c =
+    λ tag content member is has. c.in_default.ensures.found tag content [] (is ∙ sym (append-nil _))
 
 pub loop-init : goal.loop-init
 loop-init c = none_skipped c.args.element.now c.args.index c.in-Some.header c.in-Some.ensures.found
 
 pub returns-in_default-split_element-clause-found : goal.returns-in_default-split_element-clause-found
 returns-in_default-split_element-clause-found c =
-    some_more c.args.element.now c.args.index c.loop.counter c.loop.rest.now c.loop.invariant (omega arith) c.in_default-split_element.ensures.found
+    some_more c.args.element.now c.args.index c.loop.counter c.loop.rest.now c.loop.invariant (omega arith)
+    c.in_default-split_element.ensures.found
 
 pub loop-preserved : goal.loop-preserved
 loop-preserved c =
     let found = c.in-Some-split_element in
-    one_more c.args.element.now c.args.index c.loop.counter c.loop.rest.now c.loop.invariant (found.field-0-0.now, found.after.now) (omega arith) found.ensures.found found.ensures.all
+    one_more c.args.element.now c.args.index c.loop.counter c.loop.rest.now c.loop.invariant (
+      found.field-0-0.now,
+      found.after.now,
+    ) (omega arith) found.ensures.found found.ensures.all
 
 pub returns-in_default-split_element-2-clause-found : goal.returns-in_default-split_element-2-clause-found
 returns-in_default-split_element-2-clause-found c =
-    member_there c.args.element.now c.args.index c.loop.counter c.loop.rest.now c.loop.invariant (omega arith) c.in_default-split_element-2.ensures.found
+    member_there c.args.element.now c.args.index c.loop.counter c.loop.rest.now c.loop.invariant (omega arith)
+    c.in_default-split_element-2.ensures.found
 
 pub returns-clause-found : goal.returns-clause-found
 returns-clause-found c =
     let found = c.in-Some-split_element-2 in
-    member_is c.args.element.now c.args.index c.loop.counter c.loop.rest.now c.loop.invariant (omega arith) (found.member.now, found.field-0-1.now) found.ensures.found
+    member_is c.args.element.now c.args.index c.loop.counter c.loop.rest.now c.loop.invariant (omega arith)
+    (found.member.now, found.field-0-1.now) found.ensures.found

@@ -8,10 +8,12 @@ from_here path i h = rw (add-one, drop-cons path i 0) refl
 pub returns-in_default-clause-part : goal.returns-in_default-clause-part
 returns-in_default-clause-part c =
     let l = c.loop-index in
-    no_next c.args.encoding.now c.args.path.now l.index-index l.start l.part.now l.invariant _ (from_here c.args.path.now l.index-index (omega arith)) c.in_default.ensures.found
+    no_next c.args.encoding.now c.args.path.now l.index-index l.start l.part.now l.invariant _
+    (from_here c.args.path.now l.index-index (omega arith)) c.in_default.ensures.found
 
 pub loop-index-preserved : goal.loop-index-preserved
 loop-index-preserved c =
     let l = c.loop-index in
-    goes_down c.args.encoding.now c.args.path.now l.index-index l.start l.part.now l.invariant _ (from_here c.args.path.now l.index-index (omega arith))
+    goes_down c.args.encoding.now c.args.path.now l.index-index l.start l.part.now l.invariant _
+    (from_here c.args.path.now l.index-index (omega arith))
     c.in-Some.before c.in-Some.member.now c.in-Some.ensures.found c.in-Some.ensures.piece

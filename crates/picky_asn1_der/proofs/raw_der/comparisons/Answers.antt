@@ -8,7 +8,8 @@ returns-clause-equal c x y = bytes_decides x.0.items y.0.items
 
 pub returns-clause-order : goal.returns-clause-order
 returns-clause-order c x y =
-    let agree : Agrees (slice_partial_cmp (λ a b. Some (nat_cmp a b))) (slice_cmp nat_cmp) = lists_agrees (λ _ _. refl) in
+    let agree : Agrees (slice_partial_cmp (λ a b. Some (nat_cmp a b))) (slice_cmp nat_cmp) =
+    lists_agrees (λ _ _. refl) in
     agree x.0.items y.0.items
 
 pub returns-clause-hash : goal.returns-clause-hash

@@ -10,5 +10,6 @@ returns-clause-bytes c = bytes_by_index c.args.content.now (λ i. omega (arith, 
 
 pub returns-then-digits-gt16-clause-none : goal.returns-then-digits-gt16-clause-none
 returns-then-digits-gt16-clause-none c =
-    long_bits c.args.content.now (bytes_by_index c.args.content.now (λ i. omega (arith, c.type_inv.content i))) c.requires
+    long_bits c.args.content.now (bytes_by_index c.args.content.now (λ i. omega (arith, c.type_inv.content i)))
+    c.requires
     (subst (λ ds. 16 < length ds) c.after_sign-digits.ensures c.if-digits-gt16.true)

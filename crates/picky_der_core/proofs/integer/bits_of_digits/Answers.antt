@@ -3,16 +3,27 @@ use Rattle.picky_der_core.proofs.DigitLaws.{turned_small, number_more, more_digi
 use Rattle.picky_der_core.proofs.integer.bits_of_digits.Goals as goal
 
 pub overflow_mul-number : goal.overflow_mul-number
-overflow_mul-number c = omega (arith, more_digits_fit c.loop-byte.byte-index 16 c.loop-byte.number 0 (omega (arith, c.requires)) c.loop-byte.invariant.below (omega arith))
+overflow_mul-number c =
+    omega (
+      arith,
+      more_digits_fit c.loop-byte.byte-index 16 c.loop-byte.number 0 (omega (arith, c.requires))
+          c.loop-byte.invariant.below (omega arith),
+    )
 
 -- the next digit is one
 small : (c : goal.After-from) → c.from.result < 256
 small c =
-    let byte = turned_small c.args.is_turned (get_or c.args.bytes.now c.loop-byte.byte-index 0) (omega (arith, c.type_inv.bytes c.loop-byte.byte-index)) in
+    let byte = turned_small c.args.is_turned (get_or c.args.bytes.now c.loop-byte.byte-index 0)
+    (omega (arith, c.type_inv.bytes c.loop-byte.byte-index)) in
     omega (arith, c.digit_of.ensures, c.from.ensures, byte)
 
 pub overflow_add-number : goal.overflow_add-number
-overflow_add-number c = omega (arith, more_digits_fit c.loop-byte.byte-index 16 c.loop-byte.number c.from.result (omega (arith, c.requires)) c.loop-byte.invariant.below (small c))
+overflow_add-number c =
+    omega (
+      arith,
+      more_digits_fit c.loop-byte.byte-index 16 c.loop-byte.number c.from.result (omega (arith, c.requires))
+          c.loop-byte.invariant.below (small c),
+    )
 
 pub loop-byte-preserved : goal.loop-byte-preserved
 loop-byte-preserved c =

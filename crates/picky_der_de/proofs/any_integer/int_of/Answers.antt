@@ -10,7 +10,8 @@ returns-in-Some-clause-ok g c =
     let is : is_integer bs ≡ true = search rules in
     let seen = c.number_of.ensures in
     let fit : g.N.Int.fits (integer_value bs) ≡ true = search rules in
-    sym (content-value bs seen.bytes is) ∙ sym (within-fits g.N.Int.fits (integer_value bs) fit) ∙ ap (content_within g.N.Int.fits) (sym c.in-Some.ensures.some)
+    sym (content-value bs seen.bytes is) ∙ sym (within-fits g.N.Int.fits (integer_value bs) fit)
+    ∙ ap (content_within g.N.Int.fits) (sym c.in-Some.ensures.some)
 
 pub returns-in-Some-clause-right : goal.returns-in-Some-clause-right
 returns-in-Some-clause-right g c =

@@ -12,7 +12,10 @@ pub returns-in_err-deserialize_alternative-clause-err :
 returns-in_err-deserialize_alternative-clause-err g c =
     let p = err_from_is_err_and c.from_residual.result c.from_residual.ensures.1 in
     let h = c.in_err-deserialize_alternative.ensures.err in
-    rw (p.1, p.2) (refuses_of g.T.Choice.parts (h.refuses (alternatives_distinct g.T.Alternatives.Alternatives.shapes c.requires.distinct) c.args.de.now c.in-Ok.ensures.ok.peeks))
+    rw (p.1, p.2)
+    (refuses_of g.T.Choice.parts
+    (h.refuses (alternatives_distinct g.T.Alternatives.Alternatives.shapes c.requires.distinct) c.args.de.now
+    c.in-Ok.ensures.ok.peeks))
 
 pub returns-clause-ok : goal.returns-clause-ok
 returns-clause-ok g c =

@@ -9,7 +9,8 @@ returns-clause-ok g c =
     let is = is_lawful g.T.Deserialize.facts g.met.T.Deserialize.proved in
     let slice = c.has_no_faults.ensures in
     MatchResult-weaker c.deserialize-result.result c.deserialize-result.ensures.ok
-    (λ v r. front_read g.T.Serialize.meaning g.T.Deserialize.shape slice.left.0 [] c.new_from_reader-de.ensures slice.left.1 (sym slice.no_fault) g.T.PartialEq.eq is.sound is.injective v r)
+    (λ v r. front_read g.T.Serialize.meaning g.T.Deserialize.shape slice.left.0 [] c.new_from_reader-de.ensures
+    slice.left.1 (sym slice.no_fault) g.T.PartialEq.eq is.sound is.injective v r)
     (λ e h. tt)
 
 pub returns-clause-err : goal.returns-clause-err
@@ -17,4 +18,5 @@ returns-clause-err g c =
     let slice = c.has_no_faults.ensures in
     MatchResult-weaker c.deserialize-result.result c.deserialize-result.ensures.err
     (λ v h. tt)
-    (λ e r. front_refused g.T.Serialize.meaning g.T.Deserialize.shape slice.left.0 [] c.new_from_reader-de.ensures slice.left.1 (sym slice.no_fault) refl r)
+    (λ e r. front_refused g.T.Serialize.meaning g.T.Deserialize.shape slice.left.0 [] c.new_from_reader-de.ensures
+    slice.left.1 (sym slice.no_fault) refl r)

@@ -5,13 +5,23 @@ use Rattle.picky_der_de.proofs.LayoutReads.{layout_unopened, layout_refused, lay
 use Rattle.picky_der_de.proofs.members.deserialize_struct_as.Goals as goal
 
 pub returns-in_err-sequence-clause-err : goal.returns-in_err-sequence-clause-err
-returns-in_err-sequence-clause-err g c = refusal_passed_on _ c.from_residual.ensures.1 refl (layout_unopened (rw c.in_err-sequence.was at c.begin_list.follows.holds-at-none))
+returns-in_err-sequence-clause-err g c =
+    refusal_passed_on _ c.from_residual.ensures.1 refl
+    (layout_unopened (rw c.in_err-sequence.was at c.begin_list.follows.holds-at-none))
 
 pub returns-in_err-members-clause-err : goal.returns-in_err-members-clause-err
-returns-in_err-members-clause-err g c = refusal_passed_on _ c.from_residual-in_err-members.ensures.1 (search rules) (layout_refused g.T.Struct.parts (members_distinct g.T.Members.DeserializeMembers.layout c.requires.distinct) c.in_ok-sequence.ensures.ok c.in_err-members.ensures.err)
+returns-in_err-members-clause-err g c = refusal_passed_on _ c.from_residual-in_err-members.ensures.1 (search rules)
+    (layout_refused g.T.Struct.parts (members_distinct g.T.Members.DeserializeMembers.layout c.requires.distinct)
+    c.in_ok-sequence.ensures.ok c.in_err-members.ensures.err)
 
 pub returns-in_err-end-clause-err : goal.returns-in_err-end-clause-err
-returns-in_err-end-clause-err g c = refusal_passed_on _ c.from_residual-in_err-end.ensures.1 (search rules) (layout_left (members_distinct g.T.Members.DeserializeMembers.layout c.requires.distinct) c.in_ok-sequence.ensures.ok c.in_ok-members.ensures.ok c.in_err-end.ensures.err)
+returns-in_err-end-clause-err g c =
+    refusal_passed_on _ c.from_residual-in_err-end.ensures.1 (search rules)
+    (layout_left (members_distinct g.T.Members.DeserializeMembers.layout c.requires.distinct)
+    c.in_ok-sequence.ensures.ok c.in_ok-members.ensures.ok c.in_err-end.ensures.err)
 
 pub returns-clause-ok : goal.returns-clause-ok
-returns-clause-ok g c = rw c.from_parts.ensures (reads_at (layout_reads c.in_ok-sequence.ensures.ok c.in_ok-members.ensures.ok c.in_ok-end.ensures.ok c.in_ok-members.ensures.outer) (search rules))
+returns-clause-ok g c =
+    rw c.from_parts.ensures
+    (reads_at (layout_reads c.in_ok-sequence.ensures.ok c.in_ok-members.ensures.ok c.in_ok-end.ensures.ok
+    c.in_ok-members.ensures.outer) (search rules))

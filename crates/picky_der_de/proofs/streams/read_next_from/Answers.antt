@@ -8,11 +8,15 @@ pub returns-clause-value : goal.returns-clause-value
 returns-clause-value g c =
     let is = is_lawful g.T.Deserialize.facts g.met.T.Deserialize.proved in
     MatchResult-weaker c.next_value-next.result c.next_value-next.ensures.value
-    (λ next h. IfSome_then next h (λ v r. reads_front g.T.Serialize.meaning g.T.Deserialize.shape _ _ c.new_from_reader-de.ensures c.into_reader.ensures.input c.into_reader.ensures.faults g.T.PartialEq.eq is.sound is.injective v r))
+    (λ next h. IfSome_then next h (λ v r. reads_front g.T.Serialize.meaning g.T.Deserialize.shape _ _
+    c.new_from_reader-de.ensures c.into_reader.ensures.input c.into_reader.ensures.faults g.T.PartialEq.eq is.sound
+    is.injective v r))
     (λ e h. tt)
 
 pub returns-clause-err : goal.returns-clause-err
 returns-clause-err g c =
-    MatchResult-weaker c.next_value-next.result (err_both _ _ c.next_value-next.result c.next_value-next.ensures.err c.next_value-next.ensures.ahead)
+    MatchResult-weaker c.next_value-next.result (err_both _ _ c.next_value-next.result c.next_value-next.ensures.err
+    c.next_value-next.ensures.ahead)
     (λ next h. tt)
-    (λ e r. refuses_next_value g.T.Serialize.meaning g.T.Deserialize.shape _ _ c.new_from_reader-de.ensures c.into_reader.ensures.input c.into_reader.ensures.faults r.0 r.1)
+    (λ e r. refuses_next_value g.T.Serialize.meaning g.T.Deserialize.shape _ _ c.new_from_reader-de.ensures
+    c.into_reader.ensures.input c.into_reader.ensures.faults r.0 r.1)

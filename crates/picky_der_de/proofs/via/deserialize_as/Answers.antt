@@ -4,4 +4,5 @@ use Rattle.picky_der_de.proofs.PlainReads.{refuses_of}
 use Rattle.picky_der_de.proofs.via.deserialize_as.Goals as goal
 
 pub returns-in_err-deserialize-clause-err : goal.returns-in_err-deserialize-clause-err
-returns-in_err-deserialize-clause-err g c = refusal_passed_on _ c.from_residual.ensures.1 refl (refuses_of g.T.Via.parts c.in_err-deserialize.ensures.err)
+returns-in_err-deserialize-clause-err g c =
+    refusal_passed_on _ c.from_residual.ensures.1 refl (refuses_of g.T.Via.parts c.in_err-deserialize.ensures.err)

@@ -10,20 +10,24 @@ use Rattle.picky_der_de.proofs.PassedOn.{refusal_passed_on}
 use Rattle.picky_der_de.proofs.via.try_deserialize_as.Goals as goal
 
 -- more bytes can't change such an error
-is_final : {V W : Type 0} (meaning : W → Tree) (parts : V → W) (w : W) (e : Asn1DerError) → IsNoValue meaning parts w e → e ≢ TruncatedData
+is_final : {V W : Type 0} (meaning : W → Tree) (parts : V → W) (w : W) (e : Asn1DerError) → IsNoValue meaning parts w e
+    → e ≢ TruncatedData
 is_final meaning parts w e (inl m) q = let n : OutOfMemory ≡ TruncatedData = sym m ∙ q in cc
 is_final meaning parts w e (inr p) q = let n : InvalidData ≡ TruncatedData = sym p.0 ∙ q in cc
 
 -- unless an allocation failed, no value has these parts
-others : {V W : Type 0} (meaning : W → Tree) (parts : V → W) (w : W) (e : Asn1DerError) → IsNoValue meaning parts w e → e ≢ OutOfMemory → (v : V) → meaning (parts v) ≢ meaning w
+others : {V W : Type 0} (meaning : W → Tree) (parts : V → W) (w : W) (e : Asn1DerError) → IsNoValue meaning parts w e
+    → e ≢ OutOfMemory → (v : V) → meaning (parts v) ≢ meaning w
 others meaning parts w e (inl m) n v = absurd (n m)
 others meaning parts w e (inr p) n v = p.1 v
 
 pub returns-in_err-twin-clause-err : goal.returns-in_err-twin-clause-err
-returns-in_err-twin-clause-err g c = refusal_passed_on _ c.from_residual.ensures.1 refl (refuses_of g.T.TryVia.parts c.in_err-twin.ensures.err)
+returns-in_err-twin-clause-err g c =
+    refusal_passed_on _ c.from_residual.ensures.1 refl (refuses_of g.T.TryVia.parts c.in_err-twin.ensures.err)
 
 pub returns-in-Err-clause-err : goal.returns-in-Err-clause-err
 returns-in-Err-clause-err g c =
     let none = c.in-Err.ensures.err in
-    other_unless_memory (is_lawful g.T.As.Deserialize.facts g.met.T.As.Deserialize.proved).sound c.in_ok-twin.ensures.ok c.refuse.ensures.is c.refuse.ensures.fails (is_final g.T.As.Serialize.meaning g.T.TryVia.parts _ _ none)
+    other_unless_memory (is_lawful g.T.As.Deserialize.facts g.met.T.As.Deserialize.proved).sound c.in_ok-twin.ensures.ok
+    c.refuse.ensures.is c.refuse.ensures.fails (is_final g.T.As.Serialize.meaning g.T.TryVia.parts _ _ none)
     (λ n v p. others g.T.As.Serialize.meaning g.T.TryVia.parts _ _ none n v)

@@ -7,16 +7,20 @@ pub returns-then-position-bytes-clause-err : goal.returns-then-position-bytes-cl
 returns-then-position-bytes-clause-err g c =
     let is = is_lawful g.T.Deserialize.facts g.met.T.Deserialize.proved in
     let slice = c.has_no_faults.ensures in
-    let front = front_read g.T.Serialize.meaning g.T.Deserialize.shape slice.left.0 [] c.new_from_reader-de.ensures slice.left.1 (sym slice.no_fault) g.T.PartialEq.eq is.sound is.injective _ c.in-Ok.ensures.ok in
-    left_over front (c.taken-position.ensures.consumed ∙ consumed_all c.new_from_reader-de.ensures c.in-Ok.ensures.ok) is.sound (λ same. omega (arith, same, c.if-position-bytes.true))
+    let front = front_read g.T.Serialize.meaning g.T.Deserialize.shape slice.left.0 [] c.new_from_reader-de.ensures
+    slice.left.1 (sym slice.no_fault) g.T.PartialEq.eq is.sound is.injective _ c.in-Ok.ensures.ok in
+    left_over front (c.taken-position.ensures.consumed ∙ consumed_all c.new_from_reader-de.ensures c.in-Ok.ensures.ok)
+    is.sound (λ same. omega (arith, same, c.if-position-bytes.true))
 
 pub returns-in-Ok-clause-ok : goal.returns-in-Ok-clause-ok
 returns-in-Ok-clause-ok g c =
     let is = is_lawful g.T.Deserialize.facts g.met.T.Deserialize.proved in
     let slice = c.has_no_faults.ensures in
-    let front = front_read g.T.Serialize.meaning g.T.Deserialize.shape slice.left.0 [] c.new_from_reader-de.ensures slice.left.1 (sym slice.no_fault) g.T.PartialEq.eq is.sound is.injective _ c.in-Ok.ensures.ok in
+    let front = front_read g.T.Serialize.meaning g.T.Deserialize.shape slice.left.0 [] c.new_from_reader-de.ensures
+    slice.left.1 (sym slice.no_fault) g.T.PartialEq.eq is.sound is.injective _ c.in-Ok.ensures.ok in
     let size = c.taken-position.ensures.consumed ∙ consumed_all c.new_from_reader-de.ensures c.in-Ok.ensures.ok in
     is_whole front size (omega (arith, front.reads.within, size, c.if-position-bytes.false))
 
 pub returns-clause-err : goal.returns-clause-err
-returns-clause-err g c = no_encoding g.T.Serialize.meaning g.T.Deserialize.shape c.new_from_reader-de.ensures c.has_no_faults.ensures.no_fault c.taken-position.ensures.consumed c.in-Err.ensures.err
+returns-clause-err g c = no_encoding g.T.Serialize.meaning g.T.Deserialize.shape c.new_from_reader-de.ensures
+    c.has_no_faults.ensures.no_fault c.taken-position.ensures.consumed c.in-Err.ensures.err

@@ -12,7 +12,8 @@ returns-clause-ok g c =
     let new = c.to_writer-outcome.new.writer in
     let wrote : IfOk c.to_writer-outcome.result (λ n. Overwrites t (slice_of old).now n (slice_of new).now) =
     IfOk-weaker c.to_writer-outcome.result _ _
-    (λ n h. (wrote-slice _ (λ _. refl) (λ _. refl) (λ _ k. k) t old new n c.new-sink.ensures.start c.to_writer-outcome.ensures.continues h).0)
+    (λ n h. (wrote-slice _ (λ _. refl) (λ _. refl) (λ _ k. k) t old new n c.new-sink.ensures.start
+    c.to_writer-outcome.ensures.continues h).0)
     c.to_writer-outcome.ensures.ok in
     search (rules, wrote)
 
@@ -23,6 +24,7 @@ returns-clause-err g c =
     let new = c.to_writer-outcome.new.writer in
     let refused : IfErr c.to_writer-outcome.result (λ e. SliceRefuses t (slice_of old).now e (slice_of new).now) =
     IfErr-weaker c.to_writer-outcome.result _ _
-    (λ e h. refused-slice _ (λ _. refl) (λ _. refl) (λ _ k. k) t old new e c.new-sink.ensures.start c.to_writer-outcome.ensures.continues h)
+    (λ e h. refused-slice _ (λ _. refl) (λ _. refl) (λ _ k. k) t old new e c.new-sink.ensures.start
+    c.to_writer-outcome.ensures.continues h)
     c.to_writer-outcome.ensures.err in
     search (rules, refused)

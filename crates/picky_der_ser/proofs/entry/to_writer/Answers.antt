@@ -12,6 +12,7 @@ returns-clause-err g c =
     let start = c.new_to_writer-ser.ensures in
     let refused : IfErr c.serialize-outcome.result (λ e. SinkRefuses g.W.WriteExt t old.sink.now e new.sink.now) =
     IfErr-weaker c.serialize-outcome.result _ _
-    (λ e h. refused-fresh _ g.W.WriteExt (λ w. w.now) (λ _. refl) (λ _. refl) (λ _ k. k) t old new e start.failed start.outside start.around h)
+    (λ e h. refused-fresh _ g.W.WriteExt (λ w. w.now) (λ _. refl) (λ _. refl) (λ _ k. k) t old new e start.failed
+    start.outside start.around h)
     c.serialize-outcome.ensures.failed in
     search (rules, refused)

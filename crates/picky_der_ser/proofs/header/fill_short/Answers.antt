@@ -16,5 +16,6 @@ returns-in-Some-clause-yes c = λ t.
     let after : c.args.at + 2 ≡ c.args.start = omega arith in
     let size : n ≡ length b = omega (arith, length-drop c.args.start s) in
     let short = der-short c.args.around.now _ c.args.header.now b identifier n refl size c.in-Some.ensures.header in
-    let whole : identifier ∷ n ∷ drop (c.args.at + 2) s ≡ der (under c.args.around.now (tree_of c.args.header.now b)) = ap (λ k. identifier ∷ n ∷ drop k s) after ∙ short in
+    let whole : identifier ∷ n ∷ drop (c.args.at + 2) s ≡ der (under c.args.around.now (tree_of c.args.header.now b)) =
+    ap (λ k. identifier ∷ n ∷ drop k s) after ∙ short in
     rw (← whole) (grind (arith, common_steps))

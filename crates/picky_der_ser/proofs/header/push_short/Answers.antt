@@ -7,7 +7,8 @@ use Rattle.picky_der_ser.specs.declared.header.Header.TheVariants.{Tagged}
 use Rattle.picky_der_ser.proofs.HeaderBytes.{der-headers}
 use Rattle.picky_der_ser.proofs.header.push_short.Goals as goal
 
-short : (tag : ℕ) (bs : List ℕ) → length bs < 0x80 → der (Tree.primitive (Primitive.bytes tag bs)) ≡ tag ∷ length bs ∷ bs
+short : (tag : ℕ) (bs : List ℕ) → length bs < 0x80
+    → der (Tree.primitive (Primitive.bytes tag bs)) ≡ tag ∷ length bs ∷ bs
 short tag bs h = der-headers [] (Tagged tag) bs ∙ ap (λ l. (tag ∷ l) ++ bs) (length_octets-short (length bs) h)
 
 single : (bs : List ℕ) → length bs ≡ 1 → bs ≡ get_or bs 0 0 ∷ []
@@ -19,9 +20,12 @@ pub returns-else-content-eq1-clause-items : goal.returns-else-content-eq1-clause
 returns-else-content-eq1-clause-items c =
     let s = c.args.out.now.items in
     let b = c.args.content.now in
-    let front : c.extend_from_slice-else-content-eq1.new.self.items ≡ s ++ (c.args.tag ∷ length b ∷ []) = grind (arith) in
-    let all : c.extend_from_slice-else-content-eq1-2.new.self.items ≡ c.extend_from_slice-else-content-eq1.new.self.items ++ b = grind (arith) in
-    all ∙ ap (λ x. x ++ b) front ∙ append_assoc s (c.args.tag ∷ length b ∷ []) b ∙ ap (λ x. s ++ x) (sym (short c.args.tag b c.requires.short))
+    let front : c.extend_from_slice-else-content-eq1.new.self.items ≡ s ++ (c.args.tag ∷ length b ∷ []) =
+    grind (arith) in
+    let all : c.extend_from_slice-else-content-eq1-2.new.self.items
+    ≡ c.extend_from_slice-else-content-eq1.new.self.items ++ b = grind (arith) in
+    all ∙ ap (λ x. x ++ b) front ∙ append_assoc s (c.args.tag ∷ length b ∷ []) b
+    ∙ ap (λ x. s ++ x) (sym (short c.args.tag b c.requires.short))
 
 pub returns-else-content-eq1-clause-count : goal.returns-else-content-eq1-clause-count
 returns-else-content-eq1-clause-count c =
@@ -34,7 +38,8 @@ returns-then-content-eq1-clause-items c =
     let b = c.args.content.now in
     let one = c.if-content-eq1.true in
     let all : c.extend_from_slice.new.self.items ≡ s ++ (c.args.tag ∷ 1 ∷ get_or b 0 0 ∷ []) = grind (arith) in
-    all ∙ ap (λ x. s ++ (c.args.tag ∷ 1 ∷ x)) (sym (single b one)) ∙ ap (λ n. s ++ (c.args.tag ∷ n ∷ b)) (sym one) ∙ ap (λ x. s ++ x) (sym (short c.args.tag b c.requires.short))
+    all ∙ ap (λ x. s ++ (c.args.tag ∷ 1 ∷ x)) (sym (single b one)) ∙ ap (λ n. s ++ (c.args.tag ∷ n ∷ b)) (sym one)
+    ∙ ap (λ x. s ++ x) (sym (short c.args.tag b c.requires.short))
 
 pub returns-then-content-eq1-clause-count : goal.returns-then-content-eq1-clause-count
 returns-then-content-eq1-clause-count c =

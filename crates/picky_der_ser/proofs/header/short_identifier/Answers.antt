@@ -14,4 +14,5 @@ pub returns-in-Application-clause-header : goal.returns-in-Application-clause-he
 returns-in-Application-clause-header c =
     let n = c.args.len in
     let none : c.args.around.now ≡ [] = nil_of c.args.around.now (grind (arith, nat_tests)) in
-    rw (none, c.in-Application.is, length_octets-short n c.if-len-ge128.false) (ap (λ t. t ∷ n ∷ []) (sym c.application_constructed.ensures ∙ sym c.inner-in-Application.ensures))
+    rw (none, c.in-Application.is, length_octets-short n c.if-len-ge128.false)
+    (ap (λ t. t ∷ n ∷ []) (sym c.application_constructed.ensures ∙ sym c.inner-in-Application.ensures))

@@ -22,5 +22,7 @@ returns-clause-ok c =
     let roomy : at + room ≤ length u = omega (arith, narrow.len, all) in
     let size : n ≡ length (drop start s) = omega (arith, length-drop start s) in
     c.fill_from_last.ensures ∙ ap (λ w. with_overwrite at room (length w - room) w) c.rotate_from.ensures.items
-    ∙ before_content s h u at start room more (omega arith) (omega arith) roomy count (narrow.front ∙ ap (take at) is) (narrow.after ∙ ap (drop start) is)
-    ∙ ap (λ x. take at s ++ x) (ap (λ m. headers c.args.around.now c.args.header m ++ drop start s) size ∙ sym (der-headers c.args.around.now c.args.header (drop start s)))
+    ∙ before_content s h u at start room more (omega arith) (omega arith) roomy count (narrow.front ∙ ap (take at) is)
+    (narrow.after ∙ ap (drop start) is)
+    ∙ ap (λ x. take at s ++ x) (ap (λ m. headers c.args.around.now c.args.header m ++ drop start s) size
+    ∙ sym (der-headers c.args.around.now c.args.header (drop start s)))

@@ -13,4 +13,8 @@ pub insert_room-requires-clause-count : goal.insert_room-requires-clause-count
 insert_room-requires-clause-count c =
     let fits = c.requires.fits in
     let most = length-length_octets (c.args.end - c.args.mark.now.start + c.args.more) (omega (arith, fits)) in
-    elim c.match-mark.branch [ in-Tagged w ↦ omega (arith, most, w.encoded_len.ensures, w.size-is) | in-Raw w ↦ omega (arith, w.size-is) ]
+    elim c.match-mark.branch [
+      | in-Tagged w ↦ omega (arith, most, w.encoded_len.ensures, w.size-is)
+      | in-Raw w
+          ↦ omega (arith, w.size-is)
+    ]

@@ -14,7 +14,9 @@ copy_from_slice-requires c =
     let ss = c.args.seams.now in
     let to_end : between n (length s) s ≡ drop n s = between_to_end s n (length s) (omega arith) in
     let content = ap (λ r. between n (length r) r) c.deref.ensures.value ∙ to_end in
-    let is : c.in_ok-members.members.items ≡ concat (in_ascending_order (cut_at_seams ss (drop n s))) = c.in_ok-members.ensures ∙ ap (λ x. concat (in_ascending_order (cut_at_seams ss x))) content in
+    let is : c.in_ok-members.members.items ≡ concat (in_ascending_order (cut_at_seams ss (drop n s))) =
+    c.in_ok-members.ensures ∙ ap (λ x. concat (in_ascending_order (cut_at_seams ss x))) content in
     let size = length-in_order ss (drop n s) c.requires.ascending (omega (arith, c.requires.within, length-drop n s)) in
-    let same : length (between n (length s) s) ≡ length c.in_ok-members.members.items = ap length to_end ∙ sym (ap length is ∙ size) in
+    let same : length (between n (length s) s) ≡ length c.in_ok-members.members.items =
+    ap length to_end ∙ sym (ap length is ∙ size) in
     ap (λ r. length (between n (length r) r)) c.deref_mut.ensures.value ∙ same ∙ sym (ap length c.deref-2.ensures.value)

@@ -13,19 +13,28 @@ pub returns-in_err-identifier-clause-beginning : goal.returns-in_err-identifier-
 unfolding tlv
 returns-in_err-identifier-clause-beginning g c =
     let content = c.args.content.now in
-    rw (← c.inner.ensures) (on_err _ (too_few_front _ _ (c.inner.result ∷ []) (length_octets (length content) ++ content) c.in_err-identifier.ensures.beginning))
+    rw (← c.inner.ensures)
+    (on_err _ (too_few_front _ _ (c.inner.result ∷ []) (length_octets (length content) ++ content)
+    c.in_err-identifier.ensures.beginning))
 
 pub returns-in_err-length-clause-beginning : goal.returns-in_err-length-clause-beginning
 unfolding tlv
 returns-in_err-length-clause-beginning g c =
     let content = c.args.content.now in
-    rw (← c.inner.ensures) (on_err _ (too_few_after _ _ _ (c.inner.result ∷ []) (length_octets (length content) ++ content) c.in_ok-identifier.ensures.appends (too_few_front _ _ (length_octets (length content)) content c.in_err-length.ensures.beginning)))
+    rw (← c.inner.ensures)
+    (on_err _ (too_few_after _ _ _ (c.inner.result ∷ []) (length_octets (length content) ++ content)
+    c.in_ok-identifier.ensures.appends
+    (too_few_front _ _ (length_octets (length content)) content c.in_err-length.ensures.beginning)))
 
 pub returns-in_err-rest-clause-beginning : goal.returns-in_err-rest-clause-beginning
 unfolding tlv
 returns-in_err-rest-clause-beginning g c =
     let content = c.args.content.now in
-    rw (← c.inner.ensures) (on_err _ (too_few_after _ _ _ (c.inner.result ∷ []) (length_octets (length content) ++ content) c.in_ok-identifier.ensures.appends (too_few_after _ _ _ (length_octets (length content)) content c.in_ok-length.ensures.appends c.in_err-rest.ensures.beginning)))
+    rw (← c.inner.ensures)
+    (on_err _ (too_few_after _ _ _ (c.inner.result ∷ []) (length_octets (length content) ++ content)
+    c.in_ok-identifier.ensures.appends
+    (too_few_after _ _ _ (length_octets (length content)) content c.in_ok-length.ensures.appends
+    c.in_err-rest.ensures.beginning)))
 
 pub overflow_add-result : goal.overflow_add-result
 overflow_add-result g c =
@@ -41,10 +50,19 @@ pub returns-clause-count : goal.returns-clause-count
 unfolding tlv
 returns-clause-count g c =
     let content = c.args.content.now in
-    omega (arith, length-append (length_octets (length content)) content, c.in_ok-identifier.ensures.count, c.in_ok-length.ensures.count, c.in_ok-rest.ensures.count)
+    omega (
+      arith,
+      length-append (length_octets (length content)) content,
+      c.in_ok-identifier.ensures.count,
+      c.in_ok-length.ensures.count,
+      c.in_ok-rest.ensures.count,
+    )
 
 pub returns-clause-appends : goal.returns-clause-appends
 unfolding tlv
 returns-clause-appends g c =
     let content = c.args.content.now in
-    rw (← c.inner.ensures) (Appends-trans _ _ _ (c.inner.result ∷ []) (length_octets (length content) ++ content) c.in_ok-identifier.ensures.appends (Appends-trans _ _ _ (length_octets (length content)) content c.in_ok-length.ensures.appends c.in_ok-rest.ensures.appends))
+    rw (← c.inner.ensures) (Appends-trans _ _ _ (c.inner.result ∷ []) (length_octets (length content) ++ content)
+    c.in_ok-identifier.ensures.appends
+    (Appends-trans _ _ _ (length_octets (length content)) content c.in_ok-length.ensures.appends
+    c.in_ok-rest.ensures.appends))

@@ -10,4 +10,5 @@ returns-in_err-first-clause-beginning g c =
 pub returns-in_err-rest-clause-beginning : goal.returns-in_err-rest-clause-beginning
 returns-in_err-rest-clause-beginning g c =
     let p = err_from_is_err_and c.from_residual-in_err-rest.result c.from_residual-in_err-rest.ensures.1 in
-    rw p.1 (too_few_after _ _ _ c.args.headers.now c.args.content.now c.in_ok-first.ensures.appends c.in_err-rest.ensures.beginning)
+    rw p.1 (too_few_after _ _ _ c.args.headers.now c.args.content.now c.in_ok-first.ensures.appends
+    c.in_err-rest.ensures.beginning)

@@ -7,5 +7,6 @@ use Rattle.der_program_base.proofs.line.Line.push_str.Goals as goal
 pub returns-clause-shown : goal.returns-clause-shown
 returns-clause-shown c =
     let road = YieldsList-from_chars c.args.text.now c.utf8.text cc in
-    let all = YieldsList-end road c.loop-character.yielded _ c.loop-character.yielded_by _ _ c.in-None.is c.next.ensures.steps in
+    let all = YieldsList-end road c.loop-character.yielded _ c.loop-character.yielded_by _ _ c.in-None.is
+    c.next.ensures.steps in
     all_pushed nothing_special c.args.text.now _ _ c.loop-character.yielded all.0 c.loop-character.invariant

@@ -9,4 +9,7 @@ pub returns-in-Err-clause-err : goal.returns-in-Err-clause-err
 returns-in-Err-clause-err g c = refuses_identifier c.in-Err.ensures.err
 
 pub returns-in_err-number-clause-err : goal.returns-in_err-number-clause-err
-returns-in_err-number-clause-err g c = refusal_passed_on _ c.from_residual.ensures.1 (search rules) (identified_refuses c.in-Ok.ensures.ok (refuses_of (λ x. x.number) (refuses_within c.in_err-number.ensures.err.refuses)))
+returns-in_err-number-clause-err g c =
+    refusal_passed_on _ c.from_residual.ensures.1 (search rules)
+    (identified_refuses c.in-Ok.ensures.ok
+    (refuses_of (λ x. x.number) (refuses_within c.in_err-number.ensures.err.refuses)))

@@ -15,11 +15,14 @@ date_time_at-requires-clause-stamp c =
     let bs = c.args.self.now.content.items in
     let s = stamp_of (year_at_first bs) bs 4 (generalized_of bs c.args.self.now.canonical).seconds.valid in
     let here = subst (λ xs. IsStamp (year_at_first bs) xs 4) (sym c.deref.ensures.value) s in
-    subst (λ y. IsStamp y c.deref.result.now 4) (sym (c.year_at_first.ensures ∙ ap year_at_first c.deref-2.ensures.value)) here
+    subst (λ y. IsStamp y c.deref.result.now 4)
+    (sym (c.year_at_first.ensures ∙ ap year_at_first c.deref-2.ensures.value)) here
 
 pub returns : goal.returns
 returns c =
     let bs = c.args.self.now.content.items in
-    let here = subst (λ xs. IsReadAt c.year_at_first.result xs 4 c.date_time_at.result) c.deref.ensures.value c.date_time_at.ensures in
-    let read = subst (λ y. IsReadAt y bs 4 c.date_time_at.result) (c.year_at_first.ensures ∙ ap year_at_first c.deref-2.ensures.value) here in
+    let here = subst (λ xs. IsReadAt c.year_at_first.result xs 4 c.date_time_at.result) c.deref.ensures.value
+    c.date_time_at.ensures in
+    let read = subst (λ y. IsReadAt y bs 4 c.date_time_at.result) (c.year_at_first.ensures
+    ∙ ap year_at_first c.deref-2.ensures.value) here in
     generalized-read bs c.date_time_at.result (generalized_of bs c.args.self.now.canonical) read

@@ -7,9 +7,12 @@ use Rattle.der_types.proofs.integer.Integer.to_int.Goals as goal
 pub returns-clause-some : goal.returns-clause-some
 returns-clause-some g c =
     let seen = c.number_of.ensures in
-    content_as g.N.Int.number c.args.self.now.content.items c.number_of.result (subst AreBytes c.deref.ensures.value seen.bytes) c.args.self.now.canonical
+    content_as g.N.Int.number c.args.self.now.content.items c.number_of.result
+    (subst AreBytes c.deref.ensures.value seen.bytes) c.args.self.now.canonical
     (subst (λ bs. IfSome c.number_of.result (λ n. g.N.Int.number n ≡ integer_value bs)) c.deref.ensures.value seen.some)
 
 pub returns-clause-none : goal.returns-clause-none
 returns-clause-none g c =
-    no_content_as g.N.Int.fits c.args.self.now.content.items c.number_of.result (subst (λ bs. IfNone c.number_of.result (g.N.Int.fits (integer_value bs) ≡ false)) c.deref.ensures.value c.number_of.ensures.none)
+    no_content_as g.N.Int.fits c.args.self.now.content.items c.number_of.result
+    (subst (λ bs. IfNone c.number_of.result (g.N.Int.fits (integer_value bs) ≡ false)) c.deref.ensures.value
+    c.number_of.ensures.none)

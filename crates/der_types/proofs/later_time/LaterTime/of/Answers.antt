@@ -5,7 +5,8 @@ use Rattle.der_types.specs.TimeValues.{IsReadAt}
 use Rattle.der_types.proofs.later_time.LaterTime.of.Goals as goal
 
 pub year_at_first-requires-clause-year : goal.year_at_first-requires-clause-year
-year_at_first-requires-clause-year c = (later_of c.args.content.now (sym c.is_later_time.ensures ∙ c.if-is_later_time.true)).seconds.year
+year_at_first-requires-clause-year c =
+    (later_of c.args.content.now (sym c.is_later_time.ensures ∙ c.if-is_later_time.true)).seconds.year
 
 pub date_time_at-at-requires-clause-stamp : goal.date_time_at-at-requires-clause-stamp
 date_time_at-at-requires-clause-stamp c =
@@ -25,4 +26,5 @@ pub returns-then-is_later_time-clause-some : goal.returns-then-is_later_time-cla
 returns-then-is_later_time-clause-some c =
     let bs = c.args.content.now in
     let w = later_of bs (sym c.is_later_time.ensures ∙ c.if-is_later_time.true) in
-    later-read bs c.date_time_at-at.result w (subst (λ y. IsReadAt y bs 4 c.date_time_at-at.result) c.year_at_first.ensures c.date_time_at-at.ensures)
+    later-read bs c.date_time_at-at.result w
+    (subst (λ y. IsReadAt y bs 4 c.date_time_at-at.result) c.year_at_first.ensures c.date_time_at-at.ensures)

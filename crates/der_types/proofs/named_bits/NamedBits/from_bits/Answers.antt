@@ -4,4 +4,8 @@ use Rattle.der_types.specs.BitStringLaws.{valid-named_bits}
 use Rattle.der_types.proofs.named_bits.NamedBits.from_bits.Goals as goal
 
 pub invariant_of-result : goal.invariant_of-result
-invariant_of-result c = record { canonical = ap is_named_bits (c.in_ok-content.ensures ∙ ap bit_string_content c.without_zeros.ensures) ∙ valid-named_bits c.args.bits.now }
+invariant_of-result c =
+    record {
+      canonical = ap is_named_bits (c.in_ok-content.ensures ∙ ap bit_string_content c.without_zeros.ensures)
+          ∙ valid-named_bits c.args.bits.now;
+    }

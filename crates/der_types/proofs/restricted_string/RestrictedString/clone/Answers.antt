@@ -5,8 +5,12 @@ use Rattle.der_types.proofs.restricted_string.RestrictedString.clone.Goals as go
 
 pub invariant_of-result : goal.invariant_of-result
 invariant_of-result g c =
-    let same : c.in_ok-clone.field-0.items ≡ c.args.self.now.content.items = same_from_all_zip _ _ _ c.in_ok-clone.ensures.cases.0 (λ x y h. h) in
-    record { canonical = ap (is_string_content g.S.CharacterSet.WIDTH g.S.CharacterSet.is_character) same ∙ c.args.self.now.canonical }
+    let same : c.in_ok-clone.field-0.items ≡ c.args.self.now.content.items =
+    same_from_all_zip _ _ _ c.in_ok-clone.ensures.cases.0 (λ x y h. h) in
+    record {
+      canonical = ap (is_string_content g.S.CharacterSet.WIDTH g.S.CharacterSet.is_character) same
+          ∙ c.args.self.now.canonical;
+    }
 
 pub returns-clause-same : goal.returns-clause-same
 returns-clause-same g c = same_from_all_zip _ _ _ c.in_ok-clone.ensures.cases.0 (λ x y h. h)

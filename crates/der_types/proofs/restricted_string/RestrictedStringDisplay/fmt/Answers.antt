@@ -16,7 +16,8 @@ loop-code-preserved g c =
     let all : characters width c.loop-code.rest.now ≡ c.in-Some.code ∷ others = c.in-Some.ensures.first in
     let tests = both (p c.in-Some.code) (list_all p others) (rw all at held.characters) in
     let took = g.W.Write.write_str_gives in
-    let text = ap (λ code. encode_utf8 code ++ encode_utf8_all others) c.char_of.ensures ∙ ap encode_utf8_all (sym all) in
+    let text = ap (λ code. encode_utf8 code ++ encode_utf8_all others) c.char_of.ensures
+    ∙ ap encode_utf8_all (sym all) in
     record {
       characters = tests.1;
       plain = λ start. (c.in_ok-write_char.ensures.writes (held.plain start) (refl {a = true})).plain;

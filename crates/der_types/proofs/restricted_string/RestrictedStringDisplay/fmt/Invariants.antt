@@ -18,4 +18,7 @@ abbrev pub invariant-loop-code : goal.invariant-loop-code
 invariant-loop-code g l = Shows
     (list_all g.S.CharacterSet.is_character (characters l.width l.rest) ≡ true)
     (IsPlainFormatter l.initial.f → IsPlainFormatter l.f)
-    (IsPlainFormatter l.initial.f → (h : _) → HasWritten g.W.Write.write_str_gives l.f (encode_utf8_all (characters l.width l.rest)) h → HasWritten g.W.Write.write_str_gives l.initial.f (encode_utf8_all (characters l.width l.fn.self.content.items)) h)
+    (IsPlainFormatter l.initial.f → (h : _)
+    → HasWritten g.W.Write.write_str_gives l.f (encode_utf8_all (characters l.width l.rest)) h
+    → HasWritten g.W.Write.write_str_gives l.initial.f
+    (encode_utf8_all (characters l.width l.fn.self.content.items)) h)

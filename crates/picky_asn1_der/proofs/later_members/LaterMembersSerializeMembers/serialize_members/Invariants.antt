@@ -6,5 +6,8 @@ use Rattle.picky_asn1_der.proofs.later_members.LaterMembersSerializeMembers.seri
 abbrev pub invariant-loop-element : goal.invariant-loop-element
 invariant-loop-element g l = record {
   same_reference : l.sequence.ser.ghost_name ≡ l.initial.sequence.ser.ghost_name;
-  leads : LeadsTo g.W.WriteExt (trees (map (λ raw. Tree.raw raw.0.items) (drop l.element-index l.fn.self.elements.items))) (trees (map (λ raw. Tree.raw raw.0.items) l.fn.self.elements.items)) l.initial.sequence.ser.now l.sequence.ser.now;
+  leads : LeadsTo g.W.WriteExt
+      (trees (map (λ raw. Tree.raw raw.0.items) (drop l.element-index l.fn.self.elements.items)))
+      (trees (map (λ raw. Tree.raw raw.0.items) l.fn.self.elements.items)) l.initial.sequence.ser.now
+      l.sequence.ser.now;
 }

@@ -5,6 +5,7 @@ use Rattle.picky_asn1_der.proofs.raw_der.Asn1RawDerBegins.begins_with.Goals as g
 
 pub returns : goal.returns
 returns c = (
-  λ h. contains-tags_below c.args.tag 256 (omega arith) (subst (λ n. n ≤ 30) c.number.ensures (leb-true c.number.result 30 h)),
+  λ h. contains-tags_below c.args.tag 256 (omega arith)
+      (subst (λ n. n ≤ 30) c.number.ensures (leb-true c.number.result 30 h)),
   λ h. le-leb c.number.result 30 (subst (λ n. n ≤ 30) (sym c.number.ensures) (tag-tags_below c.args.tag 256 h)),
 )

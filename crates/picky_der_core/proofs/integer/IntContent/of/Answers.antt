@@ -9,7 +9,8 @@ pub returns : goal.returns
 returns c =
     let n = c.args.number.bits in
     let start = (leading_zeros w128 n + 7) / 8 in
-    let bits = ap (λ b. drop start (0 ∷ b)) (append-nil _ ∙ c.copy_from_slice.ensures.after ∙ c.to_be_bytes.ensures) ∙ unsigned_content-be_bytes n (omega arith) in
+    let bits = ap (λ b. drop start (0 ∷ b)) (append-nil _ ∙ c.copy_from_slice.ensures.after ∙ c.to_be_bytes.ensures)
+    ∙ unsigned_content-be_bytes n (omega arith) in
     elim c.if-number.branch [
       | then-number w ↦ content_negative n start _ _ _ w.if-number.true bits (w.bytes-is ∙ w.turn.ensures)
       | else-number w ↦ content_positive n start _ _ w.if-number.false (ap (drop start) w.bytes-is ∙ bits)

@@ -16,11 +16,13 @@ returns-clause-error c error.UnsupportedType error.UnsupportedType = (λ h. refl
 returns-clause-error c error.InvalidSink error.InvalidSink = (λ h. refl, λ e. refl)
 returns-clause-error c (error.Message a) (error.Message b) = (
   λ h. let same = (bytes_decides a.now b.now).0 h in λ i. (failure.Message, Some (same i)),
-  λ e. let texts : Some a.now ≡ Some b.now = ap (λ t. t.1) e in let same : a.now ≡ b.now = cc in (bytes_decides a.now b.now).1 same,
+  λ e. let texts : Some a.now ≡ Some b.now = ap (λ t. t.1) e in let same : a.now ≡ b.now = cc in
+      (bytes_decides a.now b.now).1 same,
 )
 returns-clause-error c (error.Other a) (error.Other b) = (
   λ h. let same = same_true the_type tt a b h in λ i. (failure.Other (same i), None),
-  λ e. let kinds : failure.Other a ≡ failure.Other b = ap (λ t. t.0) e in let same : a ≡ b = cc in true_same the_type a b same,
+  λ e. let kinds : failure.Other a ≡ failure.Other b = ap (λ t. t.0) e in let same : a ≡ b = cc in
+      true_same the_type a b same,
 )
 returns-clause-error c error.OutOfMemory error.OutOfMemory = (λ h. refl, λ e. refl)
 returns-clause-error c _ _ = (λ h. absurd (true≢false (sym h)), λ e. let kinds = ap (λ t. t.0) e in cc)

@@ -11,9 +11,13 @@ returns-clause-consumed g c =
     let n = c.args.count in
     let e = c.take_few.ensures in
     let size : length (take n all) ≡ n = grind (arith, common_steps) in
-    let had_not_failed : c.self.inside.failed ≡ None = ap (λ (s : State). s.failed) c.self.view_is ∙ c.requires.had_not_failed in
-    let unpeeked : c.self.inside.reader.peeked ≡ None = ap (λ (s : State). s.peeked) c.self.view_is ∙ c.requires.unpeeked in
+    let had_not_failed : c.self.inside.failed ≡ None = ap (λ (s : State). s.failed) c.self.view_is
+    ∙ c.requires.had_not_failed in
+    let unpeeked : c.self.inside.reader.peeked ≡ None = ap (λ (s : State). s.peeked) c.self.view_is
+    ∙ c.requires.unpeeked in
     let few : count_of_any c.self.inside.reader.peeked ≡ 0 = ap count_of_any unpeeked in
     let shown = shown_first _ all n c.near-near.ensures.front in
-    let consumes = consumed_shown (take n all) size shown (omega arith) (omega (arith, few)) had_not_failed c.self.invariant.0 e.consumed e.unpeeked e.pos refl e.no_fault e.same_references in
-    rw (c.in-Ok.ensures.same, ← c.self.view_is) (record { consumes = consumes; count = size; bytes = c.copied.ensures.bytes })
+    let consumes = consumed_shown (take n all) size shown (omega arith) (omega (arith, few)) had_not_failed
+    c.self.invariant.0 e.consumed e.unpeeked e.pos refl e.no_fault e.same_references in
+    rw (c.in-Ok.ensures.same, ← c.self.view_is)
+    (record { consumes = consumes; count = size; bytes = c.copied.ensures.bytes })

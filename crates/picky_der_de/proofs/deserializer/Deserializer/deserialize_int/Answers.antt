@@ -11,8 +11,11 @@ pub returns-clause-ok : goal.returns-clause-ok
 returns-clause-ok g c =
     let fits = g.N.Int.fits in
     MatchResult-weaker c.read_plain.result c.read_plain.ensures.ok
-    (λ value h. subst (λ t. ReadsPlain 0x02 (int_error fits) (Shape.primitive (PrimitiveShape.bytes 0x02)) c.args.self.now c.read_plain.new.self t) (tree-fits fits (g.N.Int.number value) (fits-within fits (g.N.Int.number value) h.reads.of_shape.1)) h)
+    (λ value h. subst (λ t. ReadsPlain 0x02 (int_error fits) (Shape.primitive (PrimitiveShape.bytes 0x02))
+    c.args.self.now c.read_plain.new.self t)
+    (tree-fits fits (g.N.Int.number value) (fits-within fits (g.N.Int.number value) h.reads.of_shape.1)) h)
     (λ e h. tt)
 
 pub returns-clause-meant : goal.returns-clause-meant
-returns-clause-meant g c = MatchResult-weaker c.read_plain.result c.read_plain.ensures.ok (λ value h. h.reads) (λ e h. tt)
+returns-clause-meant g c = MatchResult-weaker c.read_plain.result c.read_plain.ensures.ok (λ value h. h.reads)
+    (λ e h. tt)

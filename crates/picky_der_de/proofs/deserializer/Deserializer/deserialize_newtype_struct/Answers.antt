@@ -13,7 +13,8 @@ returns-in-Some-clause-err g c =
     let s = g.T.Deserialize.shape in
     let is : Some c.in-Some.wrapper ≡ wrapper_of c.args.kind = sym c.in-Some.is ∙ c.wrapper.ensures in
     MatchResult-weaker c.read_wrapped.result c.read_wrapped.ensures.err (λ v h. tt)
-    (λ e h. subst (λ (o : Option Wrapper). Refuses (λ v. wrap_if o (m v)) (wrap_shape_if o s) c.args.self.now c.read_wrapped.new.self e) is (refuses_wrapped h))
+    (λ e h. subst (λ (o : Option Wrapper). Refuses (λ v. wrap_if o (m v)) (wrap_shape_if o s) c.args.self.now
+    c.read_wrapped.new.self e) is (refuses_wrapped h))
 
 pub returns-in-None-clause-err : goal.returns-in-None-clause-err
 returns-in-None-clause-err g c =
@@ -21,4 +22,5 @@ returns-in-None-clause-err g c =
     let s = g.T.Deserialize.shape in
     let is : None ≡ wrapper_of c.args.kind = sym c.in-None.is ∙ c.wrapper.ensures in
     MatchResult-weaker c.deserialize.result c.deserialize.ensures.err (λ v h. tt)
-    (λ e h. subst (λ (o : Option Wrapper). Refuses (λ v. wrap_if o (m v)) (wrap_shape_if o s) c.args.self.now c.deserialize.new.de e) is h)
+    (λ e h. subst (λ (o : Option Wrapper). Refuses (λ v. wrap_if o (m v)) (wrap_shape_if o s) c.args.self.now
+    c.deserialize.new.de e) is h)

@@ -21,12 +21,16 @@ pub returns-in-Ok-clause-ok : goal.returns-in-Ok-clause-ok
 returns-in-Ok-clause-ok g c =
     let h = c.in_ok-len.ensures.ok in
     let k = c.in_ok-content.ensures in
-    let same : string_bytes c.in-Ok.text ≡ c.in_ok-content.content.items = ap (λ (v : Vec ℕ Global). v.items) c.in-Ok.ensures.ok in
+    let same : string_bytes c.in-Ok.text ≡ c.in_ok-content.content.items =
+    ap (λ (v : Vec ℕ Global). v.items) c.in-Ok.ensures.ok in
     let utf8 = subst IsUtf8 same (IsUtf8-string_bytes c.in-Ok.text) in
-    rw same (reads_plain text_kind c.in_ok-content.content.items utf8 utf8 h k.ok.0 k.ok.1 (k.implicit_tag ∙ h.implicit_tag))
+    rw same (reads_plain text_kind c.in_ok-content.content.items utf8 utf8 h k.ok.0 k.ok.1 (k.implicit_tag
+    ∙ h.implicit_tag))
 
 pub returns-clause-err : goal.returns-clause-err
 returns-clause-err g c =
     let f = c.fail.ensures in
     let k = c.in_ok-content.ensures in
-    refuses_content text_kind c.in_ok-len.ensures.ok k.ok.0 k.ok.1 f.fails (text_bad c.in_ok-content.content.items (λ u. let q : false ≡ true = c.in-Err.ensures.succeeds u in cc) ∙ ap (λ e. Some e) (sym f.error)) (failed_same c.fetch_vec.new.self f.error f.same)
+    refuses_content text_kind c.in_ok-len.ensures.ok k.ok.0 k.ok.1 f.fails
+    (text_bad c.in_ok-content.content.items (λ u. let q : false ≡ true = c.in-Err.ensures.succeeds u in cc)
+    ∙ ap (λ e. Some e) (sym f.error)) (failed_same c.fetch_vec.new.self f.error f.same)

@@ -1,6 +1,7 @@
 use Rattle.std.proofs.Common.{◌≡◌, rules}
 use Rattle.picky_der_de.proofs.deserializer.Deserializer.deserialize_tagged_bytes.Goals as goal
-use Rattle.picky_der_de.proofs.deserializer.Deserializer.deserialize_tagged_bytes.Goals.{then-number-le-MAX_NUMBER+in-Ok-None, else-number-le-MAX_NUMBER}
+use Rattle.picky_der_de.proofs.deserializer.Deserializer.deserialize_tagged_bytes.Goals.{then-number-le-MAX_NUMBER+in-Ok-None}
+use Rattle.picky_der_de.proofs.deserializer.Deserializer.deserialize_tagged_bytes.Goals.{else-number-le-MAX_NUMBER}
 
 pub returns-clause-err : goal.returns-clause-err
 returns-clause-err g c =

@@ -8,7 +8,8 @@ loop-i-preserved g c =
     let i = c.loop-i.invariant in
     let p = c.try_push.ensures in
     let e = c.in_ok-byte.ensures in
-    let kept = kept_push (λ v. v.items) c.try_push.result _ c.try_push.new.self i.0.content c.in_ok-byte.byte i.0.first p.ok p.variant.0 p.err p.full in
+    let kept = kept_push (λ v. v.items) c.try_push.result _ c.try_push.new.self i.0.content c.in_ok-byte.byte i.0.first
+    p.ok p.variant.0 p.err p.full in
     (consumes_kept-more i.0 e.ok kept, e.implicit_tag ∙ i.1)
 
 pub returns-in_err-byte-clause-err : goal.returns-in_err-byte-clause-err

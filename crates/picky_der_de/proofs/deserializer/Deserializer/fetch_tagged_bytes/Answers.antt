@@ -14,10 +14,13 @@ returns-in_err-len-clause-err g c =
 pub returns-clause-ok : goal.returns-clause-ok
 returns-clause-ok g c =
     let h = c.in_ok-len.ensures.ok in
-    IfOk-both c.fetch_vec.result c.fetch_vec.ensures.ok c.fetch_vec.ensures.implicit_tag (λ v k d. reads_plain (bytes_kind c.args.tag (omega arith)) v.items (refl, k.2) (omega arith, k.2) h k.0 k.1 (d ∙ h.implicit_tag))
+    IfOk-both c.fetch_vec.result c.fetch_vec.ensures.ok c.fetch_vec.ensures.implicit_tag
+    (λ v k d. reads_plain (bytes_kind c.args.tag (omega arith)) v.items (refl, k.2) (omega arith, k.2) h k.0 k.1
+    (d ∙ h.implicit_tag))
 
 pub returns-clause-err : goal.returns-clause-err
-returns-clause-err g c = MatchResult-weaker c.fetch_vec.result c.fetch_vec.ensures.err (λ v k. tt) (λ e k. refuses_cut (bytes_kind c.args.tag (omega arith)) c.in_ok-len.ensures.ok k)
+returns-clause-err g c = MatchResult-weaker c.fetch_vec.result c.fetch_vec.ensures.err (λ v k. tt)
+    (λ e k. refuses_cut (bytes_kind c.args.tag (omega arith)) c.in_ok-len.ensures.ok k)
 
 pub returns-then-number-gt-MAX_NUMBER-clause-err : goal.returns-then-number-gt-MAX_NUMBER-clause-err
 returns-then-number-gt-MAX_NUMBER-clause-err g c =

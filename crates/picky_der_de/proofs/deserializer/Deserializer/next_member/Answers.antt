@@ -8,7 +8,9 @@ use Rattle.picky_der_de.specs.Members.{RefusesMember}
 use Rattle.picky_der_de.proofs.MemberReads.{member_unread}
 use Rattle.picky_der_de.proofs.deserializer.Deserializer.next_member.Goals as goal
 
-unread : {A V : Type 0} (meaning : V → Tree) (s : Shape) (a c : State) (r : Result A Asn1DerError) → IfErr r (Refuses meaning s a c) → (a.failed ≡ None → a.implicit_tag ≡ None) → IfErr r (RefusesMember meaning s a c)
+unread : {A V : Type 0} (meaning : V → Tree) (s : Shape) (a c : State) (r : Result A Asn1DerError)
+    → IfErr r (Refuses meaning s a c) → (a.failed ≡ None → a.implicit_tag ≡ None)
+    → IfErr r (RefusesMember meaning s a c)
 unread meaning s a c (Ok v) h d = tt
 unread meaning s a c (Err e) h d = member_unread h d
 

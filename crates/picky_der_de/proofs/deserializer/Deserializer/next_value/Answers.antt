@@ -6,7 +6,8 @@ pub returns-in_err-value-in-Ok-Some-clause-err :
     goal.returns-in_err-value-in-Ok-Some-clause-err
 returns-in_err-value-in-Ok-Some-clause-err g c =
     let p = err_from_is_err_and c.from_residual.result c.from_residual.ensures.1 in
-    rw (p.1, p.2) (identified_refuses (rw c.in-Ok-Some.field-0-is at c.in-Ok-Some.ensures.tag) c.in_err-value-in-Ok-Some.ensures.err)
+    rw (p.1, p.2) (identified_refuses (rw c.in-Ok-Some.field-0-is at c.in-Ok-Some.ensures.tag)
+    c.in_err-value-in-Ok-Some.ensures.err)
 
 pub returns-in-Err-clause-err : goal.returns-in-Err-clause-err
 returns-in-Err-clause-err g c = refuses_identifier c.in-Err.ensures.err

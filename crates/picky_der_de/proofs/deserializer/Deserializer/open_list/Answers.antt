@@ -15,6 +15,8 @@ returns-clause-ok g c =
     let view = c.self.view_is ∙ opened.opened in
     let size : c.len.result ≡ length kept = omega (arith, c.len.ensures, c.self.inside.kept.ok.0) in
     let is_set : c.eq.result ≡ (c.args.tag == 0x31) = search rules in
-    let sets = order_begun c.self.inside.last_start kept begun.sets c.args.tag c.then_some-self-inside.result is_set (c.then_some-self-inside.ensures ∙ ap (then_some c.eq.result) size) (ap (λ (s : State). s.sets) view) in
-    let is = ap (λ (s : State). record s { sets = cut_at c.then_some-self-inside.result kept }) view ∙ ap (λ l. record (with_inner_end begun c.in_ok-len.len Soft) { sets = l }) sets in
+    let sets = order_begun c.self.inside.last_start kept begun.sets c.args.tag c.then_some-self-inside.result is_set
+    (c.then_some-self-inside.ensures ∙ ap (then_some c.eq.result) size) (ap (λ (s : State). s.sets) view) in
+    let is = ap (λ (s : State). record s { sets = cut_at c.then_some-self-inside.result kept }) view
+    ∙ ap (λ l. record (with_inner_end begun c.in_ok-len.len Soft) { sets = l }) sets in
     opens_list c.requires.number c.in_ok-len.ensures.ok is opened.outer_end

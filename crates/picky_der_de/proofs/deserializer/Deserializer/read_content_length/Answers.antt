@@ -15,7 +15,8 @@ pub returns-then-len-self-clause-err : goal.returns-then-len-self-clause-err
 returns-then-len-self-clause-err g c =
     let f = c.fail.ensures in
     let e = c.in_ok-len.ensures in
-    let until_end : c.self.inside.until_end ≡ c.read_length.new.self.until_end = ap (λ (s : State). s.until_end) c.self.view_is in
+    let until_end : c.self.inside.until_end ≡ c.read_length.new.self.until_end =
+    ap (λ (s : State). s.until_end) c.self.view_is in
     let end : c.self.inside.end ≡ c.read_length.new.self.end = ap (λ (s : State). s.end) c.self.view_is in
     let more : c.read_length.new.self.until_end < c.in_ok-len.len = omega (arith, c.if-len-self.true, until_end) in
     let error = f.error ∙ c.missing-error.ensures ∙ ap error_at_end end in

@@ -9,7 +9,8 @@ pub loop-i-init : goal.loop-i-init
 loop-i-init g c = (digits_none _ c.requires.had_not_failed c.requires.unpeeked, omega arith, refl)
 
 pub overflow_mul-len : goal.overflow_mul-len
-overflow_mul-len g c = omega (arith, more_bytes_fit c.loop-i._i 8 c.loop-i.len 0 (omega arith) c.loop-i.invariant.1 (omega arith))
+overflow_mul-len g c =
+    omega (arith, more_bytes_fit c.loop-i._i 8 c.loop-i.len 0 (omega arith) c.loop-i.invariant.1 (omega arith))
 
 pub overflow_add-len : goal.overflow_add-len
 overflow_add-len g c =
@@ -22,7 +23,8 @@ loop-i-preserved g c =
     let i = c.loop-i.invariant in
     let e = c.in_ok-next_byte.ensures in
     let more = digits_more i.0 e.ok e.byte in
-    let same : c.loop-i.len * 256 + c.in_ok-next_byte.field-0 ≡ c.loop-i.len * 256 + c.from.result = ap (λ b. c.loop-i.len * 256 + b) (sym c.from.ensures) in
+    let same : c.loop-i.len * 256 + c.in_ok-next_byte.field-0 ≡ c.loop-i.len * 256 + c.from.result =
+    ap (λ b. c.loop-i.len * 256 + b) (sym c.from.ensures) in
     (rw same at more, more_bytes c.loop-i._i c.loop-i.len c.from.result i.1 d, e.implicit_tag ∙ i.2)
 
 pub returns-in_err-next_byte-clause-err : goal.returns-in_err-next_byte-clause-err

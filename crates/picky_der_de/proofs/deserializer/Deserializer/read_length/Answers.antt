@@ -2,7 +2,8 @@ use Rattle.std.proofs.Common.{arith, refl}
 use Rattle.std.proofs.lemmas.Result.{err_from_is_err_and}
 use Rattle.picky_der_de.proofs.Steps.{consumes_none, consumes_then}
 use Rattle.picky_der_de.proofs.Contents.{stops_short}
-use Rattle.picky_der_de.proofs.Headers.{consumes_short, consumes_long, refuses_at_first, refuses_at_digits, refuses_bad, no_long_count, longer}
+use Rattle.picky_der_de.proofs.Headers.{consumes_short, consumes_long, refuses_at_first, refuses_at_digits, refuses_bad}
+use Rattle.picky_der_de.proofs.Headers.{no_long_count, longer}
 use Rattle.picky_der_de.proofs.deserializer.Deserializer.read_length.Goals as goal
 
 pub returns-in_err-first-clause-err : goal.returns-in_err-first-clause-err
@@ -13,7 +14,8 @@ returns-in_err-first-clause-err g c =
     rw (p.1, p.2) (refuses_at_first (stops_short none refl (omega arith) e.err e.missing e.unmoved))
 
 pub returns-then-first-lt128-clause-ok : goal.returns-then-first-lt128-clause-ok
-returns-then-first-lt128-clause-ok g c = rw c.from.ensures (consumes_short c.in_ok-first.ensures.ok c.if-first-lt128.true)
+returns-then-first-lt128-clause-ok g c =
+    rw c.from.ensures (consumes_short c.in_ok-first.ensures.ok c.if-first-lt128.true)
 
 pub returns-in-Err-clause-err : goal.returns-in-Err-clause-err
 returns-in-Err-clause-err g c =
@@ -36,4 +38,5 @@ returns-in-Err-shortest-clause-err g c =
     let s = c.in-Err-shortest.ensures.err in
     let d = c.in_ok-len.ensures.ok in
     let f = c.fail-in-Err-shortest.ensures in
-    refuses_bad (consumes_then c.in_ok-first.ensures.ok d.consumes.consumes) f.fails f.error f.same (longer c.in-Ok.ensures.ok d s.0 s.1)
+    refuses_bad (consumes_then c.in_ok-first.ensures.ok d.consumes.consumes) f.fails f.error f.same
+    (longer c.in-Ok.ensures.ok d s.0 s.1)

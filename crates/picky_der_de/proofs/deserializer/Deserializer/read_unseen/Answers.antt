@@ -2,4 +2,5 @@ use Rattle.picky_der_de.proofs.MemberReads.{member_untested}
 use Rattle.picky_der_de.proofs.deserializer.Deserializer.read_unseen.Goals as goal
 
 pub returns-in-Err-test_order-clause-err : goal.returns-in-Err-test_order-clause-err
-returns-in-Err-test_order-clause-err g c = member_untested c.in-Ok.ensures.ok c.in-Err-test_order.ensures.err (λ w. c.requires.whole)
+returns-in-Err-test_order-clause-err g c =
+    member_untested c.in-Ok.ensures.ok c.in-Err-test_order.ensures.err (λ w. c.requires.whole)

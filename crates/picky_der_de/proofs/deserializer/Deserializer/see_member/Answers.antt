@@ -12,7 +12,8 @@ returns-then-is_before-clause-seen g c =
       element = element_next e;
       left = k.left;
       known = k.known;
-      order = order_seen _ _ _ c.deref.result.now _ _ c.is_before.result c.in-Some.is c.deref.ensures.value c.is_before.ensures c.if-is_before.true;
+      order = order_seen _ _ _ c.deref.result.now _ _ c.is_before.result c.in-Some.is c.deref.ensures.value
+          c.is_before.ensures c.if-is_before.true;
       same = refl;
     })
 
@@ -26,6 +27,10 @@ returns-in-Ok-clause-seen g c =
       element = element_next e;
       left = k.left;
       known = k.known;
-      order = order_seen _ _ _ c.deref.result.now _ _ c.is_before.result c.in-Some.is c.deref.ensures.value c.is_before.ensures c.if-is_before.false;
-      same = rw (c.in-Ok.ensures.ok, cut_member _ c.in-Some.start _ _ c.in-Some.is (rw c.in-Some.is at c.self.invariant.4)) refl;
+      order = order_seen _ _ _ c.deref.result.now _ _ c.is_before.result c.in-Some.is c.deref.ensures.value
+          c.is_before.ensures c.if-is_before.false;
+      same = rw (
+        c.in-Ok.ensures.ok,
+        cut_member _ c.in-Some.start _ _ c.in-Some.is (rw c.in-Some.is at c.self.invariant.4),
+      ) refl;
     })

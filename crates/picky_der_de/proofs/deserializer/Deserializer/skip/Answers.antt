@@ -8,8 +8,13 @@ loop-left-preserved g c =
     let i = c.loop-left.invariant in
     let e = c.in_ok-left.ensures in
     let n = c.in_ok-left.field-0 in
-    let count : c.args.len - (c.loop-left.left - n) ≡ (c.args.len - c.loop-left.left) + n = omega (arith, i.3, e.ok.fits) in
-    (i.0 ++ take n c.fetch_piece.new.piece, consumes_bytes-piece i.1 e.ok count, e.implicit_tag ∙ i.2, omega (arith, i.3))
+    let count : c.args.len - (c.loop-left.left - n) ≡ (c.args.len - c.loop-left.left) + n =
+    omega (arith, i.3, e.ok.fits) in (
+      i.0 ++ take n c.fetch_piece.new.piece,
+      consumes_bytes-piece i.1 e.ok count,
+      e.implicit_tag ∙ i.2,
+      omega (arith, i.3),
+    )
 
 pub returns-in_err-left-clause-err : goal.returns-in_err-left-clause-err
 returns-in_err-left-clause-err g c =

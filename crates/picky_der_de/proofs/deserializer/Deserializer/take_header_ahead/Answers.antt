@@ -10,6 +10,12 @@ returns-clause-consumed g c =
     let h = c.in_ok-len.ensures in
     let e = c.take_few.ensures in
     let few : count_of_any c.self.inside.reader.peeked ≤ 1 = at_most_one c.self.inside.reader.peeked in
-    let had_not_failed : c.self.inside.failed ≡ None = ap (λ (s : State). s.failed) c.self.view_is ∙ c.requires.had_not_failed in
+    let had_not_failed : c.self.inside.failed ≡ None = ap (λ (s : State). s.failed) c.self.view_is
+    ∙ c.requires.had_not_failed in
     let shown = shown_prefix _ h.is c.near.ensures.front in
-    rw (← c.self.view_is) (consumed_shown (c.args.tag ∷ length_octets c.in_ok-len.len) (sym h.size) shown (omega arith) (omega (arith, few, h.size)) had_not_failed c.self.invariant.0 e.consumed e.unpeeked e.pos refl e.no_fault e.same_references, omega arith)
+    rw (← c.self.view_is) (
+      consumed_shown (c.args.tag ∷ length_octets c.in_ok-len.len) (sym h.size) shown (omega arith)
+          (omega (arith, few, h.size)) had_not_failed c.self.invariant.0 e.consumed e.unpeeked e.pos refl e.no_fault
+          e.same_references,
+      omega arith,
+    )

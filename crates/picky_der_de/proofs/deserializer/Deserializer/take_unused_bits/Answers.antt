@@ -11,6 +11,7 @@ returns-then-branch-ne0-clause-err g c =
     let t = c.in_ok-next_byte.ensures.ok in
     record {
       fails = fails_after t f.fails;
-      stops = λ j. count_other c.next_byte.new.self c.in_ok-next_byte.field-0 t c.if-branch-ne0.true f.error (failed_same c.next_byte.new.self f.error f.same);
+      stops = λ j. count_other c.next_byte.new.self c.in_ok-next_byte.field-0 t c.if-branch-ne0.true f.error
+          (failed_same c.next_byte.new.self f.error f.same);
       memory = λ w same m. let q : InvalidData ≡ OutOfMemory = sym f.error ∙ m in cc;
     }

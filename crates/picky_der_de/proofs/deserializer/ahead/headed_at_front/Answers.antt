@@ -10,5 +10,6 @@ returns-clause-is c =
     let some : 0 < length all = grind (arith, common_steps) in
     let h = c.in_ok-len.ensures in
     let rest : take (length all - 1) (drop 1 all) ≡ drop 1 all = grind (arith, common_steps) in
-    let is : IsPrefix (length_octets c.in_ok-len.len) (drop 1 all) = subst (IsPrefix (length_octets c.in_ok-len.len)) rest h.is in
+    let is : IsPrefix (length_octets c.in_ok-len.len) (drop 1 all) =
+    subst (IsPrefix (length_octets c.in_ok-len.len)) rest h.is in
     header_there all c.args.tag c.in_ok-len.len some (c.if-bytes-inner.false ∙ c.inner.ensures) is

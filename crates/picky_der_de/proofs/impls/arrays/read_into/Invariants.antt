@@ -4,7 +4,8 @@ use Rattle.picky_der_de.proofs.impls.arrays.read_into.Given as goal
 
 abbrev pub invariant-loop-at : goal.invariant-loop-at
 invariant-loop-at g l = record {
-  first : ReadsFirst g.T.Serialize.meaning g.T.Deserialize.shape l.initial.members.de.now l.members.de.now (take l.at l.slots);
+  first : ReadsFirst g.T.Serialize.meaning g.T.Deserialize.shape l.initial.members.de.now l.members.de.now
+      (take l.at l.slots);
   within : l.at ≤ length l.slots;
   same_length : length l.slots ≡ length l.fn.slots;
   same_reference : l.members.de.ghost_name ≡ l.initial.members.de.ghost_name;

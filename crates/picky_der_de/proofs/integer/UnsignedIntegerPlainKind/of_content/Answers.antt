@@ -7,7 +7,8 @@ pub returns-clause-ok : goal.returns-clause-ok
 returns-clause-ok g c =
     let d = c.in_ok-digits.ensures in
     MatchResult-weaker c.from_u128-2.result c.from_u128-2.ensures.ok
-    (λ value h. content_of_number _ _ _ (bytes_by_index _ (λ i. let fits = c.type_inv.content i in omega arith)) d.ok c.if-digits-gt16.false (h.0 ∙ c.value_of.ensures) d.same)
+    (λ value h. content_of_number _ _ _ (bytes_by_index _ (λ i. let fits = c.type_inv.content i in omega arith)) d.ok
+    c.if-digits-gt16.false (h.0 ∙ c.value_of.ensures) d.same)
     (λ e h. tt)
 
 pub returns-in-0-to-127-clause-ok : goal.returns-in-0-to-127-clause-ok

@@ -7,8 +7,10 @@ pub returns-in_err-next_field-in-Ok-Some-clause-err :
     goal.returns-in_err-next_field-in-Ok-Some-clause-err
 returns-in_err-next_field-in-Ok-Some-clause-err g c =
     let p = err_from_is_err_and c.from_residual.result c.from_residual.ensures.1 in
-    rw (p.1, p.2) (no_member _ c.in-Ok-Some.tag (rw c.in-Ok-Some.field-0-is at c.in-Ok-Some.ensures.tag) (c.begins_with.ensures.0 c.if-begins_with.true) c.in_err-next_field-in-Ok-Some.ensures.err)
+    rw (p.1, p.2) (no_member _ c.in-Ok-Some.tag (rw c.in-Ok-Some.field-0-is at c.in-Ok-Some.ensures.tag)
+    (c.begins_with.ensures.0 c.if-begins_with.true) c.in_err-next_field-in-Ok-Some.ensures.err)
 
 pub returns-else-begins_with-clause-none : goal.returns-else-begins_with-clause-none
 returns-else-begins_with-clause-none g c =
-    begins_otherwise c.in-Ok-Some.tag (rw c.in-Ok-Some.field-0-is at c.in-Ok-Some.ensures.tag) (λ own. let q : false ≡ true = sym c.if-begins_with.false ∙ c.begins_with.ensures.1 own in cc)
+    begins_otherwise c.in-Ok-Some.tag (rw c.in-Ok-Some.field-0-is at c.in-Ok-Some.ensures.tag) (λ own. let q : false
+    ≡ true = sym c.if-begins_with.false ∙ c.begins_with.ensures.1 own in cc)

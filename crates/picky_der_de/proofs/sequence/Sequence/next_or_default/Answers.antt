@@ -10,4 +10,5 @@ returns-in_err-value-clause-err g c =
 
 pub returns-then-is_default-clause-err : goal.returns-then-is_default-clause-err
 returns-then-is_default-clause-err g c =
-    written_out _ c.in-Some.value (sym c.is_default.ensures ∙ c.if-is_default.true) (rw c.in-Some.is at c.in_ok-value.ensures.member) c.refuse.ensures.is c.refuse.ensures.fails
+    written_out _ c.in-Some.value (sym c.is_default.ensures ∙ c.if-is_default.true)
+    (rw c.in-Some.is at c.in_ok-value.ensures.member) c.refuse.ensures.is c.refuse.ensures.fails

@@ -18,7 +18,9 @@ pub returns-in_err-is_at_end-clause-err : goal.returns-in_err-is_at_end-clause-e
 returns-in_err-is_at_end-clause-err g c =
     let p = err_from_is_err_and c.from_residual.result c.from_residual.ensures.1 in
     let f = c.in_err-is_at_end.ensures.err in
-    rw (p.1, p.2) (c.loop-values.invariant.some.refuses _ _ (all_refused (member_again f) (failed_ahead c.loop-values.self.de.now _ f)))
+    rw (p.1, p.2)
+    (c.loop-values.invariant.some.refuses _ _
+    (all_refused (member_again f) (failed_ahead c.loop-values.self.de.now _ f)))
 
 pub returns-in_err-value-clause-err : goal.returns-in_err-value-clause-err
 returns-in_err-value-clause-err g c =
@@ -30,19 +32,34 @@ returns-in_err-value-clause-err g c =
 pub loop-values-smaller : goal.loop-values-smaller
 loop-values-smaller g c =
     let r = c.in_ok-value.ensures.ok in
-    omega (arith, (consumes_member r).until_end, length-der (g.T.Serialize.meaning c.in_ok-value.value) r.reads.readable)
+    omega (
+      arith,
+      (consumes_member r).until_end,
+      length-der (g.T.Serialize.meaning c.in_ok-value.value) r.reads.readable,
+    )
 
 pub loop-values-preserved : goal.loop-values-preserved
 loop-values-preserved g c =
     let r = c.in_ok-value.ensures.ok in
     let i = c.loop-values.invariant in
     let e = c.in_ok-value.ensures in
-    let h = some_more g.T.Serialize.meaning g.T.Deserialize.shape c.loop-values.values.items c.in_ok-value.value i.some r in
-    record { some = rw c.in-Ok.ensures h; same_reference = e.same_reference ∙ i.same_reference; outer = e.outer ∙ i.outer }
+    let h = some_more g.T.Serialize.meaning g.T.Deserialize.shape c.loop-values.values.items c.in_ok-value.value i.some
+    r in
+    record {
+      some = rw c.in-Ok.ensures h;
+      same_reference = e.same_reference ∙ i.same_reference;
+      outer =
+          e.outer ∙ i.outer;
+    }
 
 pub loop-values-init : goal.loop-values-init
 loop-values-init g c =
-    record { some = rw c.new-values.ensures.items (some_none g.T.Serialize.meaning g.T.Deserialize.shape _ c.args.self.now.whole); same_reference = refl; outer = refl }
+    record {
+      some =
+          rw c.new-values.ensures.items (some_none g.T.Serialize.meaning g.T.Deserialize.shape _ c.args.self.now.whole);
+      same_reference = refl;
+      outer = refl;
+    }
 
 pub returns-in_default-add-clause-err : goal.returns-in_default-add-clause-err
 returns-in_default-add-clause-err g c =
@@ -52,4 +69,9 @@ returns-in_default-add-clause-err g c =
 pub returns-clause-ok : goal.returns-clause-ok
 returns-clause-ok g c =
     let k = c.in_ok-is_at_end.ensures.ok in
-    some_all c.loop-values.invariant.some (record { reached = k.1.0 c.if-not-branch.false; had_not_failed = k.0; same = refl })
+    some_all c.loop-values.invariant.some (record {
+      reached = k.1.0 c.if-not-branch.false;
+      had_not_failed = k.0;
+      same =
+          refl;
+    })

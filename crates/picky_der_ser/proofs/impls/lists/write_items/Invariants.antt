@@ -7,5 +7,6 @@ use Rattle.picky_der_ser.proofs.impls.lists.write_items.Given as goal
 abbrev pub invariant-loop-item : goal.invariant-loop-item
 invariant-loop-item g l = record {
   same_reference : l.seq.ser.ghost_name ≡ l.initial.seq.ser.ghost_name;
-  awaits : Awaits (list_kind l.fn.tag) (trees (map g.T.Serialize.meaning (drop l.item-index l.items))) (trees (map g.T.Serialize.meaning l.items)) l.fn.ser l.seq.ser.now;
+  awaits : Awaits (list_kind l.fn.tag) (trees (map g.T.Serialize.meaning (drop l.item-index l.items)))
+      (trees (map g.T.Serialize.meaning l.items)) l.fn.ser l.seq.ser.now;
 }

@@ -6,4 +6,5 @@ use Rattle.picky_der_ser.proofs.integer.UnsignedContent.of.Goals as goal
 pub returns : goal.returns
 returns c =
     let n = c.args.number in
-    ap (λ b. drop ((leading_zeros w128 n + 7) / 8) (0 ∷ b)) (append-nil _ ∙ c.copy_from_slice.ensures.after ∙ c.to_be_bytes.ensures) ∙ unsigned_content-be_bytes n (omega arith)
+    ap (λ b. drop ((leading_zeros w128 n + 7) / 8) (0 ∷ b)) (append-nil _ ∙ c.copy_from_slice.ensures.after
+    ∙ c.to_be_bytes.ensures) ∙ unsigned_content-be_bytes n (omega arith)

@@ -7,5 +7,6 @@ pub returns-in_ok-push_headers-clause-ok : goal.returns-in_ok-push_headers-claus
 returns-in_ok-push_headers-clause-ok c =
     let m = c.in-Some.mark.now in
     let s = c.self.inside.scratch.items in
-    let more = c.in_ok-push_headers.ensures.ok ∙ ap (λ ws. s ++ headers ws m.header c.args.len) c.around_from-around.ensures in
+    let more = c.in_ok-push_headers.ensures.ok
+    ∙ ap (λ ws. s ++ headers ws m.header c.args.len) c.around_from-around.ensures in
     rw (← c.self.view_is) (stack-headed _ s _ _ _ _ c.args.len c.in-Some.ensures.some c.self.invariant.0 more)

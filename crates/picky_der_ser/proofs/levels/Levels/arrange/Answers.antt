@@ -6,4 +6,5 @@ use Rattle.picky_der_ser.proofs.levels.Levels.arrange.Goals as goal
 pub returns-else-mark-len : goal.returns-else-mark-len
 returns-else-mark-len c =
     let none : length c.self.inside.seams.items ≤ c.in-Some.mark.now.first_seam = grind (arith, nat_tests) in
-    rw (← c.self.view_is) (stack-uncut _ c.self.inside.scratch.items c.self.inside.seams.items _ _ c.in-Some.ensures.some none)
+    rw (← c.self.view_is) (stack-uncut _ c.self.inside.scratch.items c.self.inside.seams.items _ _
+    c.in-Some.ensures.some none)

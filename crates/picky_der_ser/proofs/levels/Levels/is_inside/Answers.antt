@@ -6,4 +6,5 @@ use Rattle.picky_der_ser.proofs.levels.Levels.is_inside.Goals as goal
 pub returns-clause-yes : goal.returns-clause-yes
 returns-clause-yes c = λ t e.
     let i = c.self.inside in
-    some_inside i.pending i.marks.marks i.scratch.items i.seams.items i.wrappers.of_levels (omega (arith, c.are_more_than.ensures.yes t)) (ap (λ (x : Stack). x.inside) c.self.view_is ∙ e)
+    some_inside i.pending i.marks.marks i.scratch.items i.seams.items i.wrappers.of_levels
+    (omega (arith, c.are_more_than.ensures.yes t)) (ap (λ (x : Stack). x.inside) c.self.view_is ∙ e)

@@ -8,4 +8,5 @@ returns-in_ok-push_headers c =
     let s = c.self.inside.scratch.items in
     let size : length s ≡ m.at = grind (arith) in
     let was = c.in-Some.ensures.some in
-    stack-roomed _ _ s _ _ _ _ _ was (c.set_start.ensures.marks _ _ was) (omega arith) c.self.invariant.0 size c.in_ok-push_headers.ensures.ok ∙ c.self.view_is
+    stack-roomed _ _ s _ _ _ _ _ was (c.set_start.ensures.marks _ _ was) (omega arith) c.self.invariant.0 size
+    c.in_ok-push_headers.ensures.ok ∙ c.self.view_is

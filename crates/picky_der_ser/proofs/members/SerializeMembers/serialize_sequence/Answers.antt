@@ -10,8 +10,11 @@ returns-in_err-serialize_members g c =
     let all = g.Self.SerializeMembers.members c.args.self.now in
     let a = list_opened g.W.WriteExt ListKind.sequence all _ _ c.serialize_lazy-sequence.ensures.opened in
     let p = err_from_is_err_and c.from_residual.result c.from_residual.ensures.1 in
-    let refused = members_refused g.W.WriteExt ListKind.sequence all all _ _ _ _ _ c.in_err-serialize_members.ensures.err refl a in
-    let same = members_untouched g.W.WriteExt ListKind.sequence all all _ _ _ _ c.in_err-serialize_members.ensures.err a in
+    let refused =
+    members_refused g.W.WriteExt ListKind.sequence all all _ _ _ _ _ c.in_err-serialize_members.ensures.err refl
+    a in
+    let same = members_untouched g.W.WriteExt ListKind.sequence all all _ _ _ _ c.in_err-serialize_members.ensures.err
+    a in
     record {
       wrote = search rules;
       failed = rw (p.1, p.2) (search (rules, refused));
@@ -23,7 +26,8 @@ returns-in_err-serialize_members g c =
 pub returns : goal.returns
 returns g c =
     let all = g.Self.SerializeMembers.members c.args.self.now in
-    let a = members_gained g.W.WriteExt ListKind.sequence all all _ _ _ c.in_ok-serialize_members.ensures.added (list_opened g.W.WriteExt ListKind.sequence all _ _ c.serialize_lazy-sequence.ensures.opened) in
+    let a = members_gained g.W.WriteExt ListKind.sequence all all _ _ _ c.in_ok-serialize_members.ensures.added
+    (list_opened g.W.WriteExt ListKind.sequence all _ _ c.serialize_lazy-sequence.ensures.opened) in
     record {
       wrote = grind (arith, list_wrote, a);
       failed = grind (arith, list_failed, a);

@@ -9,8 +9,17 @@ returns-in-Some g c =
     let s = c.ser.inside in
     let failed : s.failed ≡ None = search rules in
     let small : c.in-Some.count < 2 ^ 64 = omega arith in
-    let old : State g.row.W.Denot = record { sink = s.sink; around = s.levels.around; failed = s.failed; inside = s.levels.inside; pending = s.levels.pending } in
+    let old : State g.row.W.Denot = record {
+      sink = s.sink;
+      around = s.levels.around;
+      failed = s.failed;
+      inside =
+          s.levels.inside;
+      pending = s.levels.pending;
+    } in
     rw (← c.ser.view_is) (record {
-      ended = ends_inside g.W.WriteExt final_content old _ c.in-Some.count small failed (e.inside refl) e.numbers e.count (λ p l ls x y. ap (λ (s : Stack). s.inside) (e.some refl p l ls x y)) refl (e.bare refl) failed (g.met.W.WriteExt.later_refl _);
+      ended = ends_inside g.W.WriteExt final_content old _ c.in-Some.count small failed (e.inside refl) e.numbers
+          e.count (λ p l ls x y. ap (λ (s : Stack). s.inside) (e.some refl p l ls x y)) refl (e.bare refl) failed
+          (g.met.W.WriteExt.later_refl _);
       again = rw failed tt;
     })

@@ -7,7 +7,8 @@ returns-clause-wrote g c =
     let e = c.put_headed-outcome.ensures in
     let fits : length c.content.result.now + length c.args.content.now < 2 ^ 64 = omega arith in
     let empty = rw (← c.self.view_is) at c.requires.empty in
-    let is = encoding_after c.self.inside.levels.pending c.self.inside.levels _ _ c.add_headers.ensures.numbers c.in-Ok.ensures.ok c.content.result.now c.args.content.now refl empty c.content.ensures fits in
+    let is = encoding_after c.self.inside.levels.pending c.self.inside.levels _ _ c.add_headers.ensures.numbers
+    c.in-Ok.ensures.ok c.content.result.now c.args.content.now refl empty c.content.ensures fits in
     rw (← c.self.view_is) (wrote_level g.W.WriteExt (with_content c.args.content.now) _ _ _ _ _ is e.count e.appends)
 
 pub returns-clause-refused : goal.returns-clause-refused
@@ -15,5 +16,7 @@ returns-clause-refused g c =
     let e = c.put_headed-outcome.ensures in
     let fits : length c.content.result.now + length c.args.content.now < 2 ^ 64 = omega arith in
     let empty = rw (← c.self.view_is) at c.requires.empty in
-    let is = encoding_after c.self.inside.levels.pending c.self.inside.levels _ _ c.add_headers.ensures.numbers c.in-Ok.ensures.ok c.content.result.now c.args.content.now refl empty c.content.ensures fits in
-    rw (← c.self.view_is) (refused_level g.W.WriteExt (with_content c.args.content.now) _ _ _ _ _ is e.beginning e.fault)
+    let is = encoding_after c.self.inside.levels.pending c.self.inside.levels _ _ c.add_headers.ensures.numbers
+    c.in-Ok.ensures.ok c.content.result.now c.args.content.now refl empty c.content.ensures fits in
+    rw (← c.self.view_is) (refused_level g.W.WriteExt (with_content c.args.content.now) _ _ _ _ _ is e.beginning
+    e.fault)

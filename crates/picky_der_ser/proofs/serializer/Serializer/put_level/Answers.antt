@@ -7,7 +7,9 @@ returns-clause-wrote g c =
     let e = c.put_headed-outcome.ensures in
     let all = c.split_at.result in
     let fits : length all.1.now + length all.0.now < 2 ^ 64 = omega arith in
-    let is = encoding_split c.self.inside.levels.pending c.self.inside.levels _ _ c.add_headers.ensures.numbers c.in-Ok.ensures.ok _ _ _ _ refl c.content-held.ensures c.content.ensures c.split_at.ensures.front c.split_at.ensures.back fits in
+    let is = encoding_split c.self.inside.levels.pending c.self.inside.levels _ _ c.add_headers.ensures.numbers
+    c.in-Ok.ensures.ok _ _ _ _ refl c.content-held.ensures c.content.ensures c.split_at.ensures.front
+    c.split_at.ensures.back fits in
     rw (← c.self.view_is) (wrote_level g.W.WriteExt as_it_is _ _ _ _ _ is e.count e.appends)
 
 pub returns-clause-refused : goal.returns-clause-refused
@@ -15,5 +17,7 @@ returns-clause-refused g c =
     let e = c.put_headed-outcome.ensures in
     let all = c.split_at.result in
     let fits : length all.1.now + length all.0.now < 2 ^ 64 = omega arith in
-    let is = encoding_split c.self.inside.levels.pending c.self.inside.levels _ _ c.add_headers.ensures.numbers c.in-Ok.ensures.ok _ _ _ _ refl c.content-held.ensures c.content.ensures c.split_at.ensures.front c.split_at.ensures.back fits in
+    let is = encoding_split c.self.inside.levels.pending c.self.inside.levels _ _ c.add_headers.ensures.numbers
+    c.in-Ok.ensures.ok _ _ _ _ refl c.content-held.ensures c.content.ensures c.split_at.ensures.front
+    c.split_at.ensures.back fits in
     rw (← c.self.view_is) (refused_level g.W.WriteExt as_it_is _ _ _ _ _ is e.beginning e.fault)

@@ -22,5 +22,6 @@ returns g c =
     let later = rw is at e.continues in
     let failed : c.put_after_headers-outcome.new.self.failed ≡ old.failed = e.kept.1 ∙ ap (λ s. s.failed) is in
     let settled = subst (λ f. OnOk r ((new.around ≡ []) × (new.failed ≡ f))) failed c.settle.ensures.ok in
-    plain_outside w t old new _ _ r _ c.settle.ensures.same c.settle.ensures.sink.0 c.settle.ensures.sink.1 fits c.requires.had_not_failed c.requires.outside e.still_outside settled c.settle.ensures.err
+    plain_outside w t old new _ _ r _ c.settle.ensures.same c.settle.ensures.sink.0 c.settle.ensures.sink.1 fits
+    c.requires.had_not_failed c.requires.outside e.still_outside settled c.settle.ensures.err
     wrote refused (wrapped_fault w old.around _ _ r c.requires.wrapped) untouched no_fault counted later

@@ -20,5 +20,10 @@ returns-then-append_few g c =
     let failed : c.self.inside.failed ≡ None = search rules in
     let bare : c.self.inside.levels.around ≡ [] = e.bare refl in
     let is : der (under c.self.inside.levels.around t) ≡ bs = ap (λ a. der (under a t)) bare ∙ der-raw bs in
-    let writable : IsWritable (under c.self.inside.levels.around t) = subst (λ a. IsWritable (under a t)) (sym bare) fits in
-    rw (← c.self.view_is) (plain_inside w t _ _ _ fits (writes_inside w t _ _ _ failed (e.inside refl) (λ l ls f. ap (λ (s : Stack). s.inside) (e.yes refl l ls f) ∙ ap (λ x. with_bytes l x ∷ ls) (sym is)) refl (e.around ∙ bare) failed writable (ap length (sym is))) (omega arith) (g.met.W.WriteExt.later_refl _))
+    let writable : IsWritable (under c.self.inside.levels.around t) =
+    subst (λ a. IsWritable (under a t)) (sym bare) fits in
+    rw (← c.self.view_is)
+    (plain_inside w t _ _ _ fits
+    (writes_inside w t _ _ _ failed (e.inside refl) (λ l ls f. ap (λ (s : Stack). s.inside) (e.yes refl l ls f)
+    ∙ ap (λ x. with_bytes l x ∷ ls) (sym is)) refl (e.around ∙ bare) failed writable (ap length (sym is)))
+    (omega arith) (g.met.W.WriteExt.later_refl _))

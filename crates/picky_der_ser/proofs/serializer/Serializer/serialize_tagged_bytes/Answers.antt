@@ -6,4 +6,6 @@ use Rattle.picky_der_ser.proofs.serializer.Serializer.serialize_tagged_bytes.Goa
 pub returns-then-number-gt-MAX_NUMBER : goal.returns-then-number-gt-MAX_NUMBER
 returns-then-number-gt-MAX_NUMBER g c =
     let past : 30 < number_of c.args.tag = omega (arith, c.number.ensures) in
-    rw (c.fail.ensures.same, c.fail.ensures.error) (plain_past g.W.WriteExt c.args.tag c.args.content.now _ past c.in_default.ensures.not_failed (g.met.W.WriteExt.later_refl _))
+    rw (c.fail.ensures.same, c.fail.ensures.error)
+    (plain_past g.W.WriteExt c.args.tag c.args.content.now _ past c.in_default.ensures.not_failed
+    (g.met.W.WriteExt.later_refl _))

@@ -13,8 +13,11 @@ one_byte zero h = rw big_endian-zero refl
 one_byte (suc n) h =
     let bytes : AreBytes (suc n ∷ []) = (omega arith, tt) in
     let number : number_from_digits 256 (suc n ∷ []) ≡ suc n = omega arith in
-    let is : big_endian (suc n) ≡ suc n ∷ [] = ap big_endian (sym number) ∙ big_endian-number (suc n) [] (omega arith) bytes in
+    let is : big_endian (suc n) ≡ suc n ∷ [] = ap big_endian (sym number)
+    ∙ big_endian-number (suc n) [] (omega arith) bytes in
     rw (is, lt-ltb (suc n) 0x80 h) refl
 
 pub returns-then-value-lt128 : goal.returns-then-value-lt128
-returns-then-value-lt128 g c = writes_primitive-as g.W.WriteExt (Primitive.unsigned c.args.value) _ (sym (one_byte c.args.value c.if-value-lt128.true)) _ _ _ c.write_plain.ensures
+returns-then-value-lt128 g c =
+    writes_primitive-as g.W.WriteExt (Primitive.unsigned c.args.value) _
+    (sym (one_byte c.args.value c.if-value-lt128.true)) _ _ _ c.write_plain.ensures

@@ -5,7 +5,8 @@ use Rattle.picky_der_ser.proofs.serializer.Serializer.write_wrapped.Goals as goa
 pub returns-in_err-wrap-clause-failed : goal.returns-in_err-wrap-clause-failed
 returns-in_err-wrap-clause-failed g c =
     let p = err_from_is_err_and c.from_residual.result c.from_residual.ensures.1 in
-    rw (p.1, p.2) (fails-declined g.W.WriteExt c.args.wrapper (g.T.Serialize.meaning c.args.value.now) _ _ _ c.in_err-wrap.ensures.err)
+    rw (p.1, p.2) (fails-declined g.W.WriteExt c.args.wrapper (g.T.Serialize.meaning c.args.value.now) _ _ _
+    c.in_err-wrap.ensures.err)
 
 pub returns-clause-wrote : goal.returns-clause-wrote
 returns-clause-wrote g c =

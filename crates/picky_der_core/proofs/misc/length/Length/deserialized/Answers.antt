@@ -3,7 +3,9 @@ use Rattle.std.proofs.KnownBytes.{Consumes-nil}
 use Rattle.std.proofs.lemmas.Result.{err_from_is_err_and, IfOk-weaker, IfErr-weaker}
 use Rattle.picky_der_core.specs.ElementLaws.{length_octets-short}
 use Rattle.picky_der_core.specs.ReaderLaws.{reports_fault}
-use Rattle.picky_der_core.proofs.LengthSteps.{none_from_refused, refused_missing, no_device, refused_count, length_first, length_more, length_below, refused_cut, Consumes-shortest, refused_longer, read_length_octets}
+use Rattle.picky_der_core.proofs.LengthSteps.{none_from_refused, refused_missing, no_device, refused_count}
+use Rattle.picky_der_core.proofs.LengthSteps.{length_first, length_more, length_below, refused_cut, Consumes-shortest}
+use Rattle.picky_der_core.proofs.LengthSteps.{refused_longer, read_length_octets}
 use Rattle.picky_der_core.proofs.misc.length.Length.deserialized.Goals as goal
 
 -- ---- the first byte
@@ -55,7 +57,8 @@ pub returns-in_err-read_one-clause-refused : goal.returns-in_err-read_one-clause
 returns-in_err-read_one-clause-refused g c =
     let p = err_from_is_err_and c.from_residual-in_err-read_one.result c.from_residual-in_err-read_one.ensures.1 in
     let e = c.in_err-read_one.ensures in
-    rw (p.1, p.2) (λ same. refused_cut c.loop.invariant.consumed c.in_ok-count.ensures.ok _ c.loop-test.true e.byte e.fault (same ∙ sym c.loop.invariant.no_fault))
+    rw (p.1, p.2) (λ same. refused_cut c.loop.invariant.consumed c.in_ok-count.ensures.ok _ c.loop-test.true e.byte
+    e.fault (same ∙ sym c.loop.invariant.no_fault))
 
 pub returns-in_err-read_one-clause-none : goal.returns-in_err-read_one-clause-none
 returns-in_err-read_one-clause-none g c = none_from_refused _ _ _ _ (returns-in_err-read_one-clause-refused g c)
@@ -77,7 +80,8 @@ pub loop-preserved : goal.loop-preserved
 loop-preserved g c = record {
   no_fault = c.in_ok-read_one.ensures.fault ∙ c.loop.invariant.no_fault;
   same_references = c.in_ok-read_one.ensures.same_references ∙ c.loop.invariant.same_references;
-  consumed = rw (c.from-in-loop.ensures) (length_more c.loop.invariant.consumed c.in_ok-read_one.ensures.byte (omega arith));
+  consumed = rw (c.from-in-loop.ensures) (length_more c.loop.invariant.consumed c.in_ok-read_one.ensures.byte
+      (omega arith));
 }
 
 -- ---- the number
@@ -85,17 +89,22 @@ loop-preserved g c = record {
 pub returns-clause-ok : goal.returns-clause-ok
 returns-clause-ok g c =
     let t = c.loop.invariant.consumed in
-    IfOk-weaker c.shortest.result _ _ (λ n h. rw h.0 (Consumes-shortest t c.in_ok-count.ensures.ok (omega arith) h.1)) c.shortest.ensures.ok
+    IfOk-weaker c.shortest.result _ _ (λ n h. rw h.0 (Consumes-shortest t c.in_ok-count.ensures.ok (omega arith) h.1))
+    c.shortest.ensures.ok
 
 pub returns-clause-read : goal.returns-clause-read
 returns-clause-read g c =
     let t = c.loop.invariant.consumed in
-    IfOk-weaker c.shortest.result _ _ (λ n h. rw h.0 (read_length_octets _ _ _ (omega arith) (Consumes-shortest t c.in_ok-count.ensures.ok (omega arith) h.1))) c.shortest.ensures.ok
+    IfOk-weaker c.shortest.result _ _
+    (λ n h. rw h.0
+    (read_length_octets _ _ _ (omega arith) (Consumes-shortest t c.in_ok-count.ensures.ok (omega arith) h.1)))
+    c.shortest.ensures.ok
 
 pub returns-clause-refused : goal.returns-clause-refused
 returns-clause-refused g c =
     let t = c.loop.invariant.consumed in
-    IfErr-weaker c.shortest.result _ _ (λ e h same. rw h.0 (refused_longer t c.in_ok-count.ensures.ok (omega arith) h.1)) c.shortest.ensures.err
+    IfErr-weaker c.shortest.result _ _
+    (λ e h same. rw h.0 (refused_longer t c.in_ok-count.ensures.ok (omega arith) h.1)) c.shortest.ensures.err
 
 pub returns-clause-none : goal.returns-clause-none
 returns-clause-none g c = none_from_refused _ _ _ _ (returns-clause-refused g c)

@@ -7,4 +7,9 @@ pub returns-then-len-lt128 : goal.returns-then-len-lt128
 returns-then-len-lt128 c = sym (length-length_octets-short c.args.len (omega arith))
 
 pub returns : goal.returns
-returns c = omega (arith, length-length_octets-long c.args.len (omega arith), big_endian-zeros c.args.len (omega arith) (omega arith))
+returns c =
+    omega (
+      arith,
+      length-length_octets-long c.args.len (omega arith),
+      big_endian-zeros c.args.len (omega arith) (omega arith),
+    )

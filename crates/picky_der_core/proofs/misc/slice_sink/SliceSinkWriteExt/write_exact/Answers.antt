@@ -6,6 +6,12 @@ pub returns-then-count-bytes-clause-beginning : goal.returns-then-count-bytes-cl
 returns-then-count-bytes-clause-beginning c =
     let n = c.fill-count.result in
     record {
-      begins = record { front = take n c.args.bytes.now; rest = drop n c.args.bytes.now; is = sym (take-append-drop n c.args.bytes.now); appends = grind (arith, common_steps) };
+      begins = record {
+        front = take n c.args.bytes.now;
+        rest = drop n c.args.bytes.now;
+        is =
+            sym (take-append-drop n c.args.bytes.now);
+        appends = grind (arith, common_steps);
+      };
       missing = grind (arith, common_steps);
     }

@@ -14,8 +14,10 @@ returns-in-Ok-eq0-clause-beginning g c =
     let told = g.T.Write.contents in
     let none : c.in-Ok-eq0.field-0 ≡ 0 = grind (arith, nat_tests) in
     let nothing : Appends (told c.loop-rest.self.inner) (told c.write.new.self.inner) [] =
-    subst (λ n. Appends (told c.loop-rest.self.inner) (told c.write.new.self.inner) (take n c.loop-rest.rest.now)) none c.in-Ok-eq0.ensures.bytes in
+    subst (λ n. Appends (told c.loop-rest.self.inner) (told c.write.new.self.inner) (take n c.loop-rest.rest.now)) none
+    c.in-Ok-eq0.ensures.bytes in
     too_few_so_far _ _ _ _ _ c.loop-rest.invariant.1 (grind (arith, nat_tests)) nothing
 
 pub returns-in-Err-clause-beginning : goal.returns-in-Err-clause-beginning
-returns-in-Err-clause-beginning g c = too_few_so_far _ _ _ _ _ c.loop-rest.invariant.1 (grind (arith, nat_tests)) (Appends-keeps _ _ c.in-Err.ensures.bytes)
+returns-in-Err-clause-beginning g c = too_few_so_far _ _ _ _ _ c.loop-rest.invariant.1 (grind (arith, nat_tests))
+    (Appends-keeps _ _ c.in-Err.ensures.bytes)

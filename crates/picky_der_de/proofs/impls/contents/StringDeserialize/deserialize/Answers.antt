@@ -5,4 +5,5 @@ use Rattle.picky_der_de.proofs.impls.contents.StringDeserialize.deserialize.Goal
 
 pub returns-clause-err : goal.returns-clause-err
 returns-clause-err g c =
-    MatchResult-weaker c.deserialize_string.result c.deserialize_string.ensures.err (λ v h. tt) (λ e h. refuses_of (λ (s : String Global). string_bytes s) h.refuses)
+    MatchResult-weaker c.deserialize_string.result c.deserialize_string.ensures.err (λ v h. tt)
+    (λ e h. refuses_of (λ (s : String Global). string_bytes s) h.refuses)

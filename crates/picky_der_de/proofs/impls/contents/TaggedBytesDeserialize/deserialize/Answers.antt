@@ -10,7 +10,9 @@ pub returns-in_err-deserialize_tagged_bytes-clause-err :
 returns-in_err-deserialize_tagged_bytes-clause-err g c =
     let p = err_from_is_err_and c.from_residual.result c.from_residual.ensures.1 in
     let h = c.in_err-deserialize_tagged_bytes.ensures.err in
-    let refused = subst (λ tag. RefusesPrimitive (Primitive.bytes tag) (PrimitiveShape.bytes tag) c.args.de.now c.deserialize_tagged_bytes.new.self c.in_err-deserialize_tagged_bytes.field-0.0) c.from.ensures h in
+    let refused =
+    subst (λ tag. RefusesPrimitive (Primitive.bytes tag) (PrimitiveShape.bytes tag) c.args.de.now
+    c.deserialize_tagged_bytes.new.self c.in_err-deserialize_tagged_bytes.field-0.0) c.from.ensures h in
     rw (p.1, p.2) (refuses_of (λ b. b.0.items) refused.refuses)
 
 pub returns-in_err-deserialize_tagged_bytes-clause-refused :
@@ -18,4 +20,6 @@ pub returns-in_err-deserialize_tagged_bytes-clause-refused :
 returns-in_err-deserialize_tagged_bytes-clause-refused g c =
     let p = err_from_is_err_and c.from_residual.result c.from_residual.ensures.1 in
     let h = c.in_err-deserialize_tagged_bytes.ensures.err in
-    rw (p.1, p.2) (subst (λ tag. RefusesPrimitive (Primitive.bytes tag) (PrimitiveShape.bytes tag) c.args.de.now c.deserialize_tagged_bytes.new.self c.in_err-deserialize_tagged_bytes.field-0.0) c.from.ensures h)
+    rw (p.1, p.2)
+    (subst (λ tag. RefusesPrimitive (Primitive.bytes tag) (PrimitiveShape.bytes tag) c.args.de.now
+    c.deserialize_tagged_bytes.new.self c.in_err-deserialize_tagged_bytes.field-0.0) c.from.ensures h)

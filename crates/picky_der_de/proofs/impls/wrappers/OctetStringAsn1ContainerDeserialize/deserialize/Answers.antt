@@ -7,4 +7,5 @@ use Rattle.picky_der_de.proofs.impls.wrappers.OctetStringAsn1ContainerDeserializ
 pub returns-in_err-value-clause-err : goal.returns-in_err-value-clause-err
 returns-in_err-value-clause-err g c =
     let p = err_from_is_err_and c.from_residual.result c.from_residual.ensures.1 in
-    rw (p.1, p.2) (refuses_of {meaning = λ v. Tree.wrapped OctetContainer (g.T.Serialize.meaning v)} (λ w. w.0) c.in_err-value.ensures.err)
+    rw (p.1, p.2) (refuses_of {meaning = λ v. Tree.wrapped OctetContainer (g.T.Serialize.meaning v)} (λ w. w.0)
+    c.in_err-value.ensures.err)
