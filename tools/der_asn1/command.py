@@ -36,21 +36,22 @@ import re
 import sys
 from typing import Iterable, Optional
 
-from . import derive, tree
-from .causes import Allowed, refuse
-from .declarations import Declarations, NewtypeDeclaration
-from .emit_crate import NEEDS, RESERVED, Crate, reached, reached_elsewhere
-from .emit_values import values_of
-from .folder import difference, own_paths, write
-from .meaning import lacks
-from .meaning_types import ASSOCIATED, Meanings
-from .module_checks import ModuleChecks, identified
-from .other_crates import OtherCrates, other_crates
-from .parse_modules import read_file
-from .printed import printed, read_terms
+from .derive import command as derive
+from .emit.crate import NEEDS, RESERVED, Crate, reached, reached_elsewhere
+from .emit.folder import difference, own_paths, write
+from .emit.printed import printed, read_terms
+from .emit.values import values_of
+from .meaning.causes import Allowed, refuse
+from .meaning.declarations import Declarations, NewtypeDeclaration
+from .meaning.meaning import lacks
+from .meaning.module_checks import ModuleChecks, identified
+from .meaning.other_crates import OtherCrates, other_crates
+from .meaning.scopes import Program
+from .meaning.types import ASSOCIATED, Meanings
+from .parse import tree
+from .parse.modules import read_file
+from .parse.source import NotationError, Problems, Severity
 from .report import report_of, types_table, whole
-from .scopes import Program
-from .source import NotationError, Problems, Severity
 
 # types inside of each other, each of which takes some calls
 _DEPTH = 10000

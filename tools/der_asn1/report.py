@@ -3,16 +3,16 @@ from collections import Counter
 from dataclasses import dataclass, field
 from typing import Iterable, Union
 
-from . import tree
-from .causes import counted, counts
-from .examples import of_type
-from .features import OUTSIDE, Feature, Level, Note
-from .meaning import Meaning, lacks
-from .meaning_types import Meanings
-from .module_checks import ModuleChecks, identified
-from .objects import class_named
-from .scopes import Program
-from .source import Problems, Severity
+from .meaning.causes import counted, counts
+from .meaning.examples import of_type
+from .meaning.features import OUTSIDE, Feature, Level, Note
+from .meaning.meaning import Meaning, lacks
+from .meaning.module_checks import ModuleChecks, identified
+from .meaning.objects import class_named
+from .meaning.scopes import Program
+from .meaning.types import Meanings
+from .parse import tree
+from .parse.source import Problems, Severity
 
 
 @dataclass

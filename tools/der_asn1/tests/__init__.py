@@ -1,8 +1,8 @@
 """Tests of the compiler. What they expect is worked out from the standards, and written before it is run."""
-from ..meaning_types import Meanings
-from ..parse_modules import read_text
-from ..scopes import Program
-from ..source import Problems
+from ..meaning.scopes import Program
+from ..meaning.types import Meanings
+from ..parse.modules import read_text
+from ..parse.source import Problems
 
 
 def module_text(body, header="EXPLICIT TAGS"):

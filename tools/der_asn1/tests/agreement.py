@@ -7,16 +7,16 @@ type says that the library's values differ: another constraint may be there then
 from dataclasses import dataclass, replace
 from typing import Optional
 
-from .. import tree
-from ..members import is_extensible, members_of, selected
-from ..objects import BUILT_IN_CLASSES
-from ..parse_modules import read_text
-from ..printed import Terms, printed
-from ..scopes import BUILT_IN_ANY, Found, Program, Scope, target_of
-from ..source import Problems
-from ..subtypes import Reader, ScopedConstraint, only_contents
-from ..tagging import default_mode, effective_mode, fixed_field_type
-from ..values import enumerated_numbers, integer_of, value_of
+from ..emit.printed import Terms, printed
+from ..meaning.members import is_extensible, members_of, selected
+from ..meaning.objects import BUILT_IN_CLASSES
+from ..meaning.scopes import BUILT_IN_ANY, Found, Program, Scope, target_of
+from ..meaning.subtypes import Reader, ScopedConstraint, only_contents
+from ..meaning.tagging import default_mode, effective_mode, fixed_field_type
+from ..meaning.values import enumerated_numbers, integer_of, value_of
+from ..parse import tree
+from ..parse.modules import read_text
+from ..parse.source import Problems
 
 _OPEN = (tree.AnyType, tree.ObjectFieldType)
 

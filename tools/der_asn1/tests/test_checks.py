@@ -2,8 +2,8 @@
 import unittest
 
 from .. import report
-from ..parse_modules import read_text
-from ..source import NotationError, Problems, Severity
+from ..parse.modules import read_text
+from ..parse.source import NotationError, Problems, Severity
 from . import module_text
 
 # assignments from line 2 on, and the errors of the module

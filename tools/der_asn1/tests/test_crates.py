@@ -7,7 +7,8 @@ import sys
 import tempfile
 import unittest
 
-from .. import command, emit_crate
+from .. import command
+from ..emit import crate as emit_crate
 from . import given
 from .stored import GOLDEN, files_below
 

@@ -7,11 +7,11 @@ import unittest
 from pathlib import Path
 
 from .. import command
-from ..derive import with_line
-from ..derived_types import derived_types
-from ..emit_derived import Place, derived_files
-from ..rust_items import read_items
-from ..source import NotationError
+from ..derive.command import with_line
+from ..derive.derived_types import derived_types
+from ..derive.rust_items import read_items
+from ..emit.derived import Place, derived_files
+from ..parse.source import NotationError
 
 POINT = "#[derive(Debug, Drop, PartialEq, Eq)]\npub struct Point {\n    pub x: u32,\n}\n"
 STATUS = "#[derive(Debug, Clone, Copy, PartialEq, Eq)]\npub enum Status {\n    On,\n    Off = 7,\n    Broken,\n}\n"

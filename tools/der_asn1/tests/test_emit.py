@@ -7,20 +7,21 @@ import tempfile
 import unittest
 from pathlib import Path
 
-from .. import command, emit_crate, emit_values
-from ..emit_choice import pattern, place, term
-from ..emit_derived import DerivedNames
-from ..emit_enum import enum_terms
-from ..emit_imports import term_imports
-from ..emit_types import Context, lines_of
-from ..folder import difference, write
-from ..parse_modules import read_text
-from ..source import Problems
-from ..layout import assigned, comment, filled, item_lines, natural, tuple_lines, type_lines
-from ..library import parts_type
-from ..library_table import TYPES
-from ..rust_types import UNIT, of, tuple_of
-from ..wording import joined, snake
+from .. import command
+from ..emit import crate as emit_crate, values as emit_values
+from ..emit.choice import pattern, place, term
+from ..emit.derived import DerivedNames
+from ..emit.enum import enum_terms
+from ..emit.folder import difference, write
+from ..emit.imports import term_imports
+from ..emit.layout import assigned, comment, filled, item_lines, natural, tuple_lines, type_lines
+from ..emit.types import Context, lines_of
+from ..meaning.library import parts_type
+from ..meaning.library_table import TYPES
+from ..meaning.rust_types import UNIT, of, tuple_of
+from ..meaning.wording import joined, snake
+from ..parse.modules import read_text
+from ..parse.source import Problems
 from . import Given, given
 from .stored import GOLDEN, files_below, golden_names, golden_options, stored_files, stored_text
 

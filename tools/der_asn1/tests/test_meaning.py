@@ -1,9 +1,9 @@
 """Which type of the library each type of the notation is, and what is missing: by docs/YOUR_TYPES.md, X.680 and X.690."""
 import unittest
 
-from ..declarations import Hint
-from ..features import Feature, Level, Note
-from ..library import ANY_FIRST
+from ..meaning.declarations import Hint
+from ..meaning.features import Feature, Level, Note
+from ..meaning.library import ANY_FIRST
 from . import Given, given, module_text
 
 # a type that is exact, and the type of the library

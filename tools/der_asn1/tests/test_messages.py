@@ -1,8 +1,8 @@
 """Each error of the parser, with its place, what was met, what is wanted, and the clause."""
 import unittest
 
-from ..parse_modules import read_text
-from ..source import NotationError, Problems, Severity
+from ..parse.modules import read_text
+from ..parse.source import NotationError, Problems, Severity
 from . import read
 
 # a notation as the assignment on line 2, and the error

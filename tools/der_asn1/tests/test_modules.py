@@ -1,9 +1,9 @@
 """Modules: headers, exports, imports, classes and parameters (X.680, 13; X.681, 9; X.683, 8)."""
 import unittest
 
-from .. import tree
-from ..parse_modules import read_text
-from ..source import Problems
+from ..parse import tree
+from ..parse.modules import read_text
+from ..parse.source import Problems
 from . import read_clean
 
 

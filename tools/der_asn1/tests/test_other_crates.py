@@ -4,9 +4,9 @@ import tempfile
 import unittest
 
 from .. import command
-from ..other_crates import OtherCrates, exported, other_crates
-from ..parse_modules import read_text
-from ..source import Problems
+from ..meaning.other_crates import OtherCrates, exported, other_crates
+from ..parse.modules import read_text
+from ..parse.source import Problems
 
 LOW = "Low DEFINITIONS ::= BEGIN Name ::= SEQUENCE { a Part } Part ::= SEQUENCE { b NULL } Inner ::= SEQUENCE { c NULL } END"
 

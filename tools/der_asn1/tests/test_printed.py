@@ -5,12 +5,13 @@ import re
 import unittest
 from pathlib import Path
 
-from .. import command, tree
-from ..objects import class_named
-from ..parse_modules import read_file, read_text
-from ..printed import printed, read_terms
-from ..scopes import Program
-from ..source import Problems
+from .. import command
+from ..emit.printed import printed, read_terms
+from ..meaning.objects import class_named
+from ..meaning.scopes import Program
+from ..parse import tree
+from ..parse.modules import read_file, read_text
+from ..parse.source import Problems
 from . import module_text
 from .agreement import Agreement
 from .stored import GOLDEN, stored_files

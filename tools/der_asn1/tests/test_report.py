@@ -7,9 +7,9 @@ import tempfile
 import unittest
 
 from .. import command, report
-from ..features import Level
-from ..parse_modules import read_text
-from ..source import Problems
+from ..meaning.features import Level
+from ..parse.modules import read_text
+from ..parse.source import Problems
 from . import module_text
 
 RARE = "REAL, EMBEDDED PDV and CHARACTER STRING"

@@ -1,15 +1,15 @@
 """Names, values, members, tags and objects, resolved."""
 import unittest
 
-from .. import tree
-from ..features import Level
-from ..intervals import ALL, INFINITY, Intervals
-from ..members import members_of
-from ..objects import class_named, set_named
-from ..source import NotationError, Severity
-from ..tagging import first_bytes
-from ..tokens import Kind, Token
-from ..values import arcs_of, enumerated_numbers, integer_of
+from ..meaning.features import Level
+from ..meaning.intervals import ALL, INFINITY, Intervals
+from ..meaning.members import members_of
+from ..meaning.objects import class_named, set_named
+from ..meaning.tagging import first_bytes
+from ..meaning.values import arcs_of, enumerated_numbers, integer_of
+from ..parse import tree
+from ..parse.source import NotationError, Severity
+from ..parse.tokens import Kind, Token
 from . import Given, given, module_text
 
 

@@ -1,8 +1,8 @@
 """The terms of types, worked out from X.680 and docs/ASN1.md."""
 import unittest
 
-from ..emit_notation import defined
-from ..emit_terms import definition
+from ..emit.notation import defined
+from ..emit.terms import definition
 from . import Given, given, module_text
 from .test_emit import crate_of
 

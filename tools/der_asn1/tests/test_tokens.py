@@ -1,8 +1,8 @@
 """The lexical items (X.680, 12)."""
 import unittest
 
-from ..source import NotationError, Place, Problems
-from ..tokens import Kind, scan
+from ..parse.source import NotationError, Place, Problems
+from ..parse.tokens import Kind, scan
 
 
 def items(text):

@@ -1,7 +1,7 @@
 """Each form of a type and of a member, as the parser reads it (X.680, 17 to 48)."""
 import unittest
 
-from .. import tree
+from ..parse import tree
 from . import read, read_clean, type_of
 
 

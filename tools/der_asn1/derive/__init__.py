@@ -1,0 +1,1 @@
+"""Types that a file of Rust has, with what they need written next to it."""

@@ -1,0 +1,180 @@
+"""The files of a crate: its root, its types, its values, and the terms with the law that each type is the one of its term."""
+from dataclasses import dataclass, field
+from pathlib import Path
+from typing import Iterable
+
+from ..meaning.causes import Cause
+from ..meaning.declarations import AliasDeclaration, ChoiceDeclaration, Declaration, Declarations, EnumDeclaration
+from ..meaning.library_table import LIBRARY_NAMES
+from ..meaning.terms import names_of
+from ..parse import tree
+from .choice import answers_path, serialize_answers
+from .enum import TERMS_FILE, terms_file
+from .folder import NOTE
+from .layout import comment, filled, natural
+from .notation import defined, notation_file, notation_terms
+from .private_names import PrivateNames
+from .types import ONLY, Context, stems_of, types_file
+from .values import Value, value_file
+
+# with more names than these `rt fmt` has each import on a line of its own
+MOST_GROUPED = 100
+# the crates that each crate uses
+NEEDS = "der_types picky_asn1_der picky_der_core picky_der_ser picky_der_de".split()
+# what no file of a module or a group can be called
+RESERVED = frozenset([ONLY, "values", "notation", "lib", "main", *NEEDS])
+_REPOSITORY = Path(__file__).resolve().parents[3]
+
+
+@dataclass
+class Crate:
+    """What a crate declares: its name, its types by their names, its values, and the modules that they are of.
+
+    `elsewhere` has the other crate of each type that it names and doesn't declare. `groups` has the names of the types of each file that
+    isn't the one of a module. `own` are the modules of `src` that are written by hand, by their names: the public names of each that the
+    root exports. `own_terms` are those of `specs`. `causes` are why types aren't those of the notation, each with how many contain it.
+    """
+
+    name: str
+    types: dict[str, Declaration]
+    values: list[Value]
+    modules: list[tree.Module]
+    elsewhere: dict[str, str] = field(default_factory=dict)
+    groups: dict[str, list[str]] = field(default_factory=dict)
+    own: dict[str, list[str]] = field(default_factory=dict)
+    own_terms: list[str] = field(default_factory=list)
+    causes: dict[Cause, int] = field(default_factory=dict)
+
+    def files(self) -> dict[str, str]:
+        """The text of each file, by its path in the crate."""
+        found = {**self.type_files(), **self.term_files(), "src/lib.rt": self.file("//!", self.root(), self.module_names())}
+        if self.values:
+            found["src/values.rt"] = self.file("//!", value_file(self.values), {it.module for it in self.values})
+        return dict(sorted(found.items()))
+
+    def type_files(self) -> dict[str, str]:
+        """The files of types, and the proofs of choices."""
+        found, stems, context = {}, self.stems(), self.context()
+        for stem, types in self.types_by_stem().items():
+            found[f"src/{stem}.rt"] = self.file("//!", types_file(types, stem, context), {it.module for it in types})
+        for it in self.sorted_types():
+            answers = serialize_answers(it, self.name, stems[it.name]) if isinstance(it, ChoiceDeclaration) else []
+            if answers:
+                found[answers_path(it, stems[it.name])] = self.file("--", answers, {it.module})
+        return found
+
+    def term_files(self) -> dict[str, str]:
+        """The files of terms, and that of the law."""
+        types, context = defined(self.sorted_types()), self.context()
+        found = {}
+        if types:
+            modules = {it.module for it in types}
+            found["src/notation.rt"] = self.file("//!", notation_file(types, context.homes, self.name), modules)
+            found["specs/Notation.antt"] = self.file("--", notation_terms(types, self.modules, context.homes), modules)
+        enumerations = [it for it in self.sorted_types() if isinstance(it, EnumDeclaration)]
+        if enumerations:
+            lines = terms_file(enumerations, self.name, self.stems())
+            found[f"specs/{TERMS_FILE}.antt"] = self.file("--", lines, {it.module for it in enumerations})
+        names = sorted([*(Path(it).stem for it in found if it.startswith("specs/")), *self.own_terms])
+        if names:
+            found["specs/Lib.antt"] = self.file("--", [f"pub mod {it}" for it in names], self.module_names())
+        return found
+
+    def file(self, mark: str, lines: list[str], modules: set[str]) -> str:
+        """The text of a file: a note that says what it is made from, and its lines."""
+        paths = list(dict.fromkeys(shown(it.path) for it in self.modules if it.name in modules and Path(it.path).suffix))
+        origin = "" if not paths else f" from {paths[0] if len(paths) == 1 else f'{len(paths)} modules of ASN.1'}"
+        return "\n".join([f"{mark} {NOTE}{origin}. Don't edit.", *([mark] if mark == "//!" else []), *lines]) + "\n"
+
+    def module_names(self) -> set[str]:
+        """The names of the modules that something of the crate is of."""
+        return {it.module for it in [*self.types.values(), *self.values]}
+
+    def context(self) -> Context:
+        """What the files of types depend on."""
+        fields = {part.name for it in self.types.values() if not isinstance(it, AliasDeclaration) for part in it.parts()}
+        return Context(self.name, self.homes(), PrivateNames([*self.homes(), *LIBRARY_NAMES, *fields]), self.types)
+
+    def homes(self) -> dict[str, str]:
+        """The crate of each type, by its name, and of the defaults of enumerations: `crate` for this one."""
+        defaults = [name for it in self.types.values() if isinstance(it, EnumDeclaration) for name in it.defaults]
+        return {**dict.fromkeys([*self.types, *defaults], "crate"), **self.elsewhere}
+
+    def sorted_types(self) -> list[Declaration]:
+        """The types in the order of their names."""
+        return [self.types[it] for it in sorted(self.types, key=natural)]
+
+    def stems(self) -> dict[str, str]:
+        """The name of the file of each type, by the name of the type."""
+        taken = RESERVED | {*self.own, *self.groups, *self.elsewhere.values()}
+        return stems_of(list(self.types.values()), self.groups, frozenset(taken))
+
+    def types_by_stem(self) -> dict[str, list[Declaration]]:
+        """The types of each file, in the order of the modules, by the name of the file."""
+        order = {it.name: index for index, it in enumerate(self.modules)}
+        stems, found = self.stems(), {}
+        for it in sorted(self.types.values(), key=lambda it: (order.get(it.module, len(order)), it.place, natural(it.name))):
+            found.setdefault(stems[it.name], []).append(it)
+        return found
+
+    def root(self) -> list[str]:
+        """The lines of `lib.rt`, after its first one."""
+        by_home = {stem: [name for it in types for name in (it.name, *getattr(it, "defaults", []))] for stem, types in self.types_by_stem().items()}
+        by_home.update(self.own)
+        public = [*(["notation"] if defined(self.sorted_types()) else []), *(["values"] if self.values else [])]
+        sources = ", ".join(sorted({it.module for it in self.types.values()}))
+        lines = [*comment("", "//!", f"The types of {sources}."), "#![tactic(auto)]", ""]
+        lines += [f"pub mod {it};" if it in public else f"mod {it};" for it in sorted({*by_home, *public})]
+        lines += [""] if by_home else []
+        is_grouped = sum(map(len, by_home.values())) <= MOST_GROUPED
+        for home in sorted(by_home, key=natural):
+            found = sorted(by_home[home], key=natural)
+            if is_grouped and len(found) > 1:
+                lines += filled("", f"pub use {home}::", found, ";")
+            else:
+                lines += [f"pub use {home}::{it};" for it in found]
+        return lines
+
+
+def shown(path: str) -> str:
+    """The path of a module in the repository, or the name of its file alone."""
+    whole = Path(path).resolve()
+    return whole.relative_to(_REPOSITORY).as_posix() if whole.is_relative_to(_REPOSITORY) else whole.name
+
+
+def reached(declarations: Declarations, names: Iterable[str]) -> dict[str, Declaration]:
+    """The declarations that these names lead to."""
+    return {name: it for name, it in all_reached(declarations, names).items() if name not in declarations.elsewhere}
+
+
+def reached_elsewhere(declarations: Declarations, names: Iterable[str]) -> dict[str, str]:
+    """The paths of the types of other crates that these names lead to, by their names here."""
+    found = all_reached(declarations, names)
+    return {name: path for name, path in declarations.elsewhere.items() if name in found}
+
+
+def all_reached(declarations: Declarations, names: Iterable[str]) -> dict[str, Declaration]:
+    """The declarations that these names lead to, those of other crates without what they lead to."""
+    found, left = {}, list(names)
+    while left:
+        name = left.pop()
+        if name in found or name not in declarations.by_name:
+            continue
+        found[name] = declarations.by_name[name]
+        if name not in declarations.elsewhere:
+            left += sorted(named_in_types(found[name]) | named_in_term(found[name]))
+    return found
+
+
+def named_in_types(declared: Declaration) -> set[str]:
+    """The names of the types that a declaration is made of."""
+    if isinstance(declared, AliasDeclaration):
+        return declared.type.names()
+    if isinstance(declared, EnumDeclaration):
+        return set()
+    return set().union(*(it.type.names() for it in declared.parts()))
+
+
+def named_in_term(declared: Declaration) -> set[str]:
+    """The names in the term of a declaration. A tag may be around what a name stands for, so that the type hasn't the name."""
+    return names_of([declared.term.inline()]) if declared.term else set()

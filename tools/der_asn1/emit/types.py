@@ -1,0 +1,114 @@
+"""The files of a crate's types: which file each type is in, and the lines of a file."""
+from dataclasses import dataclass, field
+
+from ..meaning.declarations import AliasDeclaration, ChoiceDeclaration, Declaration, EnumDeclaration, NewtypeDeclaration, StructDeclaration
+from ..meaning.examples import has_example
+from ..meaning.wording import snake
+from .choice import choice_lines, choice_uses
+from .comments import difference_note, sentence
+from .enum import TERMS_FILE, enum_lines, enum_uses
+from .faithful import faithful_default_impl, faithful_default_uses, faithful_impl, faithful_uses, inhabited_impl, inhabited_uses
+from .imports import Uses
+from .layout import assigned, comment
+from .newtype import newtype_lines, newtype_uses
+from .private_names import PrivateNames
+from .struct import struct_lines, struct_uses
+
+# the file of the types of a crate of one module, without those of groups
+ONLY = "types"
+
+
+@dataclass(frozen=True)
+class Context:
+    """What the lines of a file depend on: the crate, the crates of types that are named, the names of what is private, and the crate's types."""
+
+    crate: str
+    homes: dict[str, str]
+    names: PrivateNames
+    types: dict[str, Declaration] = field(default_factory=dict)
+
+
+def stems_of(types: list[Declaration], groups: dict[str, list[str]], taken: frozenset[str]) -> dict[str, str]:
+    """The name of the file of each type, by the name of the type.
+
+    A type is in the file of the group that has it, or that has what it is a part of. All others of a module are in its file, which is
+    `types` if the crate is of one module alone. No file of a module has a name in `taken`.
+    """
+    group_of = {source: stem for stem, sources in groups.items() for source in sources}
+    is_one_module = len({it.module for it in types}) == 1
+    return {it.name: group_of.get(it.root) or (ONLY if is_one_module else module_stem(it.module, taken)) for it in types}
+
+
+def module_stem(module: str, taken: frozenset[str]) -> str:
+    """The name of the file of a module."""
+    found = snake(module)
+    return f"{found}_types" if found in taken else found
+
+
+def types_file(types: list[Declaration], stem: str, context: Context) -> list[str]:
+    """The lines of a file of types, after its first one: their items in the order of the modules."""
+    uses, body = Uses(), []
+    for it in types:
+        uses.add(uses_of(it, context))
+        body += ["", *lines_of(it, stem, context)]
+        for more, lines in promises(it, stem, context):
+            uses.add(more)
+            body += ["", *lines]
+    own = {it.name for it in types} | {name for it in types for name in getattr(it, "defaults", [])}
+    terms, rust = uses.term_lines(), uses.rust_lines(context.homes, own)
+    modules = list(dict.fromkeys(it.module for it in types))
+    about = comment("", "//!", f"Types of {', '.join(modules)}.")
+    return [*about, *terms, *([""] if rust else []), *rust, *body]
+
+
+def uses_of(declared: Declaration, context: Context) -> Uses:
+    """What the items of a type name."""
+    if isinstance(declared, NewtypeDeclaration):
+        return newtype_uses(declared)
+    if isinstance(declared, StructDeclaration):
+        return struct_uses(declared)
+    if isinstance(declared, ChoiceDeclaration):
+        return choice_uses(declared)
+    if isinstance(declared, EnumDeclaration):
+        return enum_uses(declared, context.crate)
+    return Uses(declared.type.names())
+
+
+def lines_of(declared: Declaration, stem: str, context: Context) -> list[str]:
+    """The items of a type."""
+    home = home_of_terms(stem, context)
+    if isinstance(declared, NewtypeDeclaration):
+        return newtype_lines(declared)
+    if isinstance(declared, StructDeclaration):
+        return struct_lines(declared, context.names)
+    if isinstance(declared, ChoiceDeclaration):
+        return choice_lines(declared, context.names, home)
+    if isinstance(declared, EnumDeclaration):
+        return enum_lines(declared, home)
+    return alias_lines(declared)
+
+
+def promises(declared: Declaration, stem: str, context: Context) -> list[tuple[Uses, list[str]]]:
+    """What says that a type's `==` is sameness of encodings, and that a value of it is readable. A name of another type has what that has."""
+    if isinstance(declared, AliasDeclaration) and not isinstance(declared, NewtypeDeclaration):
+        return []
+    inner = context.names.of(declared, "Parts") if isinstance(declared, (StructDeclaration, ChoiceDeclaration)) else ""
+    terms = f"Rattle.{context.crate}.specs.{TERMS_FILE}"
+    found = [(faithful_uses(declared, terms), faithful_impl(declared, inner, home_of_terms(stem, context)))]
+    if isinstance(declared, EnumDeclaration):
+        found += [(faithful_default_uses(), faithful_default_impl(it, declared.name)) for it in declared.defaults]
+    return [*found, *([(inhabited_uses(), inhabited_impl(declared.name))] if has_example(declared, context.types) else [])]
+
+
+def home_of_terms(stem: str, context: Context) -> str:
+    """The module of terms of the types of a file."""
+    return f"Rattle.{context.crate}.specs.declared.{stem}"
+
+
+def alias_lines(declared: AliasDeclaration) -> list[str]:
+    """A name of another type."""
+    return [
+        *comment("", "///", f"{sentence(declared.comment)} `{declared.source}` of {declared.module}: `{declared.notation}`."),
+        *difference_note(declared),
+        *assigned("", f"pub type {declared.name} =", str(declared.type), ";"),
+    ]

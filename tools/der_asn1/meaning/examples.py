@@ -1,0 +1,46 @@
+"""Which types have a readable value that is found when the program is checked, as `sample_of` of der_types finds one."""
+from typing import Mapping
+
+from ..parse.tree import Presence
+from .declarations import AliasDeclaration, ChoiceDeclaration, Declaration, EnumDeclaration, StructDeclaration
+from .library import ONE_BYTE
+from .rust_types import RustType
+
+# lists, of which one without members is readable
+_LISTS = frozenset(("Vec", "Asn1SequenceOf", "Asn1SetOf"))
+# the largest size of a value that is made
+_MOST_ITEMS = 1024
+# what stands for the constants of Rust for the greatest number
+_MAX = 2**64 - 1
+
+
+def has_example(declared: Declaration, types: Mapping[str, Declaration]) -> bool:
+    """Whether a readable value of this type is found. Types that aren't in `types` have one."""
+    if isinstance(declared, StructDeclaration):
+        return all(of_type(it.type, types) for it in declared.fields if it.presence is Presence.REQUIRED)
+    if isinstance(declared, ChoiceDeclaration):
+        return any(of_type(it.type, types) for it in declared.variants)
+    if isinstance(declared, EnumDeclaration):
+        return bool(declared.items)
+    return not isinstance(declared, AliasDeclaration) or of_type(declared.type, types)
+
+
+def of_type(type_: RustType, types: Mapping[str, Declaration]) -> bool:
+    """Whether a readable value of this type of Rust is found."""
+    if type_.name in types:
+        return has_example(types[type_.name], types)
+    if type_.name in _LISTS:
+        return True
+    parts = [it for it in type_.arguments if isinstance(it, RustType)]
+    if type_.name in ("WithSize", "InRange"):
+        least, most = (_bound(str(it)) for it in type_.arguments[1:])
+        if type_.name == "InRange":
+            return least <= most and least in ONE_BYTE and of_type(parts[0], types)
+        items = parts[0].arguments if least and parts[0].name in _LISTS else ()
+        return least <= min(most, _MOST_ITEMS) and all(of_type(it, types) for it in (*items, parts[0]) if isinstance(it, RustType))
+    return all(of_type(it, types) for it in parts)
+
+
+def _bound(text: str) -> int:
+    """A bound as a number."""
+    return _MAX if "MAX" in text else int(text, 0)

@@ -1,0 +1,412 @@
+"""Which type of the library each type of a module is."""
+from dataclasses import replace
+from typing import Iterable, Optional
+
+from ..parse import tree
+from ..parse.modules import read_text
+from ..parse.source import Problems
+from .bounds import bounded, integer, whole_number_limits
+from .causes import Cause, Where, counts
+from .checks import Checks
+from .declarations import AliasDeclaration, Declaration, Declarations, Hint, NewtypeDeclaration
+from .features import Feature, Level, Note
+from .library import Core, Rust, any_element, tagged_bytes
+from .library_table import BY_NAME, UNIVERSAL_TAGS, LibraryType
+from .meaning import Meaning, lacks
+from .members import selected
+from .objects import BUILT_IN_CLASSES, ObjectSet, class_named, set_of
+from .rust_types import UNIT, of
+from .scopes import BUILT_IN_ANY, Binding, Found, Program, Resolved, Scope, resolve, target_of
+from .structures import choice, enumeration, named_integer, structure
+from .subtypes import Limits, Reader, ScopedConstraint, only_contents
+from .tagging import default_mode, effective_mode, first_bytes, fixed_field_type
+from .tags import wrapped
+from .terms import Term, tagged
+from .values import arcs_of, integer_of
+
+# EXTERNAL and INSTANCE OF as the sequences that they are encoded as (X.690, 8.18; X.681, C.7)
+_ASSOCIATED_TYPES = """
+Associated-Types DEFINITIONS EXPLICIT TAGS ::= BEGIN
+External ::= [UNIVERSAL 8] IMPLICIT SEQUENCE {
+    direct-reference OBJECT IDENTIFIER OPTIONAL,
+    indirect-reference INTEGER OPTIONAL,
+    data-value-descriptor ObjectDescriptor OPTIONAL,
+    encoding CHOICE {
+        single-ASN1-type [0] ANY,
+        octet-aligned [1] IMPLICIT OCTET STRING,
+        arbitrary [2] IMPLICIT BIT STRING } }
+Instance-Of ::= [UNIVERSAL 8] IMPLICIT SEQUENCE { type-id OBJECT IDENTIFIER, value [0] EXPLICIT ANY }
+END
+"""
+# types of 2008 that the library has none for
+_TIMES = frozenset("TIME DATE TIME-OF-DAY DATE-TIME DURATION OID-IRI RELATIVE-OID-IRI".split())
+_DER = [2, 1, 2, 1]  # the object identifier of DER (X.690, 12.2)
+ASSOCIATED = Program(read_text(_ASSOCIATED_TYPES, "associated types", Problems()), Problems())
+
+
+def in_words(meaning: Meaning, constraints: tuple[ScopedConstraint, ...]) -> Meaning:
+    """The same with a note if a constraint says something in words alone (X.682, 9)."""
+    said = any(isinstance(it.constraint, tree.UserConstraint) for it in constraints)
+    return meaning.noting(Note.USER_CONSTRAINT) if said else meaning
+
+
+def instance_name(found: Found) -> str:
+    """The name of an assignment, with those of the types that are given for its parameters."""
+    given = [type_name(it.argument.type) for _, it in found.scope.bindings if it.argument.type]
+    return "-".join(it for it in [found.assignment.name, *given] if it)
+
+
+def hint_of(found: Found, key: tuple) -> Hint:
+    """What the type of an assignment is called after."""
+    name = found.assignment.name
+    where = Where(found.assignment.place, found.scope.module.name, name)
+    return Hint(instance_name(found), key, " ".join(found.assignment.comment), name, where)
+
+
+def type_name(type_: tree.Type) -> str:
+    """The name of a type that is given for a parameter, or nothing if it has none."""
+    named = {tree.IntegerType: "INTEGER", tree.BitStringType: "BIT-STRING", tree.EnumeratedType: "ENUMERATED", tree.AnyType: "ANY"}
+    return named.get(type(type_), getattr(type_, "name", "").replace(" ", "-"))
+
+
+def library_type(found: LibraryType) -> Rust:
+    """A type of the library by its row of the table."""
+    return Rust(of(found.rust) if found.rust != "()" else UNIT, found.core, frozenset((found.tag,)), term=Term(found.term))
+
+
+# of which a struct of its own may be made: what has no parts, and so no trait of its own but `Begins`
+_SIMPLE = frozenset((Core.BOOL, Core.NULL, Core.UNSIGNED, Core.SIGNED, Core.CONTENTS, Core.NUMBER, Core.OCTETS, Core.UTF8, Core.CONTAINER, Core.OWN))
+
+
+def alias(name: str, found: Found, type_: tree.Type, meaning: Meaning, kind: type[AliasDeclaration]) -> AliasDeclaration:
+    """The declaration of a name of another type, or of a struct round it."""
+    source, comment = found.assignment.name, " ".join(found.assignment.comment)
+    declared = kind(name, found.assignment.place, found.scope.module.name, source, comment, root=source)
+    declared.level, declared.lacks, declared.term = meaning.level, lacks(meaning), meaning.rust.term
+    declared.type, declared.notation = meaning.rust.type, type_.text
+    return declared
+
+
+class Meanings:
+    """The meanings of the types of a program. Each assignment is worked out once."""
+
+    def __init__(self, program: Program, declarations: Optional[Declarations] = None, distinct: Iterable[str] = ()) -> None:
+        self.program = program
+        self.distinct = frozenset(distinct)  # the names of types that are structs of their own, in place of names of others
+        self.declarations = declarations or Declarations()
+        self.known, self.busy = {}, []
+        self.checks = Checks(program)
+        self.first_uses: dict[tuple[str, str, str], Where] = {}  # where each name is imported or used first that leads nowhere
+
+    # ---- assignments
+
+    def of_assignment(self, assignment: tree.TypeAssignment, module: tree.Module) -> Meaning:
+        """The meaning of a type that has a name."""
+        return self.of_found(Found(assignment, self.program.scope_of(module)), assignment.type)
+
+    def of_found(self, found: Found, type_: tree.Type) -> Meaning:
+        """The meaning of what a name stands for, with this name. The edge back of a recursion is raw."""
+        key = (*found.scope.key, found.assignment.name)
+        if key in self.known:
+            return self.known[key]
+        if key in self.busy:
+            return self.raw(type_, found.scope, Feature.RECURSION)
+        self.checks.assignment(found)
+        self.busy.append(key)
+        try:
+            meaning = self.of_type(type_, found.scope, hint_of(found, key))
+        finally:
+            self.busy.pop()
+        if meaning.rust:
+            meaning = self.named(meaning, key, found, type_)
+        self.known[key] = meaning
+        return meaning
+
+    def named(self, meaning: Meaning, key: tuple, found: Found, type_: tree.Type) -> Meaning:
+        """The same under the name of its assignment, which is declared if the type has another name or none."""
+        declared = self.declarations.by_name.get(meaning.rust.text)
+        if declared and declared.place == type_.place:
+            declared.term = meaning.rust.term
+            return meaning.called(Term(declared.name))
+        name = self.declarations.fresh(instance_name(found), key, found.scope.module.name)
+        rust = replace(meaning.rust, type=of(name), term=Term(name))
+        if found.assignment.name not in self.distinct:
+            self.declarations.add(alias(name, found, type_, meaning, AliasDeclaration))
+            return meaning.as_(rust)
+        if rust.core not in _SIMPLE:
+            text = f"`{found.assignment.name}` has parts or a tag, and is no struct of its own"
+            self.program.problems.error(found.assignment.place, text, "docs/ASN1.md")
+        self.declarations.add(alias(name, found, type_, meaning, NewtypeDeclaration))
+        return meaning.as_(rust if rust.core is Core.CONTAINER else replace(rust, core=Core.OWN))
+
+    def causes(self, written: Iterable[Declaration]) -> dict[Cause, int]:
+        """Why these types aren't those of the notation, with how many types contain each cause. What another crate declares is left out."""
+        own = {(it.module, it.root) for it in written}
+        others = {(it.module, it.root) for it in map(self.declarations.by_name.get, self.declarations.elsewhere) if it} - own
+        nowhere, roots = set(self.first_uses.values()), {name for _, name in own}
+        found = counts(it.causes for it in self.known.values())
+
+        def is_own(where: Where) -> bool:
+            pair = (where.module, where.owner)
+            return where in nowhere or pair in own or where.owner in roots and pair not in others
+
+        return {it: number for it, number in found.items() if is_own(it.where)}
+
+    def raw(self, type_: tree.Type, scope: Scope, *features: Feature) -> Meaning:
+        """A type that is kept as bytes: under its tag, if it has only one."""
+        firsts = first_bytes(self.program, type_, scope)
+        if firsts is not None and len(firsts) == 1:
+            return Meaning(tagged_bytes(*firsts), Level.RAW).lacking(*features)
+        return Meaning(any_element(), Level.RAW).lacking(*features)
+
+    def unknown(self, feature: Feature) -> Meaning:
+        """A type of which nothing is known."""
+        return Meaning(any_element()).lacking(feature)
+
+    def any_type(self) -> Meaning:
+        """An open type, which is any element."""
+        return Meaning(any_element()).noting(Note.OPEN)
+
+    # ---- types
+
+    def of_type(self, type_: tree.Type, scope: Scope, hint: Hint, outer: tuple[ScopedConstraint, ...] = ()) -> Meaning:
+        """The meaning of a type as it is written, with the constraints of names that lead to it."""
+        constraints = (*(ScopedConstraint(it, scope) for it in type_.constraints), *outer)
+        meaning = self.untagged(type_, scope, hint, constraints)
+        inner = replace(type_, tags=[])
+        for tag in reversed(type_.tags):
+            number = integer_of(self.program, tag.number, scope)
+            if number is None:
+                return self.unknown(Feature.UNDEFINED)
+            meaning = self.under(meaning, tag, number, effective_mode(self.program, tag, inner, scope), scope)
+            inner = None
+        return meaning.placed(hint.where or Where(type_.place))
+
+    def under(self, inner: Meaning, tag: tree.Tag, number: int, mode: tree.TagMode, scope: Scope) -> Meaning:
+        """The meaning of a type under a tag, with its term."""
+        meaning = wrapped(inner, tag.tag_class, number, mode)
+        if inner.rust is None or meaning.rust is None or meaning.rust.term:
+            return meaning.settled()
+        told = mode is tree.TagMode.EXPLICIT and inner.rust.core not in (Core.CHOICE, Core.ELEMENT)
+        is_explicit = told and (tag.mode or default_mode(scope)) is not tree.TagMode.EXPLICIT
+        return meaning.called(tagged(tag, number, inner.rust.term, scope.module.name, is_explicit))
+
+    def untagged(self, type_: tree.Type, scope: Scope, hint: Hint, constraints: tuple[ScopedConstraint, ...]) -> Meaning:
+        """The meaning of a type without its tags."""
+        reader = getattr(self, "of_" + type(type_).__name__.lower())
+        return reader(type_, scope, hint, constraints).settled()
+
+    def limits(self, constraints: tuple[ScopedConstraint, ...], type_: tree.Type, scope: Scope) -> Limits:
+        """What the constraints of a type leave."""
+        name = type_.name if isinstance(type_, tree.SimpleType) else ""
+        return Reader(self.program, getattr(type_, "named", []), name).limits(constraints)
+
+    def checked(self, meaning: Meaning, type_: tree.Type, scope: Scope, constraints: tuple[ScopedConstraint, ...]) -> Meaning:
+        """The same with types around it that check its constraints."""
+        return bounded(in_words(meaning, constraints), self.limits(constraints, type_, scope))
+
+    # ---- types without parts
+
+    def of_simpletype(self, type_: tree.SimpleType, scope: Scope, hint: Hint, constraints: tuple[ScopedConstraint, ...]) -> Meaning:
+        if type_.name == "EXTERNAL":
+            return self.of_associated("External")
+        if type_.name == "OCTET STRING":
+            return self.of_octets(type_, scope, hint, constraints)
+        found = BY_NAME[type_.name]
+        meaning = Meaning(library_type(found) if found.rust else tagged_bytes(found.tag))
+        if isinstance(found.lacks, Feature):
+            return meaning.lacking(found.lacks)
+        return self.checked(meaning.noting(*filter(None, [found.lacks])), type_, scope, constraints)
+
+    def of_integertype(self, type_: tree.IntegerType, scope: Scope, hint: Hint, constraints: tuple[ScopedConstraint, ...]) -> Meaning:
+        limits = self.limits(constraints, type_, scope)
+        numbers, other = whole_number_limits(limits)
+        found = None if other else named_integer(self, type_, scope, hint, numbers)
+        meaning = in_words(found or integer(Meaning, (numbers, other)), constraints)
+        return meaning.lacking(Feature.UNKNOWN_BOUND) if limits.unknown else meaning
+
+    def of_enumeratedtype(self, type_: tree.EnumeratedType, scope: Scope, hint: Hint, constraints: tuple[ScopedConstraint, ...]) -> Meaning:
+        """An enum of its own, or any number if later versions may have others (X.680, 20)."""
+        if type_.extensible or scope.module.extensibility_implied:
+            meaning = Meaning(library_type(BY_NAME["ENUMERATED"]))
+        else:
+            meaning = enumeration(self, type_, scope, hint)
+        return self.checked(meaning, type_, scope, constraints)
+
+    def of_bitstringtype(self, type_: tree.BitStringType, scope: Scope, hint: Hint, constraints: tuple[ScopedConstraint, ...]) -> Meaning:
+        firsts = frozenset((UNIVERSAL_TAGS["BIT STRING"],))
+        contents = only_contents(constraints)
+        if contents and contents.constraint.type is not None:
+            return self.checked(self.container(contents, "BitStringAsn1Container", firsts, hint), type_, scope, constraints)
+        if not type_.named:
+            return self.checked(Meaning(library_type(BY_NAME["BIT STRING"])), type_, scope, constraints)
+        meaning = Meaning(Rust(of("NamedBits"), Core.CONTENTS, firsts, term=Term("BIT-STRING-named")))
+        limits = self.limits(constraints, type_, scope)
+        if limits.size.pairs and limits.size.high != float("inf"):
+            meaning = meaning.lacking(Feature.NAMED_BITS_SIZE)
+        return meaning.noting(Note.CONSTRAINT) if limits.other else meaning
+
+    def of_octets(self, type_: tree.SimpleType, scope: Scope, hint: Hint, constraints: tuple[ScopedConstraint, ...]) -> Meaning:
+        firsts = frozenset((UNIVERSAL_TAGS["OCTET STRING"],))
+        contents = only_contents(constraints)
+        if contents and contents.constraint.type is not None:
+            return self.checked(self.container(contents, "OctetStringAsn1Container", firsts, hint), type_, scope, constraints)
+        return self.checked(Meaning(library_type(BY_NAME["OCTET STRING"])), type_, scope, constraints)
+
+    def container(self, contents: ScopedConstraint, name: str, firsts: frozenset[int], hint: Hint) -> Meaning:
+        """A string with the encoding of a value in it (X.682, 11). One of another encoding than DER is kept as it is."""
+        encoded_by = contents.constraint.encoded_by
+        if encoded_by is not None and arcs_of(self.program, encoded_by, contents.scope) != _DER:
+            return Meaning(tagged_bytes(*firsts)).lacking(Feature.ENCODING)
+        inner = self.of_type(contents.constraint.type, contents.scope, hint.part("content"))
+        if inner.rust is None:
+            return Meaning(tagged_bytes(*firsts), Level.RAW).containing(replace(inner, level=Level.RAW))
+        form = "OCTET-STRING" if name.startswith("Octet") else "BIT-STRING"
+        term = Term(f"{form}-CONTAINING", inner.rust.term)
+        return Meaning(Rust(of(name, inner.rust.type), Core.CONTAINER, firsts, inner.rust, term=term)).containing(inner)
+
+    # ---- names
+
+    def of_referencetype(self, type_: tree.ReferenceType, scope: Scope, hint: Hint, constraints: tuple[ScopedConstraint, ...]) -> Meaning:
+        found = self.program.find(type_.name, scope, type_.module, type_.place)
+        if isinstance(found, Binding):
+            return self.of_binding(found, hint, constraints)
+        if found is None:
+            return self.not_found(type_, scope, hint)
+        if class_named(self.program, type_.name, scope):
+            return self.any_type()
+        target = target_of(self.program, type_, scope)
+        if target is None or isinstance(found.assignment, tree.UnreadAssignment):
+            return self.unknown(self.why_no_type(found, type_))
+        if isinstance(found.assignment, tree.SetAssignment):
+            return self.of_type(target.type, target.scope, hint, constraints).noting(Note.CONSTRAINT)
+        named = Found(found.assignment, target.scope)
+        if not constraints:
+            return self.of_found(named, target.type)
+        return self.constrained_reference(named, target, constraints, hint.where)
+
+    def constrained_reference(self, found: Found, target: Resolved, constraints: tuple[ScopedConstraint, ...], where: Optional[Where]) -> Meaning:
+        """A name with constraints after it: what the name stands for, with them."""
+        base = resolve(self.program, target.type, target.scope)
+        if isinstance(base.type, (tree.StructureType, tree.ChoiceType)):
+            return self.checked(self.of_found(found, target.type), base.type, base.scope, constraints)
+        key = (*target.scope.key, found.assignment.name)
+        if key in self.busy:
+            return self.raw(target.type, target.scope, Feature.RECURSION)
+        self.checks.assignment(found)
+        self.busy.append(key)
+        try:
+            hint = Hint(found.assignment.name, root=found.assignment.name, where=where)
+            return self.of_type(target.type, target.scope, hint, constraints)
+        finally:
+            self.busy.pop()
+
+    def of_binding(self, found: Binding, hint: Hint, constraints: tuple[ScopedConstraint, ...]) -> Meaning:
+        """What is given for a parameter."""
+        if found.argument.type is None:
+            return self.any_type()
+        return self.of_type(found.argument.type, found.scope, hint, constraints)
+
+    def why_no_type(self, found: Found, type_: tree.ReferenceType) -> Feature:
+        """What is missing where a name stands for something that isn't a type."""
+        kinds = {tree.UnreadAssignment: Feature.UNREAD, tree.MacroAssignment: Feature.MACRO}
+        if type(found.assignment) not in (*kinds, tree.TypeAssignment, tree.SetAssignment):
+            self.program.problems.error(type_.place, f"`{type_.name}` isn't a type", "X.680, 14.1")
+        return kinds.get(type(found.assignment), Feature.UNDEFINED)
+
+    def not_found(self, type_: tree.ReferenceType, scope: Scope, hint: Hint) -> Meaning:
+        """A name that isn't defined here: an open type of other compilers, a type of 2008, or one of a module that isn't given."""
+        if type_.name in BUILT_IN_ANY or type_.name in BUILT_IN_CLASSES:
+            return self.any_type()
+        if type_.name in _TIMES:
+            return Meaning(any_element(), Level.RAW).lacking(Feature.TIME)
+        if self.program.is_elsewhere(type_.name, type_.module, scope.module):
+            return self.unknown(Feature.IMPORT).placed(self.first_use(type_, scope, hint))
+        where = self.first_use(type_, scope, hint)
+        source = next((it for it in scope.module.imports if it.name == type_.name), None)
+        if source:
+            self.program.problems.error(where.place, self.program.why_not_imported(source, scope.module), "X.680, 13.16")
+        else:
+            self.program.problems.error(where.place, f"`{type_.name}` isn't defined", "X.680, 14.1")
+        return self.unknown(Feature.UNDEFINED).placed(where)
+
+    def first_use(self, type_: tree.ReferenceType, scope: Scope, hint: Hint) -> Where:
+        """Where a name that leads nowhere is imported, or else used first. All its uses have one cause."""
+        source = next((it.place for it in scope.module.imports if it.name == type_.name), None)
+        where = Where(source or type_.place, scope.module.name, type_.name)
+        return self.first_uses.setdefault((scope.module.path, scope.module.name, type_.name), where)
+
+    def of_selectiontype(self, type_: tree.SelectionType, scope: Scope, hint: Hint, constraints: tuple[ScopedConstraint, ...]) -> Meaning:
+        """The type of an alternative (X.680, 30)."""
+        found = selected(self.program, type_, scope)
+        if found:
+            return self.of_type(found.member.type, found.scope, hint, constraints)
+        self.program.problems.error(type_.place, f"there is no alternative `{type_.name}`", "X.680, 30.3")
+        return self.unknown(Feature.UNDEFINED)
+
+    # ---- open types
+
+    def of_anytype(self, type_: tree.AnyType, scope: Scope, hint: Hint, constraints: tuple[ScopedConstraint, ...]) -> Meaning:
+        return self.any_type()
+
+    def of_objectfieldtype(
+        self,
+        type_: tree.ObjectFieldType,
+        scope: Scope,
+        hint: Hint,
+        constraints: tuple[ScopedConstraint, ...],
+    ) -> Meaning:
+        return self.any_type()
+
+    def of_fieldtype(self, type_: tree.FieldType, scope: Scope, hint: Hint, constraints: tuple[ScopedConstraint, ...]) -> Meaning:
+        """A field of a class: a type of its own, or an open type (X.681, 14.2)."""
+        fixed = fixed_field_type(self.program, type_, scope)
+        tables = [it for it in constraints if isinstance(it.constraint, tree.TableConstraint)]
+        others = tuple(it for it in constraints if not isinstance(it.constraint, tree.TableConstraint))
+        if fixed:
+            meaning = self.of_type(*fixed, hint, others)
+            return meaning.noting(Note.CONSTRAINT) if any(self.is_closed(type_, it) for it in tables) else meaning
+        for it in others:
+            root = getattr(it.constraint, "root", None)
+            if isinstance(root, tree.ContainedSubtype):
+                found = self.of_type(root.type, it.scope, hint)
+                return found.as_(replace(found.rust, is_open=True)) if found.rust else found
+        known = any(self.objects(type_, it).objects for it in tables)
+        return self.unknown(Feature.OPEN_TABLE) if known else self.any_type()
+
+    def objects(self, type_: tree.FieldType, table: ScopedConstraint) -> ObjectSet:
+        """The objects of a table constraint (X.682, 10)."""
+        class_ = class_named(self.program, type_.class_name, table.scope)
+        return set_of(self.program, table.constraint.tokens, class_, table.scope)
+
+    def is_closed(self, type_: tree.FieldType, table: ScopedConstraint) -> bool:
+        """Whether a table has all objects that there will be."""
+        found = self.objects(type_, table)
+        return found.complete and not found.extensible and bool(found.objects)
+
+    def of_associated(self, name: str) -> Meaning:
+        """EXTERNAL or INSTANCE OF, by the sequence that it is encoded as."""
+        found = ASSOCIATED.find(name, ASSOCIATED.scope_of(ASSOCIATED.modules[0]))
+        return Meanings(ASSOCIATED, self.declarations).of_found(found, found.assignment.type)
+
+    def of_instanceoftype(self, type_: tree.InstanceOfType, scope: Scope, hint: Hint, constraints: tuple[ScopedConstraint, ...]) -> Meaning:
+        return self.of_associated("Instance-Of")
+
+    # ---- constructed types
+
+    def of_structuretype(self, type_: tree.StructureType, scope: Scope, hint: Hint, constraints: tuple[ScopedConstraint, ...]) -> Meaning:
+        return self.checked(structure(self, type_, scope, hint), type_, scope, constraints)
+
+    def of_choicetype(self, type_: tree.ChoiceType, scope: Scope, hint: Hint, constraints: tuple[ScopedConstraint, ...]) -> Meaning:
+        return self.checked(choice(self, type_, scope, hint), type_, scope, constraints)
+
+    def of_listtype(self, type_: tree.ListType, scope: Scope, hint: Hint, constraints: tuple[ScopedConstraint, ...]) -> Meaning:
+        """SEQUENCE OF and SET OF (X.680, 26 and 28)."""
+        element = self.of_type(type_.element, scope, hint.part("item"))
+        firsts = frozenset((UNIVERSAL_TAGS[type_.form.value],))
+        if element.rust is None:
+            return Meaning(tagged_bytes(*firsts), Level.RAW).containing(replace(element, level=Level.RAW))
+        name = "Vec" if type_.form is tree.Form.SEQUENCE else "Asn1SetOf"
+        term = Term(f"{type_.form.value}-OF", element.rust.term)
+        found = Meaning(Rust(of(name, element.rust.type), Core.LIST, firsts, element.rust, term=term)).containing(element)
+        return self.checked(found, type_, scope, constraints)

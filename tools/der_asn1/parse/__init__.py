@@ -1,0 +1,1 @@
+"""The notation: its lexical items, its grammar, and what is read as data."""
