@@ -15,5 +15,14 @@ The parts, in the order in which a module goes through them:
 | `layout`, `emit_imports`, `emit_struct`, `emit_choice`, `emit_enum`, `emit_crate` | the files of a crate |
 | `report`, `command` | the table, and the command line |
 
+The command `derive` has types of Rust in place of a module, and goes through these:
+
+| Module | What it does |
+|---|---|
+| `rust_tokens`, `rust_items` | the structs and enums of a file, with their notes |
+| `derived_types` | which declaration each of them is |
+| `emit_derived`, `emit_tested`, `emit_faithful` | the file of their implementations, by the modules above too |
+| `derive` | the files of a crate, and the command line |
+
 `test` runs the tests, and `corpus` the report over modules of others.
 """

@@ -5,6 +5,7 @@ from typing import Optional
 
 from .declarations import ChoiceDeclaration, Declaration, EnumDeclaration, Field, Item as Named, NewtypeDeclaration, StructDeclaration, TestedDeclaration
 from .emit_struct import REFERENCES
+from .examples import has_example
 from .library import ONE_BYTE
 from .rust_items import Item, Part, RustFile
 from .rust_tokens import Source
@@ -30,6 +31,12 @@ class Derived:
     notated: bool = False
     exact: bool = False
     faithful: bool = False
+
+    @property
+    def inhabited(self) -> bool:
+        """Whether a readable value is found by the notation, which types with parameters don't say."""
+        generics = self.declaration.generics if isinstance(self.declaration, StructDeclaration) else None
+        return self.exact and not (generics and generics.parameters) and has_example(self.declaration, {})
 
 
 class Notes:
@@ -72,8 +79,6 @@ def _derived(file: RustFile, it: Item, notes: Notes, module: str) -> Derived:
     else:
         declaration = _enumeration(file, it, notes, module)
     exact, faithful = notes.has("exact"), notes.has("faithful")
-    if faithful and not isinstance(declaration, (StructDeclaration, ChoiceDeclaration)):
-        raise file.source.error(it.line, f"`{it.name}` can't have the note `faithful`, which is for structs and choices")
     if (exact or notes.has("notated")) and isinstance(declaration, TestedDeclaration):
         raise file.source.error(it.line, f"`{it.name}` has a test, which no notation has: it can't be `notated` or `exact`")
     return Derived(declaration, exact or notes.has("notated"), exact, faithful)

@@ -8,7 +8,7 @@ from .declarations import ChoiceDeclaration, Declaration, EnumDeclaration, Struc
 from .derived_types import Derived, derived_types, determined
 from .emit_choice import choice_impls, choice_uses, serialize_answers, variants_import
 from .emit_enum import enum_impls, enum_uses, terms_file
-from .emit_faithful import faithful_impl, faithful_uses
+from .emit_faithful import faithful_impl, faithful_uses, inhabited_impl, inhabited_uses
 from .emit_imports import Uses
 from .emit_newtype import newtype_impls, newtype_uses
 from .emit_struct import struct_impls, struct_uses, tuple_names
@@ -30,7 +30,6 @@ _EXACT = frozenset(
 # names of the library that the compiler has no use for, by their modules
 _HOMES = {
     **dict.fromkeys(("Constrained", "deserialize_constrained_as"), "der_types"),
-    **dict.fromkeys(("Faithful", "FaithfulAlternatives", "FaithfulMembers"), "picky_asn1_der::de"),
     "Element": "picky_asn1_der::ser",
 }
 # what a file that uses the library can't have as a name of its own
@@ -136,7 +135,9 @@ def uses_of(it: Derived, place: Place) -> Uses:
     found.names -= unused
     found.terms = {home: names - unused for home, names in found.terms.items() if names - unused}
     if it.faithful:
-        found.add(faithful_uses(declared))
+        found.add(faithful_uses(declared, f"Rattle.{place.crate}.specs.{place.terms}"))
+    if it.inhabited:
+        found.add(inhabited_uses())
     found.add(Uses({declared.name}))
     return found
 
@@ -183,7 +184,7 @@ def is_in(name: str, term: str) -> bool:
 def items_of(it: Derived, place: Place, names: PrivateNames) -> list[str]:
     """The items of a type, but for its definition."""
     declared = it.declaration
-    variants = variants_import(declared, place.home)
+    variants, inner = variants_import(declared, place.home), ""
     if isinstance(declared, StructDeclaration):
         inner = tuple_names(declared, names)[0]
         impls, emitter, given = struct_impls(declared, names), emit_struct, ([inner], [inner])
@@ -201,6 +202,7 @@ def items_of(it: Derived, place: Place, names: PrivateNames) -> list[str]:
         *after_a_line(emitter.notated_impl(declared, *given[0]) if it.notated else []),
         *after_a_line(emitter.exact_impl(declared, *given[1]) if it.exact else []),
         *after_a_line(faithful_impl(declared, inner, place.home) if it.faithful else []),
+        *after_a_line(inhabited_impl(declared.name) if it.inhabited else []),
     ]
 
 

@@ -1,9 +1,9 @@
 """What says that the `==` of a type is sameness of encodings, and that some value of it is readable."""
 from typing import Union
 
-from .declarations import ChoiceDeclaration, StructDeclaration
+from .declarations import ChoiceDeclaration, EnumDeclaration, NewtypeDeclaration, StructDeclaration
 from .emit_choice import equal_alternatives, variants_import
-from .emit_enum import TERMS_FILE, default_proof, default_term
+from .emit_enum import content_words, default_proof, default_term, respects_proof
 from .emit_imports import PRELUDE, Uses
 from .layout import GHOST_WIDTH, STEP
 
@@ -12,54 +12,49 @@ _FAITHFUL = "Rattle.picky_der_de.specs.Faithful"
 _SAMENESS = "Rattle.der_types.specs.Sameness"
 _EXAMPLES = "Rattle.der_types.specs.SampleTrees"
 
-
-def faithful_uses(declared: Union[StructDeclaration, ChoiceDeclaration]) -> Uses:
-    """What the implementation of `Faithful` names."""
-    is_struct = isinstance(declared, StructDeclaration)
-    names = {"Faithful", "FaithfulMembers" if is_struct else "FaithfulAlternatives"}
-    return Uses(names, terms={_FAITHFUL: {"struct_sameness" if is_struct else "choice_sameness"}})
+# what has an implementation of its own: no name of another type
+Own = Union[StructDeclaration, ChoiceDeclaration, EnumDeclaration, NewtypeDeclaration]
 
 
-def faithful_impl(declared: Union[StructDeclaration, ChoiceDeclaration], inner: str, home: str) -> list[str]:
-    """The implementation of `Faithful` over that of the members or the alternatives, which have the type `inner`."""
-    imported = []
+def faithful_uses(declared: Own, terms: str) -> Uses:
+    """What the implementation of `Faithful` names. `terms` is the module of the terms of enumerations."""
     if isinstance(declared, StructDeclaration):
-        words = [f"struct_sameness ⟦<{inner} as FaithfulMembers>⟧.sameness", "⟦<Self as Struct>⟧.parts"]
-        line = f"{STEP}ghost sameness = {{ {' '.join(words)} }};"
-        lines = [line] if len(line) <= GHOST_WIDTH else [f"{STEP}ghost sameness = {{ {words[0]}", f"{_TWO}{words[1]} }};"]
-    else:
-        imported = variants_import(declared, home)
-        sameness = f"choice_sameness ⟦<{inner} as FaithfulAlternatives>⟧.sameness ⟦<Self as Choice>⟧.parts ⟦<Self as PartialEq>⟧.eq"
-        lines = [f"{STEP}ghost sameness = {{ {sameness}", f"{_TWO}({equal_alternatives(declared)}) }};"]
-    if isinstance(declared, StructDeclaration):
-        return faithful(declared.shown, imported, lines, declared.generics.declared("Faithful"))
-    return faithful(declared.name, imported, lines)
-
-
-def faithful(name: str, imported: list[str], sameness: list[str], generics: str = "") -> list[str]:
-    """An implementation of `Faithful`, for all types of these generics, with these lines of what is owed."""
-    return [f"impl{generics} Faithful for {name} {{", *imported, *sameness, "", f"{STEP}ghost respects = {{ Prim.assumption }};", "}"]
-
-
-def faithful_part_uses() -> Uses:
-    """What the implementation of `Faithful` of a struct round another type names."""
+        return Uses({"Faithful", "FaithfulMembers"}, terms={_FAITHFUL: {"struct_sameness"}})
+    if isinstance(declared, ChoiceDeclaration):
+        return Uses({"Faithful", "FaithfulAlternatives"}, terms={_FAITHFUL: {"choice_sameness"}})
+    if isinstance(declared, EnumDeclaration):
+        return Uses({"Faithful"}, terms={_SAMENESS: {"content_sameness"}, terms: {respects_proof(declared)}})
     return Uses({"Faithful"}, terms={_SAMENESS: {"newtype_sameness"}})
 
 
-def faithful_part_impl(name: str, inner: str) -> list[str]:
-    """The implementation of `Faithful` for a struct round the type `inner`."""
-    facts = " ".join(f"⟦<{inner} as {trait}>⟧.{it}" for trait, it in (("Faithful", "sameness"), ("PartialEq", "eq"), ("Serialize", "meaning")))
-    return faithful(name, [], [f"{STEP}ghost sameness = {{ newtype_sameness {facts}", f"{_TWO}(λ it. it.0) }};"])
+def faithful_impl(declared: Own, inner: str, home: str) -> list[str]:
+    """The implementation of `Faithful`. The members of a struct, or the alternatives of a choice, have the type `inner`.
+
+    `home` is the module of terms of the types of the file.
+    """
+    if isinstance(declared, StructDeclaration):
+        words = [f"struct_sameness ⟦<{inner} as FaithfulMembers>⟧.sameness", "⟦<Self as Struct>⟧.parts"]
+        return faithful(declared.shown, sameness_lines(words), declared.generics.declared("Faithful"))
+    if isinstance(declared, ChoiceDeclaration):
+        sameness = f"choice_sameness ⟦<{inner} as FaithfulAlternatives>⟧.sameness ⟦<Self as Choice>⟧.parts ⟦<Self as PartialEq>⟧.eq"
+        lines = [f"{STEP}ghost sameness = {{ {sameness}", f"{_TWO}({equal_alternatives(declared)}) }};"]
+        return faithful(declared.name, [*variants_import(declared, home), *lines])
+    if isinstance(declared, EnumDeclaration):
+        words = [f"content_sameness {content_words(declared)}", "⟦<Self as PartialEq>⟧.eq", respects_proof(declared)]
+        return faithful(declared.name, sameness_lines(words))
+    facts = [f"⟦<{declared.type} as {trait}>⟧.{it}" for trait, it in (("Faithful", "sameness"), ("PartialEq", "eq"), ("Serialize", "meaning"))]
+    return faithful(declared.name, sameness_lines([f"newtype_sameness {' '.join(facts)}", f"(λ it. it.{declared.part})"]))
 
 
-def faithful_content_uses(crate: str, respects: str) -> Uses:
-    """What the implementation of `Faithful` of an enumeration names, whose proof is in the terms of the crate."""
-    return Uses({"Faithful"}, terms={_SAMENESS: {"content_sameness"}, f"Rattle.{crate}.specs.{TERMS_FILE}": {respects}})
+def sameness_lines(words: list[str]) -> list[str]:
+    """What is owed, on one line if that fits, or with the first words alone on their line."""
+    line = f"{STEP}ghost sameness = {{ {' '.join(words)} }};"
+    return [line] if len(line) <= GHOST_WIDTH else [f"{STEP}ghost sameness = {{ {words[0]}", f"{_TWO}{' '.join(words[1:])} }};"]
 
 
-def faithful_content_impl(name: str, content: str, respects: str) -> list[str]:
-    """The implementation of `Faithful` for a type whose equal values have one content, by a tag with a term of the content, and a proof."""
-    return faithful(name, [], [f"{STEP}ghost sameness = {{ content_sameness {content} ⟦<Self as PartialEq>⟧.eq {respects} }};"])
+def faithful(name: str, sameness: list[str], generics: str = "") -> list[str]:
+    """An implementation of `Faithful`, for all types of these generics, with these lines of what is owed."""
+    return [f"impl{generics} Faithful for {name} {{", *sameness, "", f"{STEP}ghost respects = {{ Prim.assumption }};", "}"]
 
 
 def faithful_default_uses() -> Uses:

@@ -4,19 +4,8 @@ from dataclasses import dataclass, field
 from .declarations import AliasDeclaration, ChoiceDeclaration, Declaration, EnumDeclaration, NewtypeDeclaration, StructDeclaration
 from .emit_choice import choice_lines, choice_uses
 from .emit_comments import difference_note, sentence
-from .emit_enum import content_words, enum_lines, enum_uses, respects_proof
-from .emit_faithful import (
-    faithful_content_impl,
-    faithful_content_uses,
-    faithful_default_impl,
-    faithful_default_uses,
-    faithful_impl,
-    faithful_part_impl,
-    faithful_part_uses,
-    faithful_uses,
-    inhabited_impl,
-    inhabited_uses,
-)
+from .emit_enum import TERMS_FILE, enum_lines, enum_uses
+from .emit_faithful import faithful_default_impl, faithful_default_uses, faithful_impl, faithful_uses, inhabited_impl, inhabited_uses
 from .emit_imports import Uses
 from .emit_newtype import newtype_lines, newtype_uses
 from .emit_struct import struct_lines, struct_uses
@@ -103,16 +92,11 @@ def promises(declared: Declaration, stem: str, context: Context) -> list[tuple[U
     """What says that a type's `==` is sameness of encodings, and that a value of it is readable. A name of another type has what that has."""
     if isinstance(declared, AliasDeclaration) and not isinstance(declared, NewtypeDeclaration):
         return []
-    found = []
-    if isinstance(declared, (StructDeclaration, ChoiceDeclaration)):
-        parts = context.names.of(declared, "Parts")
-        found.append((faithful_uses(declared), faithful_impl(declared, parts, home_of_terms(stem, context))))
-    elif isinstance(declared, EnumDeclaration):
-        respects = respects_proof(declared)
-        found.append((faithful_content_uses(context.crate, respects), faithful_content_impl(declared.name, content_words(declared), respects)))
+    inner = context.names.of(declared, "Parts") if isinstance(declared, (StructDeclaration, ChoiceDeclaration)) else ""
+    terms = f"Rattle.{context.crate}.specs.{TERMS_FILE}"
+    found = [(faithful_uses(declared, terms), faithful_impl(declared, inner, home_of_terms(stem, context)))]
+    if isinstance(declared, EnumDeclaration):
         found += [(faithful_default_uses(), faithful_default_impl(it, declared.name)) for it in declared.defaults]
-    else:
-        found.append((faithful_part_uses(), faithful_part_impl(declared.name, str(declared.type))))
     return [*found, *([(inhabited_uses(), inhabited_impl(declared.name))] if has_example(declared, context.types) else [])]
 
 

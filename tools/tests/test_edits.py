@@ -155,6 +155,13 @@ class Files(unittest.TestCase):
         self.put("wrong-bodies/src-times.bodies", "# time\n\n## now.is_0\nold: 1\nnew: 2\n")
         self.assertEqual([("time.now.is_0", "")], self.found())
 
+    def test_what_is_derived_for_a_module(self) -> None:
+        self.put("wrong-bodies/src.bodies", "# point-derived\n\n## from_parts.is_0\nold: 1\nnew: 2\n")
+        self.put("wrong-bodies/impls.bodies", "# impls-numbers-derived\n\n## from_parts.is_0\nold: 1\nnew: 2\n")
+        found = edits.edits_of(self.folder, "wrong-bodies")
+        self.assertEqual(["", ""], [it.problem for it in found])
+        self.assertEqual(["src/impls/numbers/derived.rt", "src/point/derived.rt"], [it.pairs[0][0] for it in found])
+
     def test_the_file_of_another_folder(self) -> None:
         self.put("wrong-bodies/src.bodies", "# impls-numbers\n\n## up.stays\nold: 1\nnew: 2\n")
         problem = "the bodies of this module belong in impls.bodies, and not in src.bodies"

@@ -1,5 +1,9 @@
 //! A struct with an option of a list.
+ghost use Rattle.std.specs.Prelude.{None};
+
 mod derived;
+
+use picky_asn1_der::Inhabited;
 
 /// A gust of wind, as a SEQUENCE of an INTEGER and a SEQUENCE of texts.
 // asn1: faithful
@@ -9,4 +13,8 @@ pub struct Gust {
     pub speed: u8,
     /// Notes about it, if there are any.
     pub notes: Option<Vec<String>>,
+}
+
+impl Inhabited for Gust {
+    ghost example = { (record { speed = 0; notes = None }, (tt, (tt, tt))) };
 }

@@ -288,7 +288,8 @@ impl ExactContents for KeyVersion {
 }
 
 impl Faithful for KeyVersion {
-    ghost sameness = { content_sameness 0x02 (λ it. key_version_number it ∷ []) ⟦<Self as PartialEq>⟧.eq key_version_respects };
+    ghost sameness = { content_sameness 0x02 (λ it. key_version_number it ∷ [])
+        ⟦<Self as PartialEq>⟧.eq key_version_respects };
 
     ghost respects = { Prim.assumption };
 }

@@ -401,7 +401,8 @@ impl ExactContents for DigestedObjectType {
 }
 
 impl Faithful for DigestedObjectType {
-    ghost sameness = { content_sameness 0x0A (λ it. digested_object_type_number it ∷ []) ⟦<Self as PartialEq>⟧.eq digested_object_type_respects };
+    ghost sameness = { content_sameness 0x0A (λ it. digested_object_type_number it ∷ [])
+        ⟦<Self as PartialEq>⟧.eq digested_object_type_respects };
 
     ghost respects = { Prim.assumption };
 }

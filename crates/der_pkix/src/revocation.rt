@@ -590,7 +590,8 @@ impl ExactContents for CrlReason {
 }
 
 impl Faithful for CrlReason {
-    ghost sameness = { content_sameness 0x0A (λ it. crl_reason_number it ∷ []) ⟦<Self as PartialEq>⟧.eq crl_reason_respects };
+    ghost sameness = { content_sameness 0x0A (λ it. crl_reason_number it ∷ [])
+        ⟦<Self as PartialEq>⟧.eq crl_reason_respects };
 
     ghost respects = { Prim.assumption };
 }

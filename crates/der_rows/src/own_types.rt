@@ -9,8 +9,8 @@ use crate::seen::Seen;
 use der_examples::{
     AgeGroups, Change, Contact, EmailText, EncryptedData, EvenNumber, GeneralName, Gust, Host,
     Interval, Marker, Moment, Named, Noted, NumberOrFlag, Parcel, Place, Point, PrincipalName,
-    PrivateKeyInfo, Report, RiverLevels, RsaPublicKey, SerialNumber, Setting, Stay, Tagged, Ticket,
-    Track,
+    PrivateKeyInfo, Report, RiverLevels, RsaPublicKey, SerialNumber, Setting, Stay, Tagged,
+    Temperature, Ticket, Track,
 };
 use der_tool_lib::{AlgorithmIdentifier, SubjectPublicKeyInfo, TestStruct};
 use der_x509::{CertificateList, Extension, TbsCertificate, Version};
@@ -78,6 +78,7 @@ fn later_example(alloc: Global, name: &str, row: &RowBytes) -> Result<String, Al
         "EvenNumber" => read_as::<EvenNumber>(alloc, row),
         "RiverLevels" => read_as::<RiverLevels>(alloc, row),
         "SerialNumber" => read_as::<SerialNumber>(alloc, row),
+        "Temperature" => read_as::<Temperature>(alloc, row),
         _ => generic_example(alloc, name, row),
     }
 }

@@ -14,3 +14,4 @@ pub mod Padding
 pub mod Showing
 pub mod WrittenLemmas
 pub mod NotationLemmas
+pub mod ShowingLemmas

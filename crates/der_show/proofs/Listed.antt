@@ -68,7 +68,7 @@ module _ (bytes : List ℕ) (at end depth : ℕ) (order : at ≤ end) (within : 
   own : slice_range bytes at after_at ≡ (tag ∷ length_octets (length content)) ++ content
   own = ap (slice_range bytes at) (sym ends_at) ∙ range_front bytes at end within (tlv tag content) rest is order ∙ header_and_content tag content
 
-  inside : slice_range bytes inside_at after_at ≡ content
+  pub inside : slice_range bytes inside_at after_at ≡ content
   inside =
       let to : at ≤ after_at = omega arith in
       let size : at + length (tag ∷ length_octets (length content)) ≡ inside_at = omega arith in

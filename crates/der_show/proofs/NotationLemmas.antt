@@ -1,26 +1,25 @@
 -- What types whose contents are checked denote.
 use Rattle.std.proofs.Common.{◌≡◌, ℕ, ◌≤◌, ◌==◌, Bool, true, false, not, ◌&&◌, ◌||◌, List, [], ◌∷◌, None, inl, inr, refl, sym, ap, subst, ◌∙◌, arith, eqb-true, leb-true, lt-ltb, pos, true≢false, ◌≢◌}
-use Rattle.std.specs.Prelude.{nat_le, nat_lt, ◌%◌, ◌^◌, length, slice_index, if◌then◌else◌}
+use Rattle.std.specs.Prelude.{nat_lt, ◌%◌, ◌^◌, length, slice_index, if◌then◌else◌}
 use Rattle.std.specs.List.{AllByRecursion}
 use Rattle.std.proofs.lemmas.Bool.{and_parts}
 use Rattle.picky_der_core.specs.declared.asn1.wrapper.Wrapper.{Wrapper}
 use Rattle.picky_der_core.specs.declared.asn1.wrapper.Wrapper.TheVariants.{OctetContainer, BitContainer, Explicit, Implicit, Application, ImplicitList}
 use Rattle.picky_der_core.specs.Tag.{is_constructed}
-use Rattle.picky_der_core.specs.Integer.{is_integer, integer_content, integer_tree}
+use Rattle.picky_der_core.specs.Integer.{integer_content}
 use Rattle.picky_der_core.specs.IntegerLaws.{is_integer-content}
-use Rattle.picky_der_core.specs.Primitive.{Primitive}
-use Rattle.picky_der_core.specs.Tree.{ListKind, Tree, Trees}
+use Rattle.picky_der_core.specs.Tree.{Tree, Trees}
 use Rattle.picky_der_core.specs.Shape.{EachIs, FirstAndRest, FirstOrNone, IsEmpty, contains}
 use Rattle.der_types.specs.CharacterStrings.{is_string_content}
 use Rattle.der_types.specs.ContentTypes.{ContentType, tag_of, test_of, string_width, string_character}
 use Rattle.der_types.specs.BitString.{is_bit_string, is_named_bits, is_bit_set}
 use Rattle.der_types.specs.TimeContents.{year_at_first, are_whole_seconds, is_ended, is_generalized_time, is_later_time}
-use Rattle.der_types.specs.Denotes.{content_tree, HasContent, Denotes, DenoteFirst, DenoteMembers, DenoteOneOf}
+use Rattle.der_types.specs.Denotes.{Denotes, DenoteMembers, DenoteOneOf}
 use Rattle.der_types.specs.Notation.{Notation, Member, Members, Alternatives}
 use Rattle.der_types.specs.PrimitiveForm.{primitive_form}
 use Rattle.der_show.specs.Contents.{form_rule, primitive_rule}
 use Rattle.der_show.specs.Written.{IsElementInDer, IsCheckedInside, IsChecked, AreChecked}
-use Rattle.der_show.specs.CheckedNotations.{string_tags, is_free_tag, is_content_tag, has_elements, is_checked_in, is_checked, is_member_checked, are_members_checked, are_alternatives_checked, DenotesChecked}
+use Rattle.der_show.specs.CheckedNotations.{string_tags, is_free_tag, is_content_tag, has_elements, is_checked_in, is_checked, are_members_checked, are_alternatives_checked, DenotesChecked}
 use Rattle.der_show.proofs.WrittenLemmas.{other_form, other_rule, number_rule}
 
 -- ---- contents under a tag
@@ -78,7 +77,11 @@ each_tag P tag (x ∷ xs) all e = by_first (tag == x) refl e (each_tag P tag xs 
     by_first false same h others = others h
 
 strings : (tag : ℕ) → contains string_tags tag ≡ true → IsString tag
-strings tag = each_tag IsString tag string_tags ((plain 0x12 refl (λ s. refl) (omega arith) refl, (plain 0x13 refl (λ s. refl) (omega arith) refl, (plain 0x14 refl (λ s. refl) (omega arith) refl, (plain 0x15 refl (λ s. refl) (omega arith) refl, (plain 0x16 refl (λ s. refl) (omega arith) refl, (plain 0x19 refl (λ s. refl) (omega arith) refl, (plain 0x1A refl (λ s. refl) (omega arith) refl, (plain 0x1B refl (λ s. refl) (omega arith) refl, (tested 0x1C refl (λ s e. rw e refl) (omega arith) refl, (tested 0x1E refl (λ s e. rw e refl) (omega arith) refl, tt)))))))))))
+strings tag =
+    let tests : AllByRecursion IsString (0x1C ∷ 0x1E ∷ []) = (tested 0x1C refl (λ s e. rw e refl) (omega arith) refl, (tested 0x1E refl (λ s e. rw e refl) (omega arith) refl, tt)) in
+    let none : AllByRecursion IsString (0x19 ∷ 0x1A ∷ 0x1B ∷ 0x1C ∷ 0x1E ∷ []) = (plain 0x19 refl (λ s. refl) (omega arith) refl, (plain 0x1A refl (λ s. refl) (omega arith) refl, (plain 0x1B refl (λ s. refl) (omega arith) refl, tests))) in
+    each_tag IsString tag string_tags
+    (plain 0x12 refl (λ s. refl) (omega arith) refl, (plain 0x13 refl (λ s. refl) (omega arith) refl, (plain 0x14 refl (λ s. refl) (omega arith) refl, (plain 0x15 refl (λ s. refl) (omega arith) refl, (plain 0x16 refl (λ s. refl) (omega arith) refl, none)))))
   where
     tested : (x : ℕ) → form_rule x ≡ None → ((s : List ℕ) → is_string_content (string_width x) (string_character x) s ≡ true → primitive_rule x s ≡ None) → x ≤ 0x30 → is_constructed x ≡ false → IsString x
     tested x form rule small bit s e = record {

@@ -5,9 +5,9 @@ pub mod Nodes
 pub mod Ends
 pub mod Outlines
 pub mod Openings
+pub mod Entries
 pub mod Written
 pub mod CheckedNotations
-pub mod Entries
 pub mod Walks
 pub mod Steps
 pub mod Lines

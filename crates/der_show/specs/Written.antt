@@ -1,5 +1,6 @@
 -- What is written is in DER, whatever the types of the elements.
-use Rattle.std.specs.Prelude.{◌≡◌, ℕ, true, List, None, ⊤}
+use Rattle.std.specs.Prelude.{◌≡◌, ℕ, ◌^◌, ◌<◌, true, false, List, length, None, ⊤}
+use Rattle.std.specs.List.{list_all}
 use Rattle.picky_der_core.specs.declared.asn1.wrapper.Wrapper.{Wrapper}
 use Rattle.picky_der_core.specs.declared.asn1.wrapper.Wrapper.TheVariants.{OctetContainer, BitContainer, Explicit, Implicit, Application, ImplicitList}
 use Rattle.picky_der_core.specs.Tag.{is_constructed}
@@ -7,11 +8,14 @@ use Rattle.picky_der_core.specs.Primitive.{Primitive, primitive_content}
 use Rattle.picky_der_core.specs.Tree.{Tree, Trees}
 use Rattle.picky_der_core.specs.Encoding.{der, implicit_content}
 use Rattle.picky_der_core.specs.Readable.{IsReadable}
+use Rattle.der_show.specs.declared.entry.Entry.{Entry}
+use Rattle.der_show.specs.declared.options.ShowOptions.{ShowOptions}
 use Rattle.der_show.specs.declared.outline.Outline.{Outline}
 use Rattle.der_show.specs.Contents.{form_rule, IsContent}
 use Rattle.der_show.specs.Members.{IsSetContent}
 use Rattle.der_show.specs.Outlines.{AreElements, IsOutline}
 use Rattle.der_show.specs.Openings.{IsOneInDer}
+use Rattle.der_show.specs.Entries.{IsListing, is_element}
 
 -- an element with this tag and this content is in DER, if its number is that of a tag
 pub record IsElementInDer (tag : ℕ) (content : List ℕ) : Type 0 where
@@ -59,3 +63,9 @@ WrittenInDer = (t : Tree) → IsReadable t → IsChecked t → IsOneInDer (der t
 -- no rule is broken by what is written
 abbrev pub NeverRefused : Type 0
 NeverRefused = (t : Tree) → IsReadable t → IsChecked t → (o : Outline) → IsOutline (der t) o → o.complaint ≡ None
+
+-- nor does a listing of it have one, whatever strings it opens, if it begins with the first byte
+abbrev pub NeverComplains : Type 0
+NeverComplains =
+    (t : Tree) → IsReadable t → IsChecked t → length (der t) < 2 ^ 64 → (o : ShowOptions) → o.start ≡ 0 → o.keeps_going ≡ false → (es : List Entry)
+    → IsListing o (der t) es → list_all is_element es ≡ true

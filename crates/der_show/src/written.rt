@@ -6,7 +6,7 @@ ghost use Rattle.der_show.specs.declared.outline.Outline.{Outline};
 ghost use Rattle.der_show.specs.CheckedNotations.{is_checked, DenotesChecked};
 ghost use Rattle.der_show.specs.Openings.{IsOneInDer};
 ghost use Rattle.der_show.specs.Outlines.{IsOutline};
-ghost use Rattle.der_show.specs.Written.{WrittenInDer, NeverRefused};
+ghost use Rattle.der_show.specs.Written.{WrittenInDer, NeverRefused, NeverComplains};
 
 use der_types::Exact;
 
@@ -23,6 +23,12 @@ pub fn in_der()
 #[tactic(auto, using(crate::proofs::WrittenLemmas::never_refused))]
 pub fn never_refused()
     ensures { NeverRefused }
+{}
+
+/// Nor does `show` list a broken rule, whatever strings it opens, if it lists from the first byte on and ends at the first broken rule.
+#[tactic(auto, using(crate::proofs::ShowingLemmas::never_complains))]
+pub fn never_complains()
+    ensures { NeverComplains }
 {}
 
 /// Each value of a type of ASN.1 is such a value, if the type passes a test that computes: no part of it is any

@@ -288,7 +288,8 @@ impl ExactContents for OcspResponseStatus {
 }
 
 impl Faithful for OcspResponseStatus {
-    ghost sameness = { content_sameness 0x0A (λ it. ocsp_response_status_number it ∷ []) ⟦<Self as PartialEq>⟧.eq ocsp_response_status_respects };
+    ghost sameness = { content_sameness 0x0A (λ it. ocsp_response_status_number it ∷ [])
+        ⟦<Self as PartialEq>⟧.eq ocsp_response_status_respects };
 
     ghost respects = { Prim.assumption };
 }

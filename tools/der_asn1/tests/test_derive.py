@@ -170,6 +170,12 @@ class Writing(unittest.TestCase):
 
     def test_faithful(self):
         self.assertIn("struct_sameness ⟦<Members as FaithfulMembers>⟧.sameness", derived(struct_of("a: u8,", note="faithful")))
+        self.assertIn("content_sameness 0x0A (λ it. a_number it ∷ [])", derived(enum_of("A,", derives="Copy, Clone, PartialEq", note="faithful")))
+
+    def test_a_readable_value(self):
+        self.assertIn("impl Inhabited for A {", derived(struct_of("a: u8,", note="exact")))
+        self.assertNotIn("Inhabited", derived(struct_of("a: InRange<u8, 200, 210>,", note="exact")))
+        self.assertNotIn("Inhabited", derived(struct_of("a: u8,", note="faithful")))
 
     def test_a_choice(self):
         found = files(enum_of("A(u8),", "B(bool),"))
@@ -248,7 +254,6 @@ class Refusing(unittest.TestCase):
             enum_of("A(T),").replace("enum A", "enum A<T>"): "the first bytes of its alternatives aren't known",
             enum_of("A = 128,", derives="Copy, Clone, PartialEq"): "`A` is 128: each variant has another number from 0 to 127",
             enum_of("A = 1,", "B = 1,", derives="Copy, Clone, PartialEq"): "`B` is 1",
-            enum_of("A,", derives="Copy, Clone, PartialEq", note="faithful"): "which is for structs and choices",
             f"mod derived;\n{EVEN}".replace("test is_even", "test is_even, exact"): "which no notation has",
             "mod derived;\n#[derive(Drop, PartialEq)]\nstruct A(u8, u8);\n": "give its fields names",
             f"mod derived;\n{EVEN}".replace("fn is_even", "fn is_odd"): "the file has no function `is_even` of a `u32`",

@@ -8,12 +8,13 @@ ghost use Rattle.der_types.specs.ContentsFacts.{contents_facts, contents_of, con
 ghost use Rattle.der_types.specs.Notation.{Notation};
 ghost use Rattle.der_types.specs.ExactContents.{own_contents};
 ghost use Rattle.der_types.specs.ExactEnumerated.{enumerated_values};
+ghost use Rattle.der_types.specs.SampleTrees.{exact_example};
 ghost use Rattle.der_examples.specs.ResponseStatus.{is_response_status, response_status_number, same_response_status};
 
 use super::ResponseStatus;
 use der_types::{Contents, Exact, ExactContents, Notated, deserialize_contents_as};
 use picky_asn1_der::asn1::Tag;
-use picky_asn1_der::de::Begins;
+use picky_asn1_der::de::{Begins, Inhabited};
 use picky_asn1_der::misc::{ReadExt, WriteExt};
 use picky_asn1_der::{Deserialize, Deserializer, Result, Serialize, Serializer};
 
@@ -154,4 +155,8 @@ impl ExactContents for ResponseStatus {
     ghost own_contents = { own_contents 0x0A (λ it. response_status_number it ∷ []) (lit≤ tt) };
 
     ghost exact_contents = { Prim.assumption };
+}
+
+impl Inhabited for ResponseStatus {
+    ghost example = { exact_example ⟦<Self as Exact>⟧.values ⟦<Self as Notated>⟧.notation ⟦<Self as Serialize>⟧.meaning refl Prim.assumption };
 }

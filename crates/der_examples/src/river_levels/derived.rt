@@ -6,11 +6,12 @@ ghost use Rattle.picky_der_de.specs.Faithful.{struct_sameness};
 ghost use Rattle.picky_der_de.specs.MembersFacts.{sequence_of, sequence_shape, struct_facts};
 ghost use Rattle.der_types.specs.Notation.{Notation};
 ghost use Rattle.der_types.specs.ExactMembers.{struct_values};
+ghost use Rattle.der_types.specs.SampleTrees.{exact_example};
 
 use super::RiverLevels;
 use der_types::{Exact, ExactMembers, Notated, NotatedMembers};
 use picky_asn1_der::asn1::Tag;
-use picky_asn1_der::de::{Begins, Faithful, FaithfulMembers};
+use picky_asn1_der::de::{Begins, Faithful, FaithfulMembers, Inhabited};
 use picky_asn1_der::misc::{ReadExt, WriteExt};
 use picky_asn1_der::ser::Sequence;
 use picky_asn1_der::{
@@ -216,4 +217,8 @@ impl Faithful for RiverLevels {
     ghost sameness = { struct_sameness ⟦<Members as FaithfulMembers>⟧.sameness ⟦<Self as Struct>⟧.parts };
 
     ghost respects = { Prim.assumption };
+}
+
+impl Inhabited for RiverLevels {
+    ghost example = { exact_example ⟦<Self as Exact>⟧.values ⟦<Self as Notated>⟧.notation ⟦<Self as Serialize>⟧.meaning refl Prim.assumption };
 }

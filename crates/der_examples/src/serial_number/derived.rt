@@ -4,11 +4,12 @@
 ghost use Rattle.std.specs.Prelude.{refl};
 ghost use Rattle.picky_der_de.specs.Facts.{facts_as};
 ghost use Rattle.der_types.specs.Exact.{newtype_values};
+ghost use Rattle.der_types.specs.SampleTrees.{exact_example};
 
 use super::SerialNumber;
 use der_types::{Exact, Integer, Notated};
 use picky_asn1_der::asn1::Tag;
-use picky_asn1_der::de::Begins;
+use picky_asn1_der::de::{Begins, Inhabited};
 use picky_asn1_der::misc::{ReadExt, WriteExt};
 use picky_asn1_der::{
     Deserialize, Deserializer, Result, Serialize, Serializer, Via, deserialize_as,
@@ -61,4 +62,8 @@ impl Exact for SerialNumber {
         (λ it. it.0) (λ x. (record { 0 = x }, refl)) };
 
     ghost exact = { Prim.assumption };
+}
+
+impl Inhabited for SerialNumber {
+    ghost example = { exact_example ⟦<Self as Exact>⟧.values ⟦<Self as Notated>⟧.notation ⟦<Self as Serialize>⟧.meaning refl Prim.assumption };
 }

@@ -7,12 +7,13 @@ ghost use Rattle.picky_der_de.specs.declared.alternatives.OneOf.TheVariants.{Oth
 ghost use Rattle.picky_der_de.specs.ChoiceFacts.{choice_facts};
 ghost use Rattle.der_types.specs.Notation.{Notation};
 ghost use Rattle.der_types.specs.ExactChoices.{choice_values};
+ghost use Rattle.der_types.specs.SampleTrees.{exact_example};
 
 use super::Setting;
 use der_types::{Exact, ExactAlternatives, Notated, NotatedAlternatives};
 use picky_asn1_der::OneOf::{Other, This};
 use picky_asn1_der::asn1::Tag;
-use picky_asn1_der::de::{Begins, deserialize_choice_as};
+use picky_asn1_der::de::{Begins, Inhabited, deserialize_choice_as};
 use picky_asn1_der::misc::{ReadExt, WriteExt};
 use picky_asn1_der::{
     Alternatives, Choice, Deserialize, Deserializer, NoneOf, OneOf, Result, Serialize, Serializer,
@@ -92,4 +93,8 @@ impl Exact for Setting {
         ]) };
 
     ghost exact = { Prim.assumption };
+}
+
+impl Inhabited for Setting {
+    ghost example = { exact_example ⟦<Self as Exact>⟧.values ⟦<Self as Notated>⟧.notation ⟦<Self as Serialize>⟧.meaning refl Prim.assumption };
 }

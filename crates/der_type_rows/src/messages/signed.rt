@@ -8,7 +8,7 @@ use der_pkix::{
     AttributeCertificate, AttributeCertificateInfo, CertificationRequest, CertificationRequestInfo,
 };
 use der_status::{BasicOcspResponse, ResponseData};
-use der_x509::{Certificate, CertificateList, TbsCertList, TbsCertificate};
+use der_x509::{Certificate, CertificateList};
 use picky_asn1_der::{Asn1DerError, Signed, from_der_signed, part_range};
 use picky_der_core::Result as DerResult;
 use picky_der_de::{DecodeError, from_der};
@@ -24,28 +24,22 @@ pub(crate) fn part_of(alloc: Global, name: &str, bytes: &[u8]) -> Result<String,
         "der_pkix::AttributeCertificate" => bytes_of(alloc, bytes, read_attributes(alloc, bytes)),
         "der_pkix::CertificationRequest" => bytes_of(alloc, bytes, read_request(alloc, bytes)),
         "der_status::BasicOcspResponse" => bytes_of(alloc, bytes, read_response(alloc, bytes)),
-        "der_x509::Certificate" => bytes_of(alloc, bytes, read_certificate(alloc, bytes)),
-        "der_x509::CertificateList" => bytes_of(alloc, bytes, read_list(alloc, bytes)),
+        "der_x509::Certificate" => bytes_of(
+            alloc,
+            bytes,
+            Certificate::from_der_signed(alloc, bytes),
+        ),
+        "der_x509::CertificateList" => bytes_of(
+            alloc,
+            bytes,
+            CertificateList::from_der_signed(alloc, bytes),
+        ),
         _ => return String::from_str(alloc, "no type"),
     };
     match signed {
         Ok(bytes) => text_of(alloc, &bytes),
         Err(error) => format!(in alloc; "refused {error}"),
     }
-}
-
-fn read_certificate(alloc: Global, bytes: &[u8]) -> Result<Signed<Certificate>, DecodeError>
-    ensures { IfOk result (λ it. slice_range bytes.now it.part.start it.part.end
-        ≡ der (⟦<TbsCertificate as Serialize>⟧.meaning it.value.tbs_certificate)) }
-{
-    from_der_signed(alloc, bytes)
-}
-
-fn read_list(alloc: Global, bytes: &[u8]) -> Result<Signed<CertificateList>, DecodeError>
-    ensures { IfOk result (λ it. slice_range bytes.now it.part.start it.part.end
-        ≡ der (⟦<TbsCertList as Serialize>⟧.meaning it.value.tbs_cert_list)) }
-{
-    from_der_signed(alloc, bytes)
 }
 
 fn read_attributes(alloc: Global, bytes: &[u8]) -> Result<Signed<AttributeCertificate>, DecodeError>

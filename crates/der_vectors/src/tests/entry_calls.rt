@@ -1,7 +1,7 @@
 //! What the entry calls return one after another, and what they leave in a slice and in a reader or writer.
 
 use crate::tests::checks::bytes;
-use der_examples::{NumberOrFlag, Point};
+use der_examples::{Gust, NumberOrFlag};
 use der_fixtures::{SlowReader, SlowWriter};
 use der_types::ObjectIdentifier;
 use der_x509::AttributeTypeAndValue;
@@ -44,12 +44,11 @@ fn common_name(rt: &(impl Abort + AllocGlobal), element: &str) -> AttributeTypeA
 #[test]
 fn a_struct_or_a_choice_reads_back_or_does_not(rt: HostRuntime) {
     let alloc = rt.alloc();
-    let point = Point {
-        x: 1,
-        y: 2,
-        hidden: true,
+    let gust = Gust {
+        speed: 7,
+        notes: None,
     };
-    same!(rt; reads_back(alloc, &point), Ok(true));
+    same!(rt; reads_back(alloc, &gust), Ok(true));
     same!(rt; reads_back(alloc, &NumberOrFlag::Number(5)), Ok(true));
     same!(rt; reads_back(alloc, &common_name(&rt, "0C 01 41")), Ok(true));
     same!(rt; reads_back(alloc, &common_name(&rt, "0C 02 41")), Ok(false));
