@@ -38,4 +38,4 @@ returns c =
     let same : head ++ content ≡ tlv tag content = ap (λ (m : ℕ). (tag ∷ length_octets m) ++ content) (sym lc) in
     let e = length_tlv tag content in
     let octets : length (length_octets (length content)) ≡ length (length_octets n) = ap (λ (m : ℕ). length (length_octets m)) lc in
-    IsWrapped.wrapped (omega (arith, c.if-end-out.false)) order (omega (arith, e, octets, lc, end, c.encoded_len-size.ensures, order)) (c.if-not-is_in_order.ensures tt) (whole ∙ ap (put_over old start) same) refl
+    IsWrapped.wrapped (omega (arith, c.if-end-out.false)) order (omega (arith, e, octets, lc, end, c.encoded_len-size.ensures, order)) c.if-not-is_in_order.ensures (whole ∙ ap (put_over old start) same) refl
