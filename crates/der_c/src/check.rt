@@ -1,5 +1,5 @@
 //! Bytes that are exactly one message.
-ghost use Rattle.der_c.specs.Verdict.{IsVerdict};
+ghost use Rattle.der_c.specs.Verdict.{IsFinding, IsVerdict};
 
 use crate::code::{PICKY_DER_NO_MEMORY, PICKY_DER_OK, error_code, rule_code};
 use der_read::{Described, MessageType, refusal_of};
@@ -10,6 +10,13 @@ use std::alloc::Global;
 // where this was found.
 pub(crate) fn check(alloc: Global, named: MessageType, bytes: &[u8], position: &mut usize) -> u32
     ensures { IsVerdict (⟦<MessageType as Described>⟧.description named) bytes.now result position.new }
+{
+    find(alloc, named, bytes, position)
+}
+
+// The same, as what was found.
+fn find(alloc: Global, named: MessageType, bytes: &[u8], position: &mut usize) -> u32
+    ensures { IsFinding (⟦<MessageType as Described>⟧.description named) bytes.now result position.new }
 {
     *position = 0;
     let Ok(refusal) = refusal_of(alloc, named, bytes) else {

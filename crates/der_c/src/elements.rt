@@ -32,8 +32,9 @@ pub extern "C" fn picky_der_elements(
     let Ok(listed) = elements_in_c(alloc, &outline.elements) else {
         return PICKY_DER_NO_MEMORY;
     };
-    *count = listed.len();
+    let number = listed.len();
     fill(elements, &listed);
+    *count = number;
     match outline.complaint {
         None => {
             *position = bytes.len();
