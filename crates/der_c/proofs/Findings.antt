@@ -48,9 +48,16 @@ rule_above rule.UtcTime = omega arith
 rule_above rule.GeneralizedTime = omega arith
 rule_above rule.SetOrder = omega arith
 
-pub verdict : (d : Description) (bytes : List ℕ) (code position : ℕ) → IsFinding d bytes code position → IsVerdict d bytes code position
+pub verdict : (d : Description) (bytes : List ℕ) (code position : ℕ) → IsFinding d bytes code position
+    → IsVerdict d bytes code position
 verdict d bytes code position (IsFinding.message m in_der e p) =
-    record { accepted = λ _. record { message = m; in_der = in_der }; refused = λ no _ _. no e; within = omega (arith, p); finding = IsFinding.message m in_der e p }
+    record {
+      accepted = λ _. record { message = m; in_der = in_der };
+      refused = λ no _ _. no e;
+      within =
+          omega (arith, p);
+      finding = IsFinding.message m in_der e p;
+    }
 verdict d bytes code position (IsFinding.refused r f e p) = record {
   accepted = λ k. let above = error_above r.error in absurd (omega (arith, e, k, above));
   refused = λ _ _ m. f.none m.message;
@@ -64,4 +71,9 @@ verdict d bytes code position (IsFinding.broken c m b e p) = record {
   finding = IsFinding.broken c m b e p;
 }
 verdict d bytes code position (IsFinding.no_memory e p) =
-    record { accepted = λ k. absurd (omega (arith, e, k)); refused = λ _ known _. known e; within = omega (arith, p); finding = IsFinding.no_memory e p }
+    record {
+      accepted = λ k. absurd (omega (arith, e, k));
+      refused = λ _ known _. known e;
+      within = omega (arith, p);
+      finding = IsFinding.no_memory e p;
+    }

@@ -16,7 +16,8 @@ pub record IsMessageInDer (d : Description) (bytes : List ℕ) : Type 0 where
 -- what was found in the bytes, by this code and up to this position
 pub data IsFinding (d : Description) (bytes : List ℕ) (code position : ℕ) : Type 0 where
   -- the message, and the position is their end
-  message : IsMessageOf d bytes → AreElements bytes → code ≡ ok → position ≡ length bytes → IsFinding d bytes code position
+  message : IsMessageOf d bytes → AreElements bytes → code ≡ ok → position ≡ length bytes
+      → IsFinding d bytes code position
   -- the encoding of no value of the type
   refused : (r : DecodeError) → IsRefused d bytes r → code ≡ error_code r.error → position ≡ r.position
       → IsFinding d bytes code position

@@ -5,8 +5,10 @@ use Rattle.der_c.proofs.elements.picky_der_elements.Goals as goal
 
 pub returns-in-None : goal.returns-in-None
 returns-in-None c =
-    let items : c.in-Ok-elements_in_c.listed.items ≡ map element_in_c c.in-Ok.outline.elements.items = c.in-Ok-elements_in_c.ensures ∙ ap (map element_in_c) c.deref.ensures.value in
-    let lengths : length c.in-Ok-elements_in_c.listed.items ≡ length c.in-Ok.outline.elements.items = ap length items ∙ length-map c.in-Ok.outline.elements.items element_in_c in
+    let items : c.in-Ok-elements_in_c.listed.items ≡ map element_in_c c.in-Ok.outline.elements.items =
+    c.in-Ok-elements_in_c.ensures ∙ ap (map element_in_c) c.deref.ensures.value in
+    let lengths : length c.in-Ok-elements_in_c.listed.items ≡ length c.in-Ok.outline.elements.items =
+    ap length items ∙ length-map c.in-Ok.outline.elements.items element_in_c in
     let written : AreWritten c.args.elements.now c.fill.new.room c.len-number.result c.in-Ok.outline = record {
       written = c.fill.ensures ∙ ap (filled c.args.elements.now) (c.deref-2.ensures.value ∙ items);
       counted = omega (arith, c.len-number.ensures, lengths, c.in-Ok-elements_in_c.listed.ok);
@@ -15,10 +17,13 @@ returns-in-None c =
 
 pub returns : goal.returns
 returns c =
-    let items : c.in-Ok-elements_in_c.listed.items ≡ map element_in_c c.in-Ok.outline.elements.items = c.in-Ok-elements_in_c.ensures ∙ ap (map element_in_c) c.deref.ensures.value in
-    let lengths : length c.in-Ok-elements_in_c.listed.items ≡ length c.in-Ok.outline.elements.items = ap length items ∙ length-map c.in-Ok.outline.elements.items element_in_c in
+    let items : c.in-Ok-elements_in_c.listed.items ≡ map element_in_c c.in-Ok.outline.elements.items =
+    c.in-Ok-elements_in_c.ensures ∙ ap (map element_in_c) c.deref.ensures.value in
+    let lengths : length c.in-Ok-elements_in_c.listed.items ≡ length c.in-Ok.outline.elements.items =
+    ap length items ∙ length-map c.in-Ok.outline.elements.items element_in_c in
     let written : AreWritten c.args.elements.now c.fill.new.room c.len-number.result c.in-Ok.outline = record {
       written = c.fill.ensures ∙ ap (filled c.args.elements.now) (c.deref-2.ensures.value ∙ items);
       counted = omega (arith, c.len-number.ensures, lengths, c.in-Ok-elements_in_c.listed.ok);
     } in
-    AreElementsInC.broken c.in-Ok.outline c.in-Some.complaint c.in-Ok.ensures c.in-Some.is written refl c.rule_code.ensures
+    AreElementsInC.broken c.in-Ok.outline c.in-Some.complaint c.in-Ok.ensures c.in-Some.is written refl
+    c.rule_code.ensures

@@ -7,7 +7,8 @@ returns-in-Element c = record {
   found = c.next_element-next.result.0;
   is = c.next_element-next.ensures.next;
   walk = c.next_element-next.ensures.walk;
-  given = subst (λ n. IsGiven c.args.element.now c.element_in_c.result 0 n) (sym c.in-Element.is) (c.element_in_c.ensures, refl);
+  given = subst (λ n. IsGiven c.args.element.now c.element_in_c.result 0 n) (sym c.in-Element.is)
+      (c.element_in_c.ensures, refl);
 }
 
 pub returns-in-Broken : goal.returns-in-Broken
@@ -15,7 +16,10 @@ returns-in-Broken c = record {
   found = c.next_element-next.result.0;
   is = c.next_element-next.ensures.next;
   walk = c.next_element-next.ensures.walk;
-  given = subst (λ n. IsGiven c.args.element.now c.args.element.now c.rule_code.result n) (sym c.in-Broken.is) (refl, c.rule_code.ensures);
+  given = subst (λ n. IsGiven c.args.element.now c.args.element.now c.rule_code.result n) (sym c.in-Broken.is) (
+    refl,
+    c.rule_code.ensures,
+  );
 }
 
 pub returns-in-NoRoom : goal.returns-in-NoRoom

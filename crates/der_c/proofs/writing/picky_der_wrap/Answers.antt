@@ -29,7 +29,8 @@ returns c =
     let lc : length content ≡ n = length_range old start before order (omega (arith, fits)) in
     let copied : c.copy_within.new.self ≡ put_over old (start + length head) content =
     c.copy_within.ensures.after
-    ∙ append_assoc (take (start + (1 + c.encoded_len-size.result)) old) content (drop (start + (1 + c.encoded_len-size.result) + n) old)
+    ∙ append_assoc (take (start + (1 + c.encoded_len-size.result)) old) content
+    (drop (start + (1 + c.encoded_len-size.result) + n) old)
     ∙ ap (λ (s : ℕ). take (start + s) old ++ (content ++ drop (start + s + n) old)) size
     ∙ ap (λ (m : ℕ). take (start + length head) old ++ (content ++ drop (start + length head + m) old)) (sym lc) in
     let whole : c.put_header.new.out ≡ put_over old start (head ++ content) =
@@ -37,5 +38,8 @@ returns c =
     ∙ put_before old head content start (omega (arith, lc, fits, order)) in
     let same : head ++ content ≡ tlv tag content = ap (λ (m : ℕ). (tag ∷ length_octets m) ++ content) (sym lc) in
     let e = length_tlv tag content in
-    let octets : length (length_octets (length content)) ≡ length (length_octets n) = ap (λ (m : ℕ). length (length_octets m)) lc in
-    IsWrapped.wrapped (omega (arith, c.if-end-out.false)) order (omega (arith, e, octets, lc, end, c.encoded_len-size.ensures, order)) c.if-not-is_in_order.ensures (whole ∙ ap (put_over old start) same) refl
+    let octets : length (length_octets (length content)) ≡ length (length_octets n) =
+    ap (λ (m : ℕ). length (length_octets m)) lc in
+    IsWrapped.wrapped (omega (arith, c.if-end-out.false)) order
+    (omega (arith, e, octets, lc, end, c.encoded_len-size.ensures, order)) c.if-not-is_in_order.ensures
+    (whole ∙ ap (put_over old start) same) refl
