@@ -21,3 +21,9 @@ pub mod LayoutReads
 pub mod OtherReads
 pub mod ListReads
 pub mod SetOrder
+pub mod RuleReads
+pub mod RuleWrappers
+pub mod RuleLists
+pub mod RuleMembers
+pub mod RuleChoices
+pub mod OutcomeExamples

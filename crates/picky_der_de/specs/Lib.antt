@@ -37,3 +37,5 @@ pub mod OtherLaws
 pub mod SequenceState
 pub mod Twins
 pub mod Whole
+pub mod Outcomes
+pub mod Ruled
