@@ -275,6 +275,10 @@ impl Deserialize for $name {
         ensures refused { IfErr result (RefusesPrimitive Primitive.unsigned (PrimitiveShape.unsigned (2 ^ $bits - 1))
             de.old de.new) }
         ensures memory { IfErr result (UsesNoMemory de.old de.new) }
+        ensures read_by { IfOk result (λ _. AreReadBy
+            (rule_of (Shape.primitive (PrimitiveShape.unsigned (2 ^ $bits - 1)))) de.old de.new) }
+        ensures refused_by { IfErr result (AreRefusedBy
+            (rule_of (Shape.primitive (PrimitiveShape.unsigned (2 ^ $bits - 1)))) de.old de.new) }
     {
         de.read_plain::<UnsignedInteger, $name>()
     }
@@ -304,6 +308,10 @@ impl Deserialize for $name {
         ensures read { IfOk result (ReadsInt (fits_signed $bits) de.old de.new) }
         ensures refused { IfErr result (RefusesInt (fits_signed $bits) de.old de.new) }
         ensures memory { IfErr result (UsesNoMemory de.old de.new) }
+        ensures read_by { IfOk result (λ _. AreReadBy (plain_rule 0x02 (int_error (fits_signed $bits)))
+            de.old de.new) }
+        ensures refused_by { IfErr result (AreRefusedBy (plain_rule 0x02 (int_error (fits_signed $bits)))
+            de.old de.new) }
     {
         de.deserialize_int()
     }
@@ -329,6 +337,9 @@ def read_numbers() -> Lines:
         "ghost use Rattle.picky_der_de.specs.Reading.{Reads, Refuses, ReadsPrimitive, RefusesPrimitive};",
         "ghost use Rattle.picky_der_de.specs.Reading.{ReadsInt, RefusesInt};",
         "ghost use Rattle.picky_der_de.specs.Facts.{unsigned_facts, int_facts};",
+        "ghost use Rattle.picky_der_core.specs.Refusal.{int_error};",
+        "ghost use Rattle.picky_der_de.specs.Outcomes.{plain_rule, rule_of};",
+        "ghost use Rattle.picky_der_de.specs.Ruled.{AreReadBy, AreRefusedBy};",
         "",
         "use crate::{Begins, Deserialize, Deserializer, UnsignedInteger};",
         "use picky_der_core::Result;",

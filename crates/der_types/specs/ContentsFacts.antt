@@ -1,5 +1,5 @@
 -- Types whose values are distinguished by their contents: what they mean, and their facts.
-use Rattle.std.specs.Prelude.{◌≡◌, ℕ, List, Bool, true, refl}
+use Rattle.std.specs.Prelude.{◌≡◌, ℕ, List, Bool, true, None, refl}
 use Rattle.picky_der_core.specs.Primitive.{Primitive, PrimitiveShape}
 use Rattle.picky_der_core.specs.Tree.{Tree}
 use Rattle.picky_der_core.specs.Shape.{Shape}
@@ -28,6 +28,7 @@ abbrev pub content_of_facts : {V A : Type 0} (tag : ℕ) (content : A → List �
 content_of_facts tag content equal same eq part = record {
   meaning = contents_of tag (λ v. content (part v));
   eq = λ x y. eq (part x) (part y);
+  rule = None;
   Premise = (x y : _) → equal x y ≡ true → eq x y ≡ true;
   follows = λ so. by_content tag (λ v. content (part v)) (λ x y. eq (part x) (part y)) (λ x y e. so (part x) (part y) (same (part x) (part y) e));
 }

@@ -27,3 +27,6 @@ pub mod RuleLists
 pub mod RuleMembers
 pub mod RuleChoices
 pub mod OutcomeExamples
+pub mod RuleOrders
+pub mod RuledLists
+pub mod RuledMembers

@@ -1,14 +1,17 @@
 -- Choices are read by their rules.
-use Rattle.std.proofs.Common.{◌≡◌, ℕ, zero, suc, ◌<◌, Bool, true, false, List, [], ◌∷◌, ◌++◌, take, drop, Option, Some, None, Ok, Err, refl, sym, ◌∙◌, ap, arith, take-append-drop}
+use Rattle.std.proofs.Common.{◌≡◌, ℕ, zero, suc, ◌<◌, Bool, true, false, List, [], ◌∷◌, ◌++◌, take, drop, Option, Some, None, Ok, Err, refl, sym, ◌∙◌, ap, subst, arith, take-append-drop}
 use Rattle.picky_der_core.specs.declared.error.Asn1DerError.{Asn1DerError}
 use Rattle.picky_der_core.specs.declared.error.Asn1DerError.TheVariants.{InvalidData}
+use Rattle.std.specs.Option.{option_map}
+use Rattle.picky_der_core.specs.Failure.{IsAnswer}
 use Rattle.picky_der_core.specs.Refusal.{Refusal, missing_byte}
 use Rattle.picky_der_core.specs.Shape.{contains}
 use Rattle.picky_der_de.specs.State.{State}
 use Rattle.picky_der_de.specs.Steps.{IsJudged, is_hard}
 use Rattle.picky_der_de.specs.LookAhead.{Peeks, IdentifiesChoice, RefusesChoice, choice_refusal_in}
-use Rattle.picky_der_de.specs.Outcomes.{Spot, Outcome, Rule, ChoiceRule, alternative, no_alternative, choice_by, choice_rule}
-use Rattle.picky_der_de.specs.Ruled.{spot_of, IsReadBy, AreReadBy, IsRefusedBy, AreRefusedBy}
+use Rattle.picky_der_de.specs.Outcomes.{Spot, Outcome, Rule, ChoiceRule, alternative, no_alternative, this_or_others, choice_by, choice_rule}
+use Rattle.picky_der_de.specs.Refusing.{FailsAs}
+use Rattle.picky_der_de.specs.Ruled.{spot_of, IsReadBy, AreReadBy, IsRefusedBy, AreRefusedBy, ReadsBy, RefusesBy, ReadsChosenBy, RefusesChosenBy}
 use Rattle.picky_der_de.proofs.RuleMembers.{IsSeen, seen}
 
 -- ---- the next byte
@@ -85,3 +88,58 @@ module _ (begins : List ℕ) (this : Rule) (others : ChoiceRule) (tag : ℕ) {a 
 -- no alternative begins with the byte, and nothing was consumed
 pub none_chosen : (tag : ℕ) {a c : State} {e : Asn1DerError} → e ≡ InvalidData → c.input ≡ a.input → AreRefusedBy (no_alternative tag) a c e
 none_chosen tag is i j bs k = record { left = bs; is = ap (λ z. Err (z, bs)) (sym is); input = i ∙ k }
+
+-- it refuses so, unless it had failed before
+pub none_chosen_by : (tag : ℕ) {a c : State} {e : Asn1DerError} → FailsAs InvalidData a e c → AreRefusedBy (no_alternative tag) a c e
+none_chosen_by tag {a} {c} {e} f j bs k =
+    let is : e ≡ InvalidData = subst (λ d. IsAnswer d InvalidData e) j.had_not_failed f.0 in
+    none_chosen tag is (ap (λ (z : State). z.input) f.1) j bs k
+
+-- ---- alternatives of types that may have a rule
+
+module _ (begins : List ℕ) (this : Option Rule) (others : Option ChoiceRule) (tag : ℕ) (a c : State) where
+  pub this_reads_by : contains begins tag ≡ true → ReadsBy this a c → ReadsChosenBy (this_or_others begins this others) tag a c
+  this_reads_by = by_case this others
+    where
+      by_case : (x : Option Rule) (y : Option ChoiceRule) → contains begins tag ≡ true → ReadsBy x a c → ReadsChosenBy (this_or_others begins x y) tag a c
+      by_case None y b r = tt
+      by_case (Some x) None b r = tt
+      by_case (Some x) (Some y) b r = this_read begins x y tag b r
+
+  pub other_reads_by : contains begins tag ≡ false → ReadsChosenBy others tag a c → ReadsChosenBy (this_or_others begins this others) tag a c
+  other_reads_by = by_case this others
+    where
+      by_case : (x : Option Rule) (y : Option ChoiceRule) → contains begins tag ≡ false → ReadsChosenBy y tag a c → ReadsChosenBy (this_or_others begins x y) tag a c
+      by_case None y b r = tt
+      by_case (Some x) None b r = tt
+      by_case (Some x) (Some y) b r = other_read begins x y tag b r
+
+  pub this_refuses_by : (e : Asn1DerError) → contains begins tag ≡ true → RefusesBy this a c e → RefusesChosenBy (this_or_others begins this others) tag a c e
+  this_refuses_by e = by_case this others
+    where
+      by_case : (x : Option Rule) (y : Option ChoiceRule) → contains begins tag ≡ true → RefusesBy x a c e → RefusesChosenBy (this_or_others begins x y) tag a c e
+      by_case None y b r = tt
+      by_case (Some x) None b r = tt
+      by_case (Some x) (Some y) b r = this_refused begins x y tag b r
+
+  pub other_refuses_by : (e : Asn1DerError) → contains begins tag ≡ false → RefusesChosenBy others tag a c e → RefusesChosenBy (this_or_others begins this others) tag a c e
+  other_refuses_by e = by_case this others
+    where
+      by_case : (x : Option Rule) (y : Option ChoiceRule) → contains begins tag ≡ false → RefusesChosenBy y tag a c e → RefusesChosenBy (this_or_others begins x y) tag a c e
+      by_case None y b r = tt
+      by_case (Some x) None b r = tt
+      by_case (Some x) (Some y) b r = other_refused begins x y tag b r
+
+-- ---- choices of them
+
+pub choice_unread_by : (alternatives : Option ChoiceRule) {a c : State} {e : Asn1DerError} → RefusesChoice a c e → RefusesBy (option_map choice_rule alternatives) a c e
+choice_unread_by None r = tt
+choice_unread_by (Some alternatives) r = choice_unread alternatives r
+
+pub choice_reads_by : (alternatives : Option ChoiceRule) {a m : State} (c : State) {tag : ℕ} → Peeks a m tag → ReadsChosenBy alternatives tag m c → ReadsBy (option_map choice_rule alternatives) a c
+choice_reads_by None c p r = tt
+choice_reads_by (Some alternatives) c p r = choice_read alternatives p r
+
+pub choice_refuses_by : (alternatives : Option ChoiceRule) {a m : State} (c : State) (e : Asn1DerError) {tag : ℕ} → Peeks a m tag → RefusesChosenBy alternatives tag m c e → RefusesBy (option_map choice_rule alternatives) a c e
+choice_refuses_by None c e p r = tt
+choice_refuses_by (Some alternatives) c e p r = choice_refused alternatives p r

@@ -1,9 +1,10 @@
 -- Sequences and sets of values of one type are read by their rules.
 use Rattle.std.proofs.Common.{◌≡◌, ℕ, zero, suc, ◌+◌, ◌-◌, ◌<◌, ◌≤◌, ◌^◌, Bool, true, false, ◌==◌, List, [], ◌∷◌, ◌++◌, length, take, drop, Option, Some, None, IfSome, Ok, Err, if◌then◌else◌, refl, sym, ◌∙◌, ap, subst, arith, length-append, append_assoc, ne_eqb, take-append-drop}
 use Rattle.std.proofs.lemmas.Bool.Decides.{nat_tests}
-use Rattle.std.proofs.Math.Seq.{take-append_seam}
+use Rattle.std.specs.Option.{option_map}
 use Rattle.std.specs.Io.KnownBytes.{Consumes}
 use Rattle.picky_der_core.specs.declared.error.Asn1DerError.{Asn1DerError}
+use Rattle.picky_der_core.specs.declared.error.Asn1DerError.TheVariants.{OutOfMemory}
 use Rattle.picky_der_core.specs.Tag.{number_of, IsTagNumber}
 use Rattle.picky_der_core.specs.Element.{length_octets}
 use Rattle.picky_der_core.specs.Tree.{ListKind, Tree}
@@ -18,8 +19,8 @@ use Rattle.picky_der_de.specs.Order.{with_last, without_order}
 use Rattle.picky_der_de.specs.Headers.{header_bytes, BeginsContent}
 use Rattle.picky_der_de.specs.Ends.{EnclosingEnd, OpensList, RefusesList, Closes}
 use Rattle.picky_der_de.specs.Members.{ReadsMember}
-use Rattle.picky_der_de.specs.Outcomes.{Spot, Outcome, Rule, ContentRule, before_past, consumed_of, list_opened_in, list_opened, in_list, list_rule, last_after, ordered_rule, at_end, then_more, members_rule, member_spot}
-use Rattle.picky_der_de.specs.Ruled.{spot_of, IsReadBy, AreReadBy, IsRefusedBy, AreRefusedBy, content_as, IsInList, AreAllReadBy, AreAllRefusedBy}
+use Rattle.picky_der_de.specs.Outcomes.{Spot, Outcome, Rule, ContentRule, before_past, consumed_of, list_opened_in, list_opened, in_list, list_rule, last_after, ordered_rule, at_end, then_more, members_rule, all_members, list_of_rule, before_first, member_spot}
+use Rattle.picky_der_de.specs.Ruled.{spot_of, IsReadBy, AreReadBy, IsRefusedBy, AreRefusedBy, content_as, IsInList, AreAllReadBy, AreAllRefusedBy, ReadsBy, RefusesBy, ReadsAllBy, RefusesAllBy}
 use Rattle.picky_der_de.proofs.Steps.{judged_after}
 use Rattle.picky_der_de.proofs.Refusals.{front_consumed}
 use Rattle.picky_der_de.proofs.KnownBytes.{front}
@@ -126,13 +127,13 @@ member_last {a = a} {t = t} r =
 -- From one state to a later one members were read: the outcome from the one on is that from the other.
 pub record IsMidway (member : Rule) (a c : State) : Type 0 where
   pub in_list : IsInList c
-  pub failed : c.failed ≡ None
+  pub failed : a.failed ≡ None → c.failed ≡ None
   pub faults : c.faults ≡ a.faults
   pub same : (bs : List ℕ) → a.input ≡ Some bs → (most : ℕ) → a.until_end ≤ most
       → (left : List ℕ) × (c.input ≡ Some left) × ((fewer : ℕ) × (c.until_end ≤ fewer) × (members_rule member most a.sets.last a.until_end bs ≡ members_rule member fewer c.sets.last c.until_end left))
 
-pub midway_none : (member : Rule) {a : State} → IsInList a → a.failed ≡ None → IsMidway member a a
-midway_none member i f = record { in_list = i; failed = f; faults = refl; same = λ bs k most l. (bs, k, (most, l, refl)) }
+pub midway_none : (member : Rule) {a : State} → IsInList a → IsMidway member a a
+midway_none member i = record { in_list = i; failed = λ w. w; faults = refl; same = λ bs k most l. (bs, k, (most, l, refl)) }
 
 zero_end : (n : ℕ) → n ≡ 0 → (n == 0) ≡ true
 zero_end n e = grind (arith, nat_tests)
@@ -158,7 +159,7 @@ midway_end {member} {a} {c} m e i most l bs k =
 pub midway_refused : {member : Rule} {a c d : State} {e : Asn1DerError} → IsMidway member a c → 0 < c.until_end → AreRefusedBy (ordered_rule c.sets.last member) c d e → AreAllRefusedBy member a d e
 midway_refused {member} {a} {c} {d} {e} m some r i most l j bs k =
     let p = m.same bs k most l in
-    let judged : IsJudged c d e = record { had_not_failed = m.failed; faults = j.faults ∙ sym m.faults; memory = j.memory } in
+    let judged : IsJudged c d e = record { had_not_failed = m.failed j.had_not_failed; faults = j.faults ∙ sym m.faults; memory = j.memory } in
     let h = r judged p.0 p.1 in
     let q = members_before_end member p.2.0 c.sets.last c.until_end p.0 some p.2.1 in
     let is : ordered_rule c.sets.last member (member_spot c.until_end) p.0 ≡ Err (e, h.left) = ap (λ z. ordered_rule c.sets.last member z p.0) (sym (in_list_spot m.in_list)) ∙ h.is in
@@ -173,7 +174,7 @@ midway_more {member} {s} {a} {c} {d} {t} m r by =
     let implicit : d.implicit_tag ≡ None = ap (λ (z : State). z.implicit_tag) r.follows.same ∙ r.reads.implicit_tag in
     record {
       in_list = record { soft = ap is_hard end ∙ m.in_list.soft; implicit_tag = implicit };
-      failed = t'.not_failed;
+      failed = λ w. t'.not_failed;
       faults = t'.faults ∙ m.faults;
       same = λ bs k most l.
           let p = m.same bs k most l in
@@ -185,3 +186,61 @@ midway_more {member} {s} {a} {c} {d} {t} m r by =
           let ahead : c.until_end - (length p.0 - length h.left) ≡ d.until_end = omega (arith, f.2, t'.until_end) in
           (h.left, h.input, (q.0, omega (arith, p.2.1, q.1, t'.until_end, size), p.2.2 ∙ q.2 ∙ ap (then_more c.sets.last c.until_end p.0 (members_rule member q.0)) is ∙ rw (last, ahead) refl));
     }
+
+-- ---- values of types that may have a rule
+
+abbrev pub IsMidwayBy : Option Rule → State → State → Type 0
+IsMidwayBy None a c = Unit {0}
+IsMidwayBy (Some member) a c = IsInList a → IsMidway member a c
+
+pub midway_none_by : (member : Option Rule) (a : State) → IsMidwayBy member a a
+midway_none_by None a = tt
+midway_none_by (Some member) a = λ i. midway_none member i
+
+pub midway_more_by : (member : Option Rule) {s : Shape} (a : State) {c d : State} {t : Tree} → IsMidwayBy member a c → ReadsMember s c d t → ReadsBy (option_map (ordered_rule c.sets.last) member) c d → IsMidwayBy member a d
+midway_more_by None a m r by = tt
+midway_more_by (Some member) a m r by = λ i. midway_more (m i) r by
+
+pub midway_end_by : (member : Option Rule) (a c : State) → IsMidwayBy member a c → c.until_end ≡ 0 → ReadsAllBy member a c
+midway_end_by None a c m e = tt
+midway_end_by (Some member) a c m e = λ i. midway_end (m i) e i
+
+pub midway_refuses_by : (member : Option Rule) (a c d : State) (e : Asn1DerError) → IsMidwayBy member a c → 0 < c.until_end → RefusesBy (option_map (ordered_rule c.sets.last) member) c d e → RefusesAllBy member a d e
+midway_refuses_by None a c d e m some r = tt
+midway_refuses_by (Some member) a c d e m some r = λ i. midway_refused (m i) some r i
+
+pub memory_refuses_all_by : (member : Option Rule) (a d : State) {e : Asn1DerError} → e ≡ OutOfMemory → RefusesAllBy member a d e
+memory_refuses_all_by None a d is = tt
+memory_refuses_all_by (Some member) a d is = λ i most l j. absurd (j.memory is)
+
+pub again_refuses_all_by : (member : Option Rule) (a c d : State) (e : Asn1DerError) → IsMidwayBy member a c → (c.failed ≡ None → ⊥) → RefusesAllBy member a d e
+again_refuses_all_by None a c d e m f = tt
+again_refuses_all_by (Some member) a c d e m f = λ i most l j. absurd (f ((m i).failed j.had_not_failed))
+
+-- ---- lists of them
+
+-- what is compared with the first member
+pub first_last : (kind : ListKind) {a b : State} {outer : EnclosingEnd} → OpensList (list_tag kind) a b outer → b.sets.last ≡ before_first kind
+first_last ListKind.sequence o = ap (λ (s : State). s.sets.last) o.opened
+first_last ListKind.set o = ap (λ (s : State). s.sets.last) o.opened
+
+pub list_unopened_of : (kind : ListKind) (member : Option Rule) {a c : State} {e : Asn1DerError} → RefusesList (list_tag kind) a c e → RefusesBy (option_map (list_of_rule kind) member) a c e
+list_unopened_of kind None r = tt
+list_unopened_of kind (Some member) r = list_unopened_by kind (all_members kind member) r
+
+all_here : (kind : ListKind) (member : Rule) (b : State) (bs : List ℕ) → b.sets.last ≡ before_first kind → members_rule member b.until_end b.sets.last b.until_end bs ≡ all_members kind member b.until_end bs
+all_here kind member b bs e = ap (λ z. members_rule member b.until_end z b.until_end bs) e
+
+pub list_refuses_by : (kind : ListKind) (member : Option Rule) {a b : State} {outer : EnclosingEnd} (c : State) (e : Asn1DerError) → OpensList (list_tag kind) a b outer → RefusesAllBy member b c e → RefusesBy (option_map (list_of_rule kind) member) a c e
+list_refuses_by kind None c e o r = tt
+list_refuses_by kind (Some member) {b = b} c e o r =
+    list_refused_by kind (all_members kind member) o (λ j bs k.
+    let h = r (opened_in_list o) b.until_end (omega arith) j bs k in
+    record { left = h.left; is = sym (all_here kind member b bs (first_last kind o)) ∙ h.is; input = h.input })
+
+pub list_reads_by : (kind : ListKind) (member : Option Rule) {a b l d : State} {outer closed : EnclosingEnd} → OpensList (list_tag kind) a b outer → ReadsAllBy member b l → Closes closed l d → ReadsBy (option_map (list_of_rule kind) member) a d
+list_reads_by kind None o r c = tt
+list_reads_by kind (Some member) {b = b} o r c =
+    list_read_by kind (all_members kind member) o (λ bs k.
+    let h = r (opened_in_list o) b.until_end (omega arith) bs k in
+    record { left = h.left; is = sym (all_here kind member b bs (first_last kind o)) ∙ h.is; input = h.input }) c

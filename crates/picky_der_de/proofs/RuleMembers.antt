@@ -1,5 +1,6 @@
 -- Members of several types are read by their rules.
-use Rattle.std.proofs.Common.{◌≡◌, ℕ, zero, suc, ◌+◌, ◌-◌, ◌<◌, ◌≤◌, Bool, true, false, ◌==◌, List, [], ◌∷◌, ◌++◌, length, take, drop, Option, Some, None, IfSome, Ok, Err, if◌then◌else◌, refl, sym, ◌∙◌, ap, subst, arith, length-append, ne_eqb, take-append-drop, IsTrue}
+use Rattle.std.proofs.Common.{◌≡◌, ℕ, zero, suc, ◌+◌, ◌-◌, ◌<◌, ◌≤◌, Bool, true, false, ◌==◌, List, [], ◌∷◌, ◌++◌, length, take, drop, Option, Some, None, IfSome, IfNone, Result, Ok, Err, IfOk, IfErr, if◌then◌else◌, refl, sym, ◌∙◌, ap, subst, arith, length-append, ne_eqb, take-append-drop, IsTrue}
+use Rattle.std.specs.Option.{option_map}
 use Rattle.std.proofs.lemmas.Bool.Decides.{nat_tests}
 use Rattle.std.specs.Io.KnownBytes.{Consumes, Keeps, IsAtEnd}
 use Rattle.picky_der_core.specs.declared.error.Asn1DerError.{Asn1DerError}
@@ -8,21 +9,21 @@ use Rattle.picky_der_core.specs.Element.{IsPrefix}
 use Rattle.picky_der_core.specs.Encoding.{der, list_tag}
 use Rattle.picky_der_core.specs.Tree.{ListKind, Tree}
 use Rattle.picky_der_core.specs.Shape.{Shape, IsFirst, firsts, contains}
-use Rattle.picky_der_de.specs.State.{State}
+use Rattle.picky_der_de.specs.State.{State, OpenSets}
 use Rattle.picky_der_de.specs.Steps.{Consumed, IsJudged, IsMissing, end_is_here, input_ended, is_hard, failed_with}
 use Rattle.picky_der_de.specs.Order.{is_out_of_order, is_less_than}
 use Rattle.picky_der_de.specs.LookAhead.{Peeks, Identifies, IdentifiesIn, RefusesIdentifier}
 use Rattle.picky_der_de.specs.Ends.{EnclosingEnd, OpensList, RefusesList, Closes, RefusesClose}
 use Rattle.picky_der_de.specs.Members.{ReadsMember, HasNoMore}
 use Rattle.picky_der_de.specs.Layouts.{Lacks, no_more, begins_otherwise}
-use Rattle.picky_der_de.specs.Outcomes.{Spot, Outcome, Rule, ContentRule, consumed_of, is_too_late, in_order, ordered_rule, field_rule, optional_by, optional_rule, at_end, then_others, in_turn, list_rule, fields_rule, member_spot}
-use Rattle.picky_der_de.specs.Ruled.{spot_of, IsReadBy, AreReadBy, IsRefusedBy, AreRefusedBy, content_as, IsInList, IsUnordered, AreInTurn, AreRefusedInTurn, AreReadInTurn, AreUnreadInTurn}
+use Rattle.picky_der_de.specs.Outcomes.{Spot, Outcome, Rule, ContentRule, consumed_of, is_too_late, in_order, ordered_rule, field_rule, optional_by, optional_rule, at_end, then_others, in_turn, list_rule, fields_rule, last_after, one_before, member_spot}
+use Rattle.picky_der_de.specs.Ruled.{spot_of, IsReadBy, AreReadBy, IsRefusedBy, AreRefusedBy, content_as, IsInList, IsUnordered, AreInTurn, AreRefusedInTurn, AreReadInTurn, AreUnreadInTurn, ReadsBy, RefusesBy, ReadsInTurnBy, RefusesInTurnBy}
 use Rattle.picky_der_de.proofs.Steps.{judged_after}
 use Rattle.picky_der_de.proofs.Refusals.{front_consumed, at_end_of}
 use Rattle.picky_der_de.proofs.KnownBytes.{kept_known}
 use Rattle.picky_der_de.proofs.MemberReads.{consumes_member, member_not_implicit, member_ahead}
 use Rattle.picky_der_de.proofs.RuleReads.{consumed_front}
-use Rattle.picky_der_de.proofs.RuleLists.{in_list_spot, list_refused_by, list_read_by, opened_in_list, member_last}
+use Rattle.picky_der_de.proofs.RuleLists.{in_list_spot, list_unopened_by, list_refused_by, list_read_by, opened_in_list, member_last}
 
 -- ---- the order of a set
 
@@ -72,6 +73,9 @@ refused_unordered rule {a} n r j bs k = let h = r j bs k in record { left = h.le
 
 pub read_without_order : (rule : Rule) {a c : State} → a.sets.last ≡ None → AreReadBy rule a c → AreReadBy (ordered_rule a.sets.last rule) a c
 read_without_order rule {a} e r bs k = let h = r bs k in record { left = h.left; is = ordered_by_none a.sets.last rule (spot_of a) bs e ∙ h.is; input = h.input }
+
+pub refused_without_order : (rule : Rule) {a c : State} {e : Asn1DerError} → a.sets.last ≡ None → AreRefusedBy rule a c e → AreRefusedBy (ordered_rule a.sets.last rule) a c e
+refused_without_order rule {a} n r j bs k = let h = r j bs k in record { left = h.left; is = ordered_by_none a.sets.last rule (spot_of a) bs n ∙ h.is; input = h.input }
 
 -- out of memory says nothing of the bytes
 pub refused_by_memory : (rule : Rule) {a c : State} {e : Asn1DerError} → e ≡ OutOfMemory → AreRefusedBy rule a c e
@@ -134,7 +138,7 @@ optional_there : (fs : List ℕ) (rule : Rule) (at : Spot) (tag : ℕ) (rest : L
 unfolding optional_rule
 optional_there fs rule at tag rest l h = let is : contains fs tag ≡ true = h in rw (not_zero at.ahead l, is) refl
 
-not_listed : (b : Bool) → (IsTrue b → ⊥) → b ≡ false
+pub not_listed : (b : Bool) → (IsTrue b → ⊥) → b ≡ false
 not_listed true h = absurd (h refl)
 not_listed false h = refl
 
@@ -295,3 +299,166 @@ fields_refused members {a} {b} {c} {outer} {e} o r =
     list_refused_by ListKind.sequence (in_turn members at_end) o (λ j bs k.
     let q = r (unordered o) j bs k in
     record { left = q.left; is = q.is at_end; input = q.input })
+
+-- ---- members of types that may have a rule
+
+pub field_reads_by : (rule : Option Rule) (a c : State) → 0 < a.until_end → ReadsBy rule a c → ReadsBy (option_map field_rule rule) a c
+field_reads_by None a c l r = tt
+field_reads_by (Some rule) a c l r = field_read rule l r
+
+pub field_refuses_by : (rule : Option Rule) (a c : State) (e : Asn1DerError) → (a.failed ≡ None → 0 < a.until_end) → RefusesBy rule a c e → RefusesBy (option_map field_rule rule) a c e
+field_refuses_by None a c e l r = tt
+field_refuses_by (Some rule) a c e l r = field_refused rule l r
+
+pub field_missing_by : (rule : Option Rule) (a c : State) {e : Asn1DerError} → a.until_end ≡ 0 → e ≡ TruncatedData → c.input ≡ a.input → RefusesBy (option_map field_rule rule) a c e
+field_missing_by None a c z is i = tt
+field_missing_by (Some rule) a c z is i = field_missing rule z is i
+
+-- before the end a member that is always there is read as any
+field_there : (rule : Rule) (at : Spot) (bs : List ℕ) → 0 < at.ahead → field_rule rule at bs ≡ rule at bs
+unfolding field_rule
+field_there rule at bs l = rw (not_zero at.ahead l) refl
+
+-- in a list whose order isn't tested
+
+field_without_order : (rule : Rule) (last : Option (List ℕ)) (at : Spot) (bs : List ℕ) → last ≡ None → field_rule (ordered_rule last rule) at bs ≡ field_rule rule at bs
+unfolding field_rule
+field_without_order rule last at bs n = ap (λ (o : Outcome). if at.ahead == 0 then Err (TruncatedData, bs) else o) (ordered_by_none last rule at bs n)
+
+pub field_unordered_reads_by : (rule : Option Rule) (a c : State) → a.sets.last ≡ None → ReadsBy (option_map field_rule (option_map (ordered_rule a.sets.last) rule)) a c → ReadsBy (option_map field_rule rule) a c
+field_unordered_reads_by None a c n r = tt
+field_unordered_reads_by (Some rule) a c n r = λ bs k. let h = r bs k in record { left = h.left; is = sym (field_without_order rule a.sets.last (spot_of a) bs n) ∙ h.is; input = h.input }
+
+pub field_unordered_refuses_by : (rule : Option Rule) (a c : State) (e : Asn1DerError) → a.sets.last ≡ None → RefusesBy (option_map field_rule (option_map (ordered_rule a.sets.last) rule)) a c e → RefusesBy (option_map field_rule rule) a c e
+field_unordered_refuses_by None a c e n r = tt
+field_unordered_refuses_by (Some rule) a c e n r = λ j bs k. let h = r j bs k in record { left = h.left; is = sym (field_without_order rule a.sets.last (spot_of a) bs n) ∙ h.is; input = h.input }
+
+optional_without_order : (fs : List ℕ) (rule : Rule) (last : Option (List ℕ)) (at : Spot) (bs : List ℕ) → last ≡ None → optional_rule fs (ordered_rule last rule) at bs ≡ optional_rule fs rule at bs
+unfolding optional_rule
+optional_without_order fs rule last at [] n = refl
+optional_without_order fs rule last at (b ∷ bs) n = ap (λ (o : Outcome). if at.ahead == 0 then Ok (b ∷ bs) else (if contains fs b then o else Ok (b ∷ bs))) (ordered_by_none last rule at (b ∷ bs) n)
+
+pub optional_unordered_reads_by : (fs : List ℕ) (rule : Option Rule) (a c : State) → a.sets.last ≡ None → ReadsBy (option_map (optional_rule fs) (option_map (ordered_rule a.sets.last) rule)) a c → ReadsBy (option_map (optional_rule fs) rule) a c
+optional_unordered_reads_by fs None a c n r = tt
+optional_unordered_reads_by fs (Some rule) a c n r = λ bs k. let h = r bs k in record { left = h.left; is = sym (optional_without_order fs rule a.sets.last (spot_of a) bs n) ∙ h.is; input = h.input }
+
+pub optional_unordered_refuses_by : (fs : List ℕ) (rule : Option Rule) (a c : State) (e : Asn1DerError) → a.sets.last ≡ None → RefusesBy (option_map (optional_rule fs) (option_map (ordered_rule a.sets.last) rule)) a c e → RefusesBy (option_map (optional_rule fs) rule) a c e
+optional_unordered_refuses_by fs None a c e n r = tt
+optional_unordered_refuses_by fs (Some rule) a c e n r = λ j bs k. let h = r j bs k in record { left = h.left; is = sym (optional_without_order fs rule a.sets.last (spot_of a) bs n) ∙ h.is; input = h.input }
+
+-- ---- the next member, which may be missing
+
+identified : (d : Option ℕ) {a m : State} {tag : ℕ} → IdentifiesIn d a m tag → (a.failed ≡ None → d ≡ None) → Peeks a m tag
+identified None p w = p
+identified (Some number) p w = absurd (let q : Some number ≡ None = w p.0 in cc)
+
+-- the next tag is that of the next member
+pub tag_seen : {a m : State} {tag : ℕ} → Identifies a m tag → (a.failed ≡ None → a.implicit_tag ≡ None) → Peeks a m tag
+tag_seen {a} h w = identified a.implicit_tag h.is w
+
+peeked_ahead : {a m : State} {tag : ℕ} → Peeks a m tag → 0 < m.until_end
+peeked_ahead p = omega (arith, p.ahead, ap (λ (z : State). z.until_end) p.same)
+
+pub optional_member_reads_by : (fs : List ℕ) (rule : Option Rule) {a m : State} (c : State) {tag : ℕ} → Peeks a m tag → IsTrue (contains fs tag) → ReadsBy (option_map field_rule (option_map (ordered_rule m.sets.last) rule)) m c → ReadsBy (option_map (optional_rule fs) (option_map (ordered_rule a.sets.last) rule)) a c
+optional_member_reads_by fs None c p f r = tt
+optional_member_reads_by fs (Some rule) {a} {m} c p f r =
+    optional_read fs (ordered_rule a.sets.last rule) p f (subst (λ l. AreReadBy (ordered_rule l rule) m c) (ap (λ (z : State). z.sets.last) p.same) (λ bs k.
+    let h = r bs k in
+    record { left = h.left; is = sym (field_there (ordered_rule m.sets.last rule) (spot_of m) bs (peeked_ahead p)) ∙ h.is; input = h.input }))
+
+pub optional_member_refuses_by : (fs : List ℕ) (rule : Option Rule) {a m : State} (c : State) (e : Asn1DerError) {tag : ℕ} → Peeks a m tag → IsTrue (contains fs tag) → RefusesBy (option_map field_rule (option_map (ordered_rule m.sets.last) rule)) m c e → RefusesBy (option_map (optional_rule fs) (option_map (ordered_rule a.sets.last) rule)) a c e
+optional_member_refuses_by fs None c e p f r = tt
+optional_member_refuses_by fs (Some rule) {a} {m} c e p f r =
+    optional_refused fs (ordered_rule a.sets.last rule) p f (subst (λ l. AreRefusedBy (ordered_rule l rule) m c e) (ap (λ (z : State). z.sets.last) p.same) (λ j bs k.
+    let h = r j bs k in
+    record { left = h.left; is = sym (field_there (ordered_rule m.sets.last rule) (spot_of m) bs (peeked_ahead p)) ∙ h.is; input = h.input }))
+
+pub optional_absent_by : (s : Shape) (rule : Option Rule) {a c : State} → (a.failed ≡ None → a.implicit_tag ≡ None) → Lacks s a c → ReadsBy (option_map (optional_rule (firsts s)) rule) a c
+optional_absent_by s None w h = tt
+optional_absent_by s (Some rule) {a} w (no_more h) = λ bs k. optional_absent s rule (w h.had_not_failed) (no_more h) bs k
+optional_absent_by s (Some rule) {a} w (begins_otherwise tag h f) = λ bs k. optional_absent s rule (tag_seen h w).implicit_tag (begins_otherwise tag h f) bs k
+
+pub optional_no_tag_by : (fs : List ℕ) (rule : Option Rule) {a c : State} {e : Asn1DerError} → RefusesIdentifier a c e → (a.failed ≡ None → 0 < a.until_end) → RefusesBy (option_map (optional_rule fs) rule) a c e
+optional_no_tag_by fs None r l = tt
+optional_no_tag_by fs (Some rule) r l = optional_no_tag fs rule r l
+
+-- ---- members in turn
+
+unordered_after : {s : Shape} {a b : State} {t : Tree} → IsUnordered a → ReadsMember s a b t → IsUnordered b
+unordered_after {t = t} i r = record {
+  in_list = record { soft = ap is_hard (consumes_member r).end ∙ i.in_list.soft; implicit_tag = member_not_implicit r };
+  order = member_last r ∙ ap (λ l. last_after l (der t)) i.order;
+}
+
+unordered_alike : {a b : State} → IsUnordered a → b.end ≡ a.end → b.implicit_tag ≡ a.implicit_tag → b.sets ≡ a.sets → IsUnordered b
+unordered_alike i e d s = record {
+  in_list = record { soft = ap is_hard e ∙ i.in_list.soft; implicit_tag = d ∙ i.in_list.implicit_tag };
+  order = ap (λ (z : OpenSets). z.last) s ∙ i.order;
+}
+
+pub member_is_read : {W : Type 0} (meaning : W → Tree) (s : Shape) {a b : State} (o : Option W) → IfSome o (λ v. ReadsMember s a b (meaning v)) → IfNone o (Lacks s a b) → IsUnordered a → IsMemberRead a b
+member_is_read meaning s (Some v) r l i =
+    let t = consumes_member r in
+    record { keeps_end = member_keeps_end r; unordered = unordered_after i r; failed = t.not_failed; faults = t.faults }
+member_is_read meaning s None r (no_more h) i = record {
+  keeps_end = lacking_keeps_end {s = s} i.in_list.implicit_tag (no_more h);
+  unordered = unordered_alike i (ap (λ (z : State). z.end) h.same) (ap (λ (z : State). z.implicit_tag) h.same) (ap (λ (z : State). z.sets) h.same);
+  failed = ap (λ (z : State). z.failed) h.same ∙ h.had_not_failed;
+  faults = ap (λ (z : State). z.faults) h.same;
+}
+member_is_read meaning s None r (begins_otherwise tag h f) i =
+    let p = tag_seen h (λ w. i.in_list.implicit_tag) in
+    record {
+      keeps_end = lacking_keeps_end {s = s} i.in_list.implicit_tag (begins_otherwise tag h f);
+      unordered = unordered_alike i (ap (λ (z : State). z.end) p.same) (ap (λ (z : State). z.implicit_tag) p.same) (ap (λ (z : State). z.sets) p.same);
+      failed = ap (λ (z : State). z.failed) p.same ∙ p.had_not_failed;
+      faults = ap (λ (z : State). z.faults) p.same;
+    }
+
+pub turn_more_by : (member : Option Rule) (members : Option (List Rule)) (a b c : State) → (IsUnordered a → IsMemberRead a b) → (IsUnordered a → ReadsBy member a b) → ReadsInTurnBy members b c → ReadsInTurnBy (one_before member members) a c
+turn_more_by None members a b c m r rs = tt
+turn_more_by (Some member) None a b c m r rs = tt
+turn_more_by (Some member) (Some members) a b c m r rs = λ i. turn_more member members (m i) (r i) rs i
+
+pub turn_refuses_by : (member : Option Rule) (members : Option (List Rule)) (a b c : State) (e : Asn1DerError) → (IsUnordered a → IsMemberRead a b) → (IsUnordered a → ReadsBy member a b) → RefusesInTurnBy members b c e → RefusesInTurnBy (one_before member members) a c e
+turn_refuses_by None members a b c e m r rs = tt
+turn_refuses_by (Some member) None a b c e m r rs = tt
+turn_refuses_by (Some member) (Some members) a b c e m r rs = λ i. turn_refused member members (m i) (r i) rs i
+
+pub turn_first_refuses_by : (member : Option Rule) (members : Option (List Rule)) (a c : State) (e : Asn1DerError) → (IsUnordered a → RefusesBy member a c e) → RefusesInTurnBy (one_before member members) a c e
+turn_first_refuses_by None members a c e r = tt
+turn_first_refuses_by (Some member) None a c e r = tt
+turn_first_refuses_by (Some member) (Some members) a c e r = λ i. turn_first_refused member members (r i) i
+
+-- ---- a struct of them
+
+pub struct_unopened_by : (members : Option (List Rule)) {a c : State} {e : Asn1DerError} → RefusesList 0x30 a c e → RefusesBy (option_map (fields_rule ListKind.sequence) members) a c e
+struct_unopened_by None r = tt
+struct_unopened_by (Some members) r = list_unopened_by ListKind.sequence (in_turn members at_end) r
+
+module _ {a b : State} {outer : EnclosingEnd} where
+  pub struct_refuses_by : (members : Option (List Rule)) (c : State) (e : Asn1DerError) → OpensList 0x30 a b outer → RefusesInTurnBy members b c e → RefusesBy (option_map (fields_rule ListKind.sequence) members) a c e
+  struct_refuses_by None c e o r = tt
+  struct_refuses_by (Some members) c e o r = fields_refused members o r
+
+  pub struct_left_over_by : (members : Option (List Rule)) {l c : State} {e : Asn1DerError} → OpensList 0x30 a b outer → ReadsInTurnBy members b l → l.failed ≡ None → RefusesClose l c e → RefusesBy (option_map (fields_rule ListKind.sequence) members) a c e
+  struct_left_over_by None o r f h = tt
+  struct_left_over_by (Some members) o r f h = fields_left_over members o r f h
+
+  pub struct_reads_by : (members : Option (List Rule)) {l d : State} {closed : EnclosingEnd} → OpensList 0x30 a b outer → ReadsInTurnBy members b l → Closes closed l d → ReadsBy (option_map (fields_rule ListKind.sequence) members) a d
+  struct_reads_by None o r c = tt
+  struct_reads_by (Some members) o r c = fields_read members o r c
+
+-- ---- a type as a member that is always there
+
+module _ {V : Type 0} (rule : Option Rule) (a c : State) where
+  pub field_member_reads : (r : Result V Asn1DerError) → IfOk r (λ v. ReadsBy (option_map field_rule (option_map (ordered_rule a.sets.last) rule)) a c) → IfOk r (λ v. IsUnordered a → ReadsBy (option_map field_rule rule) a c)
+  field_member_reads (Ok v) h = λ i. field_unordered_reads_by rule a c i.order h
+  field_member_reads (Err e) h = tt
+
+  pub field_member_refuses : (r : Result V Asn1DerError) → IfErr r (RefusesBy (option_map field_rule (option_map (ordered_rule a.sets.last) rule)) a c) → IfErr r (λ e. IsUnordered a → RefusesBy (option_map field_rule rule) a c e)
+  field_member_refuses (Ok v) h = tt
+  field_member_refuses (Err e) h = λ i. field_unordered_refuses_by rule a c e i.order h
+
+-- all that one asks for
+pub ruleset field_members = (field_member_reads, field_member_refuses)

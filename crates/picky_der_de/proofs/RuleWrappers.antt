@@ -1,5 +1,6 @@
 -- Values in wrappers are read by their rules.
 use Rattle.std.proofs.Common.{◌≡◌, ℕ, zero, suc, ◌+◌, ◌-◌, ◌<◌, ◌≤◌, ◌^◌, Bool, true, false, ◌==◌, List, [], ◌∷◌, ◌++◌, length, take, drop, Option, Some, None, Ok, Err, if◌then◌else◌, refl, sym, ◌∙◌, ap, subst, arith, length-append, append_assoc, ne_eqb, take-append-drop}
+use Rattle.std.specs.Option.{option_map}
 use Rattle.std.proofs.lemmas.Bool.Decides.{nat_tests}
 use Rattle.picky_der_core.specs.declared.error.Asn1DerError.{Asn1DerError}
 use Rattle.picky_der_core.specs.declared.error.Asn1DerError.TheVariants.{TruncatedData, InvalidData, UnsupportedValue}
@@ -15,7 +16,7 @@ use Rattle.picky_der_de.specs.Reading.{IsJustRefused}
 use Rattle.picky_der_de.specs.Ends.{EnclosingEnd, innermost, with_outer_end, Closes, RefusesClose}
 use Rattle.picky_der_de.specs.Wrappers.{implicit_tag_of, unused_bits_refusal, refusal_after, opening_refusal, OpensWrapper, RefusesOpening, wrapper_opening}
 use Rattle.picky_der_de.specs.Outcomes.{Spot, Outcome, Rule, before_past, after_unused_bits, opening_outcome, opened, wrapper_spot, filled, in_wrapper, wrapped_rule}
-use Rattle.picky_der_de.specs.Ruled.{spot_of, IsReadBy, AreReadBy, IsRefusedBy, AreRefusedBy}
+use Rattle.picky_der_de.specs.Ruled.{spot_of, IsReadBy, AreReadBy, IsRefusedBy, AreRefusedBy, ReadsBy, RefusesBy}
 use Rattle.picky_der_de.proofs.Steps.{judged_after}
 use Rattle.picky_der_de.proofs.Refusals.{front_consumed}
 use Rattle.picky_der_de.proofs.KnownBytes.{front_of}
@@ -163,3 +164,22 @@ wrapped_read inner {w} {a} {b} {l} {d} {outer} {closed} o r t c bs k =
       is = ap (in_wrapper w inner) p.is ∙ ap (filled b.until_end p.rest) v.is ∙ last;
       input = ap (λ (s : State). s.input) c.same ∙ v.known;
     }
+
+-- ---- values of types that may have a rule
+
+pub wrapped_unopened_by : (inner : Option Rule) {w : Wrapper} {a c : State} {e : Asn1DerError} → RefusesOpening w a c e → RefusesBy (option_map (wrapped_rule w) inner) a c e
+wrapped_unopened_by None r = tt
+wrapped_unopened_by (Some inner) r = wrapped_unopened inner r
+
+module _ {w : Wrapper} {a b : State} {outer : EnclosingEnd} where
+  pub wrapped_refuses_by : (inner : Option Rule) (c : State) (e : Asn1DerError) → OpensWrapper w a b outer → RefusesBy inner b c e → RefusesBy (option_map (wrapped_rule w) inner) a c e
+  wrapped_refuses_by None c e o r = tt
+  wrapped_refuses_by (Some inner) c e o r = wrapped_refused inner o r
+
+  pub wrapped_unfilled_by : (inner : Option Rule) {l c : State} {bytes : List ℕ} {e : Asn1DerError} → OpensWrapper w a b outer → ReadsBy inner b l → Consumed b l bytes → RefusesClose l c e → RefusesBy (option_map (wrapped_rule w) inner) a c e
+  wrapped_unfilled_by None o r t h = tt
+  wrapped_unfilled_by (Some inner) o r t h = wrapped_unfilled inner o r t h
+
+  pub wrapped_reads_by : (inner : Option Rule) {l d : State} {closed : EnclosingEnd} {bytes : List ℕ} → OpensWrapper w a b outer → ReadsBy inner b l → Consumed b l bytes → Closes closed l d → ReadsBy (option_map (wrapped_rule w) inner) a d
+  wrapped_reads_by None o r t c = tt
+  wrapped_reads_by (Some inner) o r t c = wrapped_read inner o r t c

@@ -1,5 +1,6 @@
 -- The facts of choices: of the values of alternatives.
-use Rattle.std.specs.Prelude.{◌≡◌, Bool, true, ◌&&◌, ⊤}
+use Rattle.std.specs.Prelude.{◌≡◌, Bool, true, ◌&&◌, Option, Some, ⊤}
+use Rattle.std.specs.Option.{option_map}
 use Rattle.std.proofs.lemmas.Bool.{and_parts}
 use Rattle.picky_der_core.specs.Tree.{Tree}
 use Rattle.picky_der_core.specs.Readable.{IsReadable}
@@ -7,6 +8,7 @@ use Rattle.picky_der_core.specs.Shape.{Shape, Shapes, IsOneOf, AreDistinct, AreS
 use Rattle.picky_der_de.specs.declared.alternatives.OneOf.{OneOf}
 use Rattle.picky_der_de.specs.Firsts.{IsBegunBy}
 use Rattle.picky_der_de.specs.Choices.{chosen_of, equal_this_or_other, AreInjective, begins_this_or_other, this_or_other_has_shape, this_or_other_injective, choice_injective}
+use Rattle.picky_der_de.specs.Outcomes.{ChoiceRule, no_alternative, this_or_others, choice_rule}
 use Rattle.picky_der_de.specs.Facts.{Facts, Proved, is_lawful}
 
 -- what holds of values of alternatives, if the chosen ones mean these trees
@@ -22,12 +24,15 @@ pub record AreLawful {V : Type 0} (ss : Shapes) (chosen : V → Tree) (eq : V �
 -- It follows from the premise, that of the alternatives.
 pub record ChoiceFacts (V : Type 0) (ss : Shapes) (chosen : V → Tree) : Type 1 where
   pub eq : V → V → Bool
+  -- how they are read and refused, by the bytes alone, if each alternative says so
+  pub rule : Option ChoiceRule
   pub Premise : Type 0
   pub follows : Premise → AreLawful ss chosen eq
 
 abbrev pub no_choice_facts : {V : Type 0} (chosen : V → Tree) → (V → ⊥) → ChoiceFacts V Shapes.none chosen
 no_choice_facts chosen none = record {
   eq = λ v w. absurd (none v);
+  rule = Some no_alternative;
   Premise = ⊤;
   follows = λ o. record { begun = λ v. absurd (none v); has_shape = λ v. absurd (none v); injective = λ distinct v. absurd (none v); sound = tt };
 }
@@ -35,6 +40,7 @@ no_choice_facts chosen none = record {
 abbrev pub this_or_other_facts : {A B : Type 0} {s : Shape} {ss : Shapes} {chosen : B → Tree} → Facts A s → (means : A → Tree) (equal : A → A → Bool) → ChoiceFacts B ss chosen → ChoiceFacts (OneOf A B) (Shapes.more s ss) (chosen_of means chosen)
 this_or_other_facts {s = s} {ss = ss} {chosen = chosen} a means equal b = record {
   eq = equal_this_or_other equal b.eq;
+  rule = this_or_others (firsts s) a.rule b.rule;
   Premise = Proved a means equal × b.Premise;
   follows = λ o.
       let this = is_lawful a o.0 in
@@ -62,6 +68,7 @@ module _ {V P : Type 0} {ss : Shapes} {chosen : P → Tree} (c : ChoiceFacts P s
   choice_facts eq same = record {
     meaning = λ v. Tree.choice (chosen (parts v));
     eq = eq;
+    rule = option_map choice_rule c.rule;
     Premise = c.Premise;
     follows = λ o. let are = c.follows o in record {
       has_shape = λ v. are.has_shape (parts v);

@@ -1,5 +1,5 @@
 -- The facts of a type: the tree that each value means, and that the tree determines the value. They are one value, made of the facts of the parts.
-use Rattle.std.specs.Prelude.{◌≡◌, ℕ, ℤ, ◌^◌, List, Bool, true, nat_eq, nat_lt, encode_utf8, refl, ⊤}
+use Rattle.std.specs.Prelude.{◌≡◌, ℕ, ℤ, ◌^◌, List, Bool, true, nat_eq, nat_lt, encode_utf8, Option, None, Some, refl, ⊤}
 use Rattle.std.specs.Ordering.{int_eq}
 use Rattle.std.proofs.Common.{subst, ltb-true}
 use lib.Pointwise.{pointwise}
@@ -8,9 +8,11 @@ use mathlib.Core.Bool.{beq}
 use Rattle.picky_der_core.specs.Primitive.{Primitive, PrimitiveShape}
 use Rattle.picky_der_core.specs.Tree.{Tree}
 use Rattle.picky_der_core.specs.Shape.{Shape, IsSound, firsts}
+use Rattle.picky_der_core.specs.Refusal.{int_error}
 use Rattle.picky_der_core.specs.Integer.{int_tree, unsigned_tree}
 use Rattle.picky_der_core.specs.UnsignedTreeLaws.{unsigned_tree-is_of}
 use Rattle.picky_der_de.specs.Firsts.{IsBegunBy, unsigned_begun}
+use Rattle.picky_der_de.specs.Outcomes.{Rule, plain_rule, rule_of}
 use Rattle.picky_der_de.specs.InjectiveLaws.{IsInjective, HasShape, character_has_shape, boolean_injective, unsigned_injective, int_injective, bytes_injective, raw_injective, text_injective, character_injective}
 
 -- what holds of values of this shape that mean these trees
@@ -30,6 +32,8 @@ pub record Facts (V : Type 0) (s : Shape) : Type 1 where
   pub meaning : V → Tree
   -- the `==` of the type
   pub eq : V → V → Bool
+  -- how they are read and refused, by the bytes alone, if the type says so
+  pub rule : Option Rule
   pub Premise : Type 0
   pub follows : Premise → IsLawful s meaning eq
 
@@ -49,10 +53,14 @@ module _ {V : Type 0} {s : Shape} (facts : Facts V s) {meaning : V → Tree} {eq
 
 module _ {V : Type 0} {s : Shape} where
   abbrev pub plain_facts : (meaning : V → Tree) (eq : V → V → Bool) → IsLawful s meaning eq → Facts V s
-  plain_facts meaning eq is = record { meaning = meaning; eq = eq; Premise = ⊤; follows = λ o. is }
+  plain_facts meaning eq is = record { meaning = meaning; eq = eq; rule = None; Premise = ⊤; follows = λ o. is }
+
+  -- with this rule, or without one
+  abbrev pub ruled : Option Rule → Facts V s → Facts V s
+  ruled rule facts = record { meaning = facts.meaning; eq = facts.eq; rule = rule; Premise = facts.Premise; follows = facts.follows }
 
 abbrev pub boolean_facts : Facts Bool (Shape.primitive PrimitiveShape.boolean)
-boolean_facts = plain_facts (λ v. Tree.primitive (Primitive.boolean v)) beq (record { has_shape = λ v r. tt; injective = λ x y p q r e. boolean_injective x y e; sound = tt; begun = λ v b h. h })
+boolean_facts = ruled (Some (rule_of (Shape.primitive PrimitiveShape.boolean))) (plain_facts (λ v. Tree.primitive (Primitive.boolean v)) beq (record { has_shape = λ v r. tt; injective = λ x y p q r e. boolean_injective x y e; sound = tt; begun = λ v b h. h }))
 
 -- a type whose values have a number each, up to a greatest one
 abbrev pub number_facts : {V : Type 0} (most : ℕ) → nat_lt most (2 ^ 128) ≡ true → (number : V → ℕ) (eq : V → V → Bool) → ((x y : V) → nat_eq (number x) (number y) ≡ true → eq x y ≡ true) → Facts V (Shape.primitive (PrimitiveShape.unsigned most))
@@ -64,21 +72,21 @@ number_facts most small number eq same = plain_facts (λ v. unsigned_tree most (
 })
 
 abbrev pub unsigned_facts : (most : ℕ) → nat_lt most (2 ^ 128) ≡ true → Facts ℕ (Shape.primitive (PrimitiveShape.unsigned most))
-unsigned_facts most small = number_facts most small (λ n. n) nat_eq (λ x y h. h)
+unsigned_facts most small = ruled (Some (rule_of (Shape.primitive (PrimitiveShape.unsigned most)))) (number_facts most small (λ n. n) nat_eq (λ x y h. h))
 
 -- an integer type, by the numbers that it has
 abbrev pub int_facts : (fits : ℤ → Bool) → Facts ℤ (Shape.primitive (PrimitiveShape.bytes 0x02))
-int_facts fits = plain_facts (int_tree fits) int_eq (record { has_shape = λ z r. (refl, r.1); injective = λ x y p q r e. int_injective fits x y e; sound = tt; begun = λ v b h. h })
+int_facts fits = ruled (Some (plain_rule 0x02 (int_error fits))) (plain_facts (int_tree fits) int_eq (record { has_shape = λ z r. (refl, r.1); injective = λ x y p q r e. int_injective fits x y e; sound = tt; begun = λ v b h. h }))
 
 abbrev pub null_facts : {V : Type 0} → Facts V (Shape.primitive PrimitiveShape.null)
-null_facts = plain_facts (λ v. Tree.primitive Primitive.null) (λ x y. true) (record { has_shape = λ v r. tt; injective = λ x y p q r e. refl; sound = tt; begun = λ v b h. h })
+null_facts = ruled (Some (rule_of (Shape.primitive PrimitiveShape.null))) (plain_facts (λ v. Tree.primitive Primitive.null) (λ x y. true) (record { has_shape = λ v r. tt; injective = λ x y p q r e. refl; sound = tt; begun = λ v b h. h }))
 
 abbrev pub character_facts : Facts ℕ (Shape.primitive PrimitiveShape.character)
-character_facts = plain_facts (λ v. Tree.primitive (Primitive.text (encode_utf8 v))) nat_eq (record { has_shape = character_has_shape; injective = λ x y p q r e. character_injective x y e; sound = tt; begun = λ v b h. h })
+character_facts = ruled (Some (rule_of (Shape.primitive PrimitiveShape.character))) (plain_facts (λ v. Tree.primitive (Primitive.text (encode_utf8 v))) nat_eq (record { has_shape = character_has_shape; injective = λ x y p q r e. character_injective x y e; sound = tt; begun = λ v b h. h }))
 
 module _ {V : Type 0} (bytes : V → List ℕ) where
   abbrev pub text_facts : Facts V (Shape.primitive PrimitiveShape.text)
-  text_facts = plain_facts (λ v. Tree.primitive (Primitive.text (bytes v))) (λ x y. pointwise eqb (bytes x) (bytes y)) (record { has_shape = λ v r. r; injective = λ x y p q r e. text_injective (bytes x) (bytes y) e; sound = tt; begun = λ v b h. h })
+  text_facts = ruled (Some (rule_of (Shape.primitive PrimitiveShape.text))) (plain_facts (λ v. Tree.primitive (Primitive.text (bytes v))) (λ x y. pointwise eqb (bytes x) (bytes y)) (record { has_shape = λ v r. r; injective = λ x y p q r e. text_injective (bytes x) (bytes y) e; sound = tt; begun = λ v b h. h }))
 
   abbrev pub raw_facts : Facts V Shape.raw
   raw_facts = plain_facts (λ v. Tree.raw (bytes v)) (λ x y. pointwise eqb (bytes x) (bytes y)) (record { has_shape = λ v r. r.1; injective = λ x y p q r e. raw_injective (bytes x) (bytes y) e; sound = tt; begun = λ v b h. h })
@@ -94,12 +102,12 @@ module _ {V A : Type 0} {s : Shape} (part : V → A) where
 
 -- whose trees they mean
 abbrev pub facts_as : {V A : Type 0} {s : Shape} → Facts A s → (part : V → A) → Facts V s
-facts_as a part = record { meaning = λ v. a.meaning (part v); eq = λ x y. a.eq (part x) (part y); Premise = a.Premise; follows = λ o. of_part part (a.follows o) }
+facts_as a part = record { meaning = λ v. a.meaning (part v); eq = λ x y. a.eq (part x) (part y); rule = None; Premise = a.Premise; follows = λ o. of_part part (a.follows o) }
 
 -- by what the type, a parameter, says of itself
 module _ {A : Type 0} {s : Shape} (a : Facts A s) (means : A → Tree) (equal : A → A → Bool) where
-  abbrev pub facts_by : {V : Type 0} {u : Shape} (meaning : V → Tree) (eq : V → V → Bool) → (IsLawful s means equal → IsLawful u meaning eq) → Facts V u
-  facts_by meaning eq so = record { meaning = meaning; eq = eq; Premise = Proved a means equal; follows = λ t. so (is_lawful a t) }
+  abbrev pub facts_by : {V : Type 0} {u : Shape} → Option Rule → (meaning : V → Tree) (eq : V → V → Bool) → (IsLawful s means equal → IsLawful u meaning eq) → Facts V u
+  facts_by rule meaning eq so = record { meaning = meaning; eq = eq; rule = rule; Premise = Proved a means equal; follows = λ t. so (is_lawful a t) }
 
   abbrev pub part_facts : {V : Type 0} (part : V → A) → Facts V s
-  part_facts part = facts_by (λ v. means (part v)) (λ x y. equal (part x) (part y)) (of_part part)
+  part_facts part = facts_by None (λ v. means (part v)) (λ x y. equal (part x) (part y)) (of_part part)

@@ -1,19 +1,20 @@
 -- Members one after another, of which some may be absent: their facts, and by which tests two are equal.
-use Rattle.std.specs.Prelude.{◌≡◌, List, [], ◌∷◌, ℕ, Bool, true, false, not, ◌&&◌, ◌||◌, Option, Some, refl, ⊤}
+use Rattle.std.specs.Prelude.{◌≡◌, List, [], ◌∷◌, ℕ, Bool, true, false, not, ◌&&◌, ◌||◌, Option, Some, None, refl, ⊤}
 use Rattle.std.specs.List.{AllByRecursion}
-use Rattle.std.specs.Option.{option_eq}
+use Rattle.std.specs.Option.{option_eq, option_map}
 use Rattle.std.proofs.Common.{subst}
 use Rattle.std.proofs.lemmas.Bool.{and_parts}
 use lib.Pointwise.{pointwise}
 use lib.Dec.{eqb}
 use Rattle.picky_der_core.specs.Wrapper.{can_vanish}
 use Rattle.picky_der_core.specs.Tree.{ListKind, Tree, Trees}
-use Rattle.picky_der_core.specs.Shape.{Shape, Shapes, Layout}
+use Rattle.picky_der_core.specs.Shape.{Shape, Shapes, Layout, firsts}
 use Rattle.picky_der_ser.specs.Meaning.{maybe_more, unless_default}
 use Rattle.picky_der_ser.specs.Defaults.{IsOne}
 use Rattle.picky_der_de.specs.InjectiveLaws.{list_members, both}
 use Rattle.picky_der_de.specs.Layouts.{Presence, always, perhaps, layout_with}
 use Rattle.picky_der_de.specs.LayoutLaws.{IsLayoutMember, AreLayoutMembers, same_unless_default, no_layout_members, after, lead}
+use Rattle.picky_der_de.specs.Outcomes.{Rule, field_rule, optional_rule, fields_rule, one_before}
 use Rattle.picky_der_de.specs.Facts.{Facts, Proved, is_lawful}
 use Rattle.picky_der_de.specs.FirstTests.{are_members_distinct, members_distinct}
 use Rattle.picky_der_de.specs.OtherLaws.{others_of, are_outside, others_are}
@@ -61,6 +62,8 @@ pub record MemberFacts (V : Type 0) {W : Type 0} (presence : Presence) (s : Shap
   pub eq : V → V → Bool
   -- whether one that is always there can't be absent, as one with no encoding is
   pub there : Bool
+  -- how it is read and refused, by the bytes alone, if its type says so
+  pub rule : Option Rule
   pub Premise : Type 0
   pub follows : Premise → (prepend : V → Trees → Trees) → ((v : V) (ts : Trees) → prepend v ts ≡ maybe_more meaning (item v) ts) → IsLayoutMember presence prepend eq meaning s equal item
 
@@ -78,6 +81,7 @@ module _ {A : Type 0} {s : Shape} (a : Facts A s) (means : A → Tree) (equal : 
   always_facts = record {
     eq = equal;
     there = is_there s;
+    rule = option_map field_rule a.rule;
     Premise = Proved a means equal;
     follows = λ t prepend prepends. record { prepends = prepends; there = λ v. tt; equal = λ x y h. h; is = is_lawful a t };
   }
@@ -87,6 +91,7 @@ module _ {A : Type 0} {s : Shape} (a : Facts A s) (means : A → Tree) (equal : 
   element_facts part = record {
     eq = λ x y. equal (part x) (part y);
     there = true;
+    rule = option_map field_rule a.rule;
     Premise = Proved a means equal;
     follows = λ t prepend prepends. record { prepends = prepends; there = λ v. tt; equal = λ x y h. h; is = is_lawful a t };
   }
@@ -96,6 +101,7 @@ module _ {A : Type 0} {s : Shape} (a : Facts A s) (means : A → Tree) (equal : 
   perhaps_facts item = record {
     eq = λ x y. option_eq equal (item x) (item y);
     there = is_there s;
+    rule = option_map (optional_rule (firsts s)) a.rule;
     Premise = Proved a means equal;
     follows = λ t prepend prepends. record { prepends = prepends; there = λ v. tt; equal = λ x y h. h; is = is_lawful a t };
   }
@@ -105,6 +111,7 @@ module _ {A : Type 0} {s : Shape} (a : Facts A s) (means : A → Tree) (equal : 
   default_facts left_out same one value = record {
     eq = λ x y. equal (value x) (value y);
     there = is_there s;
+    rule = None;
     Premise = Proved a means equal × ((x y : A) → same x y ≡ true → equal x y ≡ true);
     follows = λ o prepend prepends. record {
       prepends = prepends;
@@ -122,6 +129,8 @@ pub record MembersFacts (P : Type 0) (l : Layout) : Type 1 where
   pub tests : P → P → List Bool
   -- whether each member that is always there can't be absent
   pub there : Bool
+  -- the rule of each, if all have one
+  pub rules : Option (List Rule)
   pub Premise : Type 0
   -- two lists of readable members with the same trees pass them, where the first byte distinguishes missing members
   pub follows : Premise → AreLayoutMembers members l (λ x y. AreTrue (tests x y))
@@ -135,7 +144,7 @@ pub layout_members : {P : Type 0} {l : Layout} (facts : MembersFacts P l) {membe
 layout_members {P} {l} facts t = subst (λ (m : P → Trees). AreLayoutMembers m l (λ x y. AreTrue (facts.tests x y))) t.means (facts.follows t.premise)
 
 abbrev pub none_facts : {P : Type 0} → MembersFacts P Layout.empty
-none_facts = record { members = λ x. Trees.none; tests = λ x y. []; there = true; Premise = ⊤; follows = λ o. no_layout_members }
+none_facts = record { members = λ x. Trees.none; tests = λ x y. []; there = true; rules = Some []; Premise = ⊤; follows = λ o. no_layout_members }
 
 module _ {P : Type 0} {l : Layout} where
   -- one member before others
@@ -144,6 +153,7 @@ module _ {P : Type 0} {l : Layout} where
     members = λ x. prepend (first x) (others.members x);
     tests = λ x y. a.eq (first x) (first y) ∷ others.tests x y;
     there = a.there && others.there;
+    rules = one_before a.rule others.rules;
     Premise = ProvedMember a prepend × others.Premise;
     follows = λ o. lead first (layout_member a o.0) (others.follows o.1);
   }
@@ -157,6 +167,7 @@ module _ {P : Type 0} {l : Layout} where
     members = λ x. members (part x);
     tests = λ x y. facts.tests (part x) (part y);
     there = facts.there;
+    rules = facts.rules;
     Premise = ProvedMembers facts members;
     follows = λ t. after part (layout_members facts t);
   }
@@ -169,6 +180,7 @@ module _ {P E : Type 0} (bytes : E → List ℕ) (excluded : List ℕ) (elements
     members = λ p. others_of bytes (elements p);
     tests = λ x y. pointwise (λ a b. pointwise eqb (bytes a) (bytes b)) (elements x) (elements y) ∷ [];
     there = true;
+    rules = None;
     Premise = ⊤;
     follows = λ o. others_are bytes excluded elements outside;
   }
@@ -192,6 +204,7 @@ module _ {P S : Type 0} {l : Layout} (facts : MembersFacts P l) where
   sequence_facts distinct parts eq same = record {
     meaning = sequence_of facts.members parts;
     eq = eq;
+    rule = option_map (fields_rule ListKind.sequence) facts.rules;
     Premise = facts.Premise;
     follows = λ o. let are = facts.follows o in record {
       has_shape = λ v r. (refl, are.has_layout (parts v) r.1);

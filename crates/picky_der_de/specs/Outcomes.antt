@@ -1,5 +1,6 @@
 -- How a value is read, by its bytes alone: which bytes are left after it, or exactly how it is refused.
 use Rattle.std.specs.Prelude.{◌≡◌, ℕ, zero, suc, ◌+◌, ◌-◌, Bool, true, false, List, [], ◌∷◌, ◌++◌, length, take, drop, nat_lt, ◌==◌, Option, Some, None, Result, Ok, Err, if◌then◌else◌, refl}
+use Rattle.std.specs.Option.{option_map}
 use Rattle.picky_der_core.specs.declared.error.Asn1DerError.{Asn1DerError}
 use Rattle.picky_der_core.specs.declared.error.Asn1DerError.TheVariants.{TruncatedData, InvalidData, UnsupportedValue}
 use Rattle.picky_der_core.specs.declared.asn1.wrapper.Wrapper.{Wrapper}
@@ -240,6 +241,20 @@ choice_by None alternatives at bs (b ∷ before) = alternatives b at bs
 -- directly under an implicit tag no byte distinguishes them
 unfoldable pub choice_rule : ChoiceRule → Rule
 choice_rule alternatives at bs = choice_by at.implicit_tag alternatives at bs (take at.ahead bs)
+
+-- ---- types of parts, if each part has a rule
+
+abbrev pub wrap_rule_if : Option Wrapper → Option Rule → Option Rule
+wrap_rule_if None inner = inner
+wrap_rule_if (Some w) inner = option_map (wrapped_rule w) inner
+
+abbrev pub one_before : Option Rule → Option (List Rule) → Option (List Rule)
+one_before (Some member) (Some others) = Some (member ∷ others)
+one_before _ _ = None
+
+abbrev pub this_or_others : List ℕ → Option Rule → Option ChoiceRule → Option ChoiceRule
+this_or_others begins (Some this) (Some others) = Some (alternative begins this others)
+this_or_others begins _ _ = None
 
 -- ---- by the shape
 

@@ -1,9 +1,9 @@
 -- What a deserializer does that reads by a rule.
-use Rattle.std.specs.Prelude.{◌≡◌, ◌≤◌, Bool, false, List, ⊤, Option, None, Some, Result, Ok, Err, ℕ}
+use Rattle.std.specs.Prelude.{◌≡◌, ◌≤◌, Bool, false, List, ⊤, Option, None, Some, Ok, Err, ℕ}
 use Rattle.picky_der_core.specs.declared.error.Asn1DerError.{Asn1DerError}
 use Rattle.picky_der_de.specs.State.{State}
 use Rattle.picky_der_de.specs.Steps.{IsJudged, is_hard}
-use Rattle.picky_der_de.specs.Outcomes.{Spot, Rule, ContentRule, members_rule, in_turn}
+use Rattle.picky_der_de.specs.Outcomes.{Spot, Rule, ContentRule, ChoiceRule, members_rule, in_turn}
 
 -- the place of the next value
 abbrev pub spot_of : State → Spot
@@ -27,11 +27,25 @@ pub record IsRefusedBy (rule : Rule) (old new : State) (e : Asn1DerError) (bs : 
 abbrev pub AreRefusedBy : Rule → State → State → Asn1DerError → Type 0
 AreRefusedBy rule old new e = IsJudged old new e → (bs : List ℕ) → old.input ≡ Some bs → IsRefusedBy rule old new e bs
 
--- a read, by the rule if one is said
-abbrev pub GoesBy : {V : Type 0} → Option Rule → State → Result V Asn1DerError → State → Type 0
-GoesBy None old r new = ⊤
-GoesBy (Some rule) old (Ok v) new = AreReadBy rule old new
-GoesBy (Some rule) old (Err e) new = AreRefusedBy rule old new e
+-- by the rule, if one is said
+
+abbrev pub ReadsBy : Option Rule → State → State → Type 0
+ReadsBy None old new = ⊤
+ReadsBy (Some rule) old new = AreReadBy rule old new
+
+abbrev pub RefusesBy : Option Rule → State → State → Asn1DerError → Type 0
+RefusesBy None old new e = ⊤
+RefusesBy (Some rule) old new e = AreRefusedBy rule old new e
+
+-- an alternative, by the byte that is next
+
+abbrev pub ReadsChosenBy : Option ChoiceRule → ℕ → State → State → Type 0
+ReadsChosenBy None tag old new = ⊤
+ReadsChosenBy (Some alternatives) tag old new = AreReadBy (alternatives tag) old new
+
+abbrev pub RefusesChosenBy : Option ChoiceRule → ℕ → State → State → Asn1DerError → Type 0
+RefusesChosenBy None tag old new e = ⊤
+RefusesChosenBy (Some alternatives) tag old new e = AreRefusedBy (alternatives tag) old new e
 
 -- ---- contents of lists
 
@@ -50,6 +64,14 @@ AreAllReadBy member old new = IsInList old → (most : ℕ) → old.until_end �
 
 abbrev pub AreAllRefusedBy : Rule → State → State → Asn1DerError → Type 0
 AreAllRefusedBy member old new e = IsInList old → (most : ℕ) → old.until_end ≤ most → AreRefusedBy (content_as (members_rule member most old.sets.last)) old new e
+
+abbrev pub ReadsAllBy : Option Rule → State → State → Type 0
+ReadsAllBy None old new = ⊤
+ReadsAllBy (Some member) old new = AreAllReadBy member old new
+
+abbrev pub RefusesAllBy : Option Rule → State → State → Asn1DerError → Type 0
+RefusesAllBy None old new e = ⊤
+RefusesAllBy (Some member) old new e = AreAllRefusedBy member old new e
 
 -- ---- members one after another, each by its rule
 
@@ -75,3 +97,13 @@ AreReadInTurn members old new = IsUnordered old → (bs : List ℕ) → old.inpu
 
 abbrev pub AreUnreadInTurn : List Rule → State → State → Asn1DerError → Type 0
 AreUnreadInTurn members old new e = IsUnordered old → IsJudged old new e → (bs : List ℕ) → old.input ≡ Some bs → AreRefusedInTurn members old new e bs
+
+-- each by its rule, if these are said
+
+abbrev pub ReadsInTurnBy : Option (List Rule) → State → State → Type 0
+ReadsInTurnBy None old new = ⊤
+ReadsInTurnBy (Some members) old new = AreReadInTurn members old new
+
+abbrev pub RefusesInTurnBy : Option (List Rule) → State → State → Asn1DerError → Type 0
+RefusesInTurnBy None old new e = ⊤
+RefusesInTurnBy (Some members) old new e = AreUnreadInTurn members old new e

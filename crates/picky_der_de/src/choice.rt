@@ -4,6 +4,9 @@ ghost use Rattle.picky_der_core.specs.Shape.{Shape};
 ghost use Rattle.picky_der_core.specs.Tree.{Tree};
 ghost use Rattle.picky_der_de.specs.Reading.{Reads, Refuses};
 ghost use Rattle.picky_der_de.specs.ChoiceFacts.{are_distinct};
+ghost use Rattle.std.specs.Option.{option_map};
+ghost use Rattle.picky_der_de.specs.Outcomes.{choice_rule};
+ghost use Rattle.picky_der_de.specs.Ruled.{ReadsBy, RefusesBy};
 
 use crate::{Alternatives, Deserializer};
 use picky_der_core::Result;
@@ -34,6 +37,10 @@ pub fn deserialize_choice_as<T: Choice, R: ReadExt>(de: &mut Deserializer<R>) ->
     ensures err { IfErr result (Refuses
         (λ value. Tree.choice (T.Alternatives.chosen (T.parts value)))
         (Shape.choice T.Alternatives.shapes) de.old de.new) }
+    ensures read_by { IfOk result (λ _. ReadsBy
+        (option_map choice_rule T.Alternatives.facts.rule) de.old de.new) }
+    ensures refused_by { IfErr result (RefusesBy
+        (option_map choice_rule T.Alternatives.facts.rule) de.old de.new) }
 {
     let tag = match de.deserialize_enum("", &[]) {
         Ok(tag) => tag,

@@ -2,6 +2,7 @@
 ghost use Rattle.std.specs.Prelude.{IfOk, IfErr};
 ghost use Rattle.picky_der_core.specs.Shape.{Shape};
 ghost use Rattle.picky_der_de.specs.Reading.{Reads, Refuses};
+ghost use Rattle.picky_der_de.specs.Ruled.{ReadsBy, RefusesBy};
 ghost use Rattle.picky_der_de.specs.Facts.{Facts, Proved};
 
 use crate::Deserializer;
@@ -24,9 +25,13 @@ pub trait Deserialize: Serialize + PartialEq + Drop + Sized {
     ///
     /// If the error is no I/O error and not `OutOfMemory`, no value of the type is there. Unless it is `TruncatedData`, no
     /// bytes after the consumed ones could change that.
+    ///
+    /// If the type has a rule, known bytes are read and refused exactly by it: with its error, and with its bytes left.
     fn deserialize<R: ReadExt>(de: &mut Deserializer<R>) -> Result<Self>
         ensures ok { IfOk result (λ value. Reads shape de.old de.new (Self.meaning value)) }
-        ensures err { IfErr result (Refuses Self.meaning shape de.old de.new) };
+        ensures err { IfErr result (Refuses Self.meaning shape de.old de.new) }
+        ensures read_by { IfOk result (λ _. ReadsBy facts.rule de.old de.new) }
+        ensures refused_by { IfErr result (RefusesBy facts.rule de.old de.new) };
 
     // The premise, and that the facts are of what the values mean to `Serialize`, and of their `==`.
     ghost proved: { Proved facts Self.meaning Self.eq };

@@ -1,7 +1,7 @@
 //! The members of a SEQUENCE, as they are read: one, which is always there or may be absent, all of them, and structs of them.
 ghost use Rattle.std.specs.Prelude.{◌≡◌, Bool, false, Option, Some, IfOk, IfErr, IfSome, IfNone, true, None};
 ghost use Rattle.picky_der_core.specs.Shape.{Shape, Layout};
-ghost use Rattle.picky_der_core.specs.Tree.{Tree};
+ghost use Rattle.picky_der_core.specs.Tree.{ListKind, Tree};
 ghost use Rattle.picky_der_ser.specs.Meaning.{unless_default};
 ghost use Rattle.picky_der_de.specs.Members.{ReadsMember};
 ghost use Rattle.picky_der_de.specs.Layouts.{Presence, always, perhaps, Lacks, RefusesLayoutMember, ReadsLayout, RefusesLayout};
@@ -9,6 +9,9 @@ ghost use Rattle.picky_der_de.specs.LayoutLaws.{IsLeftOut, none_left_out, defaul
 ghost use Rattle.picky_der_de.specs.MembersFacts.{MemberFacts, ProvedMember, always_facts, element_facts, perhaps_facts, default_facts, MembersFacts, ProvedMembers, none_facts, sequence_of, sequence_shape};
 ghost use Rattle.picky_der_de.specs.Reading.{Reads, Refuses};
 ghost use Rattle.picky_der_de.specs.FirstTests.{are_members_distinct};
+ghost use Rattle.std.specs.Option.{option_map};
+ghost use Rattle.picky_der_de.specs.Outcomes.{fields_rule};
+ghost use Rattle.picky_der_de.specs.Ruled.{IsUnordered, ReadsBy, RefusesBy, ReadsInTurnBy, RefusesInTurnBy};
 
 use crate::{Begins, Deserialize, Deserializer, Sequence};
 use picky_der_core::Result;
@@ -55,7 +58,11 @@ pub trait DeserializeMember: SerializeMember + PartialEq + Drop + Sized {
         ensures none { IfOk result (λ member. IfNone (item member)
             (Lacks shape (state_of sequence.old) (state_of sequence.new))) }
         ensures err { IfErr result (RefusesLayoutMember presence item_meaning left_out shape
-            (state_of sequence.old) (state_of sequence.new)) };
+            (state_of sequence.old) (state_of sequence.new)) }
+        ensures read_by { IfOk result (λ _. IsUnordered (state_of sequence.old)
+            → ReadsBy facts.rule (state_of sequence.old) (state_of sequence.new)) }
+        ensures refused_by { IfErr result (λ e. IsUnordered (state_of sequence.old)
+            → RefusesBy facts.rule (state_of sequence.old) (state_of sequence.new) e) };
 
     // The tree determines which values are never written.
     ghost distinguished: { IsLeftOut item_meaning item left_out };
@@ -81,6 +88,7 @@ impl<T: Deserialize> DeserializeMember for T {
 
     ghost facts = { always_facts T.facts T.meaning T.eq };
 
+    #[tactic(auto, using(crate::proofs::RuleMembers::field_members))]
     fn deserialize_member<R: ReadExt>(sequence: &mut Sequence<'_, R>) -> Result<T> {
         sequence.next_field::<T>()
     }
@@ -195,6 +203,10 @@ pub trait DeserializeMembers: SerializeMembers + PartialEq + Drop + Sized {
         ensures ok { IfOk result (λ it. ReadsLayout layout (state_of sequence.old)
             (state_of sequence.new) (Self.members it)) }
         ensures err { IfErr result (RefusesLayout Self.members layout (state_of sequence.old)
+            (state_of sequence.new)) }
+        ensures read_by { IfOk result (λ _. ReadsInTurnBy facts.rules (state_of sequence.old)
+            (state_of sequence.new)) }
+        ensures refused_by { IfErr result (RefusesInTurnBy facts.rules (state_of sequence.old)
             (state_of sequence.new)) };
 
     // The premise, and that the members mean the same to `SerializeMembers`.
@@ -241,6 +253,10 @@ pub fn deserialize_struct_as<T: Struct, R: ReadExt>(de: &mut Deserializer<R>) ->
         (sequence_of T.Members.members T.parts value)) }
     ensures err { IfErr result (Refuses (sequence_of T.Members.members T.parts)
         (sequence_shape T.Members.layout) de.old de.new) }
+    ensures read_by { IfOk result (λ _. ReadsBy
+        (option_map (fields_rule ListKind.sequence) T.Members.facts.rules) de.old de.new) }
+    ensures refused_by { IfErr result (RefusesBy
+        (option_map (fields_rule ListKind.sequence) T.Members.facts.rules) de.old de.new) }
 {
     let mut sequence = de.begin_list(Tag::SEQUENCE)?;
     let members = T::Members::deserialize_members(&mut sequence)?;

@@ -43,6 +43,10 @@ impl<'a, R: ReadExt> Sequence<'a, R> {
     ghost use Rattle.picky_der_de.specs.Members.{ReadsMember, RefusesMember, HasNoMore, ReadsAll, RefusesAll};
     ghost use Rattle.picky_der_ser.specs.Meaning.{unless_default};
     ghost use Rattle.picky_der_de.specs.Layouts.{Lacks, RefusesOptional, RefusesDefault};
+    ghost use Rattle.std.specs.Option.{option_map};
+    ghost use Rattle.picky_der_core.specs.Shape.{firsts};
+    ghost use Rattle.picky_der_de.specs.Outcomes.{field_rule, optional_rule, ordered_rule};
+    ghost use Rattle.picky_der_de.specs.Ruled.{ReadsBy, RefusesBy, ReadsAllBy, RefusesAllBy};
 
     /// Reads the next `len` bytes as members, without a header. Directly under an implicit tag the members have their own
     /// headers, and that tag's end is the one around them. No order of members is tested.
@@ -93,6 +97,12 @@ impl<'a, R: ReadExt> Sequence<'a, R> {
         ensures at_end { (state_of self.old).failed ≡ None → (state_of self.old).until_end ≡ 0
             → (result ≡ Err Asn1DerError.TruncatedData)
             × ((state_of self.new) ≡ failed_with (state_of self.old) Asn1DerError.TruncatedData) }
+        ensures read_by { IfOk result (λ _. ReadsBy (option_map field_rule
+            (option_map (ordered_rule (state_of self.old).sets.last) T.facts.rule))
+            (state_of self.old) (state_of self.new)) }
+        ensures refused_by { IfErr result (RefusesBy (option_map field_rule
+            (option_map (ordered_rule (state_of self.old).sets.last) T.facts.rule))
+            (state_of self.old) (state_of self.new)) }
     {
         if self.de.is_at_end()? {
             return Err(self.de.fail(Asn1DerError::TruncatedData));
@@ -110,6 +120,12 @@ impl<'a, R: ReadExt> Sequence<'a, R> {
             (state_of self.new) (T.meaning value)) }
         ensures err { IfErr result (RefusesMember T.meaning T.shape (state_of self.old)
             (state_of self.new)) }
+        ensures read_by { IfOk result (λ _. ReadsBy
+            (option_map (ordered_rule (state_of self.old).sets.last) T.facts.rule)
+            (state_of self.old) (state_of self.new)) }
+        ensures refused_by { IfErr result (RefusesBy
+            (option_map (ordered_rule (state_of self.old).sets.last) T.facts.rule)
+            (state_of self.old) (state_of self.new)) }
     {
         self.de.next_member()
     }
@@ -151,6 +167,12 @@ impl<'a, R: ReadExt> Sequence<'a, R> {
             (Lacks T.shape (state_of self.old) (state_of self.new))) }
         ensures err { IfErr result (RefusesOptional T.meaning T.shape (state_of self.old)
             (state_of self.new)) }
+        ensures read_by { IfOk result (λ _. ReadsBy (option_map (optional_rule (firsts T.shape))
+            (option_map (ordered_rule (state_of self.old).sets.last) T.facts.rule))
+            (state_of self.old) (state_of self.new)) }
+        ensures refused_by { IfErr result (RefusesBy (option_map (optional_rule (firsts T.shape))
+            (option_map (ordered_rule (state_of self.old).sets.last) T.facts.rule))
+            (state_of self.old) (state_of self.new)) }
     {
         match self.next_tag() {
             Ok(Some(tag)) => {
@@ -199,6 +221,10 @@ impl<'a, R: ReadExt> Sequence<'a, R> {
         ensures ok { IfOk result (λ values. ReadsAll T.meaning T.shape (state_of self.old)
             (state_of self.new) values.items) }
         ensures err { IfErr result (RefusesAll T.meaning T.shape (state_of self.old)
+            (state_of self.new)) }
+        ensures read_by { IfOk result (λ _. ReadsAllBy T.facts.rule (state_of self.old)
+            (state_of self.new)) }
+        ensures refused_by { IfErr result (RefusesAllBy T.facts.rule (state_of self.old)
             (state_of self.new)) }
     {
         let mut values = Vec::new(self.de.alloc());
@@ -249,6 +275,9 @@ impl<R: ReadExt> Deserializer<R> {
     ghost use Rattle.picky_der_de.specs.Ends.{OpensList};
     ghost use Rattle.picky_der_de.specs.Lending.{LendsList};
     ghost use Rattle.picky_der_de.specs.Members.{RefusesUnordered};
+    ghost use Rattle.std.specs.Option.{option_map};
+    ghost use Rattle.picky_der_de.specs.Outcomes.{list_of_rule};
+    ghost use Rattle.picky_der_de.specs.Ruled.{ReadsBy, RefusesBy};
 
     /// Begins to read a sequence (X.690, 8.9 and 8.10). Directly under an implicit tag the header is that of the tag. The tag's
     /// end is a soft one then, until the sequence is closed.
@@ -333,6 +362,10 @@ impl<R: ReadExt> Deserializer<R> {
             self.new) }
         ensures order { tag ≡ 0x31 → IfErr result (RefusesUnordered T.meaning T.shape self.old
             self.new) }
+        ensures read_by { IfOk result (λ _. ReadsBy
+            (option_map (list_of_rule (list_kind tag)) T.facts.rule) self.old self.new) }
+        ensures refused_by { IfErr result (RefusesBy
+            (option_map (list_of_rule (list_kind tag)) T.facts.rule) self.old self.new) }
     {
         let mut members = self.begin_list(tag)?;
         let values = members.remaining::<T>()?;

@@ -1,6 +1,7 @@
 //! Types that are read as values of another type.
 ghost use Rattle.std.specs.Prelude.{◌≡◌, IfOk, IfErr};
 ghost use Rattle.picky_der_de.specs.Reading.{Reads, Refuses};
+ghost use Rattle.picky_der_de.specs.Ruled.{ReadsBy, RefusesBy};
 ghost use Rattle.picky_der_de.specs.Twins.{IsNoValue};
 
 use crate::{Deserialize, Deserializer};
@@ -30,6 +31,8 @@ pub fn deserialize_as<T: Via, R: ReadExt>(de: &mut Deserializer<R>) -> Result<T>
         (T.As.meaning (T.parts value))) }
     ensures err { IfErr result (Refuses (λ value. T.As.meaning (T.parts value)) T.As.shape de.old
         de.new) }
+    ensures read_by { IfOk result (λ _. ReadsBy T.As.facts.rule de.old de.new) }
+    ensures refused_by { IfErr result (RefusesBy T.As.facts.rule de.old de.new) }
 {
     Ok(T::from_parts(T::As::deserialize(de)?))
 }

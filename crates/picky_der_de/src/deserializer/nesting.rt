@@ -12,6 +12,9 @@ ghost use Rattle.picky_der_de.specs.Wrappers.{implicit_tag_of, BeginsWrapper, Op
 ghost use Rattle.picky_der_de.specs.Members.{ReadsMember, RefusesMember};
 ghost use Rattle.picky_der_de.specs.Wrappers.{ReadsWrapped, RefusesWrapped};
 ghost use Rattle.picky_der_de.specs.TagNumbers.{RefusesNumber};
+ghost use Rattle.std.specs.Option.{option_map};
+ghost use Rattle.picky_der_de.specs.Outcomes.{ordered_rule, wrapped_rule};
+ghost use Rattle.picky_der_de.specs.Ruled.{ReadsBy, RefusesBy};
 
 use super::Deserializer;
 use crate::{Deserialize, End};
@@ -219,6 +222,10 @@ impl<R: ReadExt> Deserializer<R> {
         ensures ok { IfOk result (λ value. ReadsMember T.shape self.old self.new
             (T.meaning value)) }
         ensures err { IfErr result (RefusesMember T.meaning T.shape self.old self.new) }
+        ensures read_by { IfOk result (λ _. ReadsBy
+            (option_map (ordered_rule self.old.sets.last) T.facts.rule) self.old self.new) }
+        ensures refused_by { IfErr result (RefusesBy
+            (option_map (ordered_rule self.old.sets.last) T.facts.rule) self.old self.new) }
     {
         if self.last_start.is_some() {
             return self.next_in_set();
@@ -233,6 +240,10 @@ impl<R: ReadExt> Deserializer<R> {
         ensures err { IfErr result (RefusesWrapped T.meaning T.shape wrapper self.old self.new) }
         ensures unsupported { (HasTagNumber wrapper → ⊥)
             → RefusesNumber self.old result self.new }
+        ensures read_by { IfOk result (λ _. ReadsBy (option_map (wrapped_rule wrapper) T.facts.rule)
+            self.old self.new) }
+        ensures refused_by { IfErr result (RefusesBy
+            (option_map (wrapped_rule wrapper) T.facts.rule) self.old self.new) }
     {
         let outer = self.open_wrapper(wrapper)?;
         let value = T::deserialize(self)?;

@@ -5,6 +5,10 @@ ghost use Rattle.picky_der_core.specs.Encoding.{der};
 ghost use Rattle.picky_der_de.specs.Members.{ReadsMember, RefusesMember, ReadsSeen, RefusesSeen};
 ghost use Rattle.picky_der_de.specs.Steps.{Fails};
 ghost use Rattle.picky_der_de.specs.Order.{with_last, is_out_of_order, SeesMember, Follows, RefusesTest};
+ghost use Rattle.std.specs.Option.{option_map};
+ghost use Rattle.picky_der_de.specs.State.{State};
+ghost use Rattle.picky_der_de.specs.Outcomes.{ordered_rule};
+ghost use Rattle.picky_der_de.specs.Ruled.{ReadsBy, RefusesBy};
 
 use super::Deserializer;
 use super::ahead::element_at_front;
@@ -116,6 +120,10 @@ impl<R: ReadExt> Deserializer<R> {
         ensures ok { IfOk result (λ value. ReadsMember T.shape self.old self.new
             (T.meaning value)) }
         ensures err { IfErr result (RefusesMember T.meaning T.shape self.old self.new) }
+        ensures read_by { IfOk result (λ _. ReadsBy
+            (option_map (ordered_rule self.old.sets.last) T.facts.rule) self.old self.new) }
+        ensures refused_by { IfErr result (RefusesBy
+            (option_map (ordered_rule self.old.sets.last) T.facts.rule) self.old self.new) }
     {
         match self.see_member() {
             Ok(Some(less)) => self.read_seen(less),
@@ -131,6 +139,10 @@ impl<R: ReadExt> Deserializer<R> {
         ensures ok { IfOk result (λ value. ReadsSeen less T.shape self.old self.new
             (T.meaning value)) }
         ensures err { IfErr result (RefusesSeen less T.meaning T.shape self.old self.new) }
+        ensures read_by { IfOk result (λ _. (before : State) → SeesMember before self.old less
+            → ReadsBy (option_map (ordered_rule before.sets.last) T.facts.rule) before self.new) }
+        ensures refused_by { IfErr result (λ e. (before : State) → SeesMember before self.old less
+            → RefusesBy (option_map (ordered_rule before.sets.last) T.facts.rule) before self.new e) }
     {
         match T::deserialize(self) {
             Ok(value) => {
@@ -153,6 +165,10 @@ impl<R: ReadExt> Deserializer<R> {
         ensures ok { IfOk result (λ value. ReadsMember T.shape self.old self.new
             (T.meaning value)) }
         ensures err { IfErr result (RefusesMember T.meaning T.shape self.old self.new) }
+        ensures read_by { IfOk result (λ _. ReadsBy
+            (option_map (ordered_rule self.old.sets.last) T.facts.rule) self.old self.new) }
+        ensures refused_by { IfErr result (RefusesBy
+            (option_map (ordered_rule self.old.sets.last) T.facts.rule) self.old self.new) }
     {
         let value = match T::deserialize(self) {
             Ok(value) => value,

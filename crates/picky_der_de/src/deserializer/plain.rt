@@ -1,9 +1,12 @@
 //! Bools, numbers and nulls: a header, a content, and its judge.
 ghost use Rattle.std.specs.Prelude.{◌≡◌, ◌^◌, ◌-◌, None, IfNone, IfSome, IfOk, IfErr, OnOk};
-ghost use Rattle.picky_der_core.specs.Primitive.{Primitive, PrimitiveShape};
+ghost use Rattle.picky_der_core.specs.Primitive.{Primitive, PrimitiveShape, shape_tag};
 ghost use Rattle.picky_der_core.specs.Shape.{Shape};
 ghost use Rattle.picky_der_core.specs.Integer.{int_tree};
+ghost use Rattle.picky_der_core.specs.Refusal.{int_error};
 ghost use Rattle.picky_der_de.specs.Steps.{UsesNoMemory};
+ghost use Rattle.picky_der_de.specs.Outcomes.{plain_rule};
+ghost use Rattle.picky_der_de.specs.Ruled.{AreReadBy, AreRefusedBy};
 ghost use Rattle.picky_der_de.specs.Reading.{Reads, ReadsInt, RefusesInt, ReadsJudged, RefusesJudged, ReadsPrimitive, RefusesPrimitive};
 
 use super::Deserializer;
@@ -104,6 +107,10 @@ impl<R: ReadExt> Deserializer<R> {
             (int_tree N.fits (N.number value))) }
         ensures err { IfErr result (RefusesInt N.fits self.old self.new) }
         ensures memory { IfErr result (UsesNoMemory self.old self.new) }
+        ensures read_by { IfOk result (λ _. AreReadBy (plain_rule 0x02 (int_error N.fits))
+            self.old self.new) }
+        ensures refused_by { IfErr result (AreRefusedBy (plain_rule 0x02 (int_error N.fits))
+            self.old self.new) }
     {
         self.read_plain::<AnyInteger, N>()
     }
@@ -142,6 +149,10 @@ impl<R: ReadExt> Deserializer<R> {
             (K.meaning (K.view value))) }
         ensures err { IfErr result (RefusesJudged K.meaning K.shape K.judge self.old self.new) }
         ensures memory { IfErr result (UsesNoMemory self.old self.new) }
+        ensures read_by { IfOk result (λ _. AreReadBy (plain_rule (shape_tag K.shape) K.judge)
+            self.old self.new) }
+        ensures refused_by { IfErr result (AreRefusedBy
+            (plain_rule (shape_tag K.shape) K.judge) self.old self.new) }
     {
         match self.short_plain::<K, V>() {
             Some(value) => Ok(value),

@@ -10,6 +10,9 @@ ghost use Rattle.picky_der_de.specs.Reading.{Reads, Refuses, AreNotRefused};
 ghost use Rattle.picky_der_de.specs.Wrappers.{wrap_shape_if, opening_refusal, RefusesWrapped};
 ghost use Rattle.picky_der_de.specs.TagNumbers.{RefusesNumber};
 ghost use Rattle.picky_der_ser.specs.Meaning.{option_meaning};
+ghost use Rattle.std.specs.Option.{option_map};
+ghost use Rattle.picky_der_de.specs.Outcomes.{wrapped_rule, wrap_rule_if};
+ghost use Rattle.picky_der_de.specs.Ruled.{ReadsBy, RefusesBy};
 
 use super::Deserializer;
 use crate::Deserialize;
@@ -38,6 +41,10 @@ impl<R: ReadExt> Deserializer<R> {
             → RefusesWrapped T.meaning T.shape w self.old self.new e) }
         ensures unsupported { (HasTagNumberIfAny (wrapper_of kind) → ⊥)
             → RefusesNumber self.old result self.new }
+        ensures read_by { IfOk result (λ _. ReadsBy (wrap_rule_if (wrapper_of kind) T.facts.rule)
+            self.old self.new) }
+        ensures refused_by { IfErr result (RefusesBy (wrap_rule_if (wrapper_of kind) T.facts.rule)
+            self.old self.new) }
     {
         match kind.wrapper() {
             Some(wrapper) => self.read_wrapped(wrapper),
@@ -63,6 +70,10 @@ impl<R: ReadExt> Deserializer<R> {
         ensures refused { IfErr result (RefusesWrapped T.meaning T.shape
             (ImplicitList tag) self.old self.new) }
         ensures unsupported { (IsConstructedTag tag → ⊥) → RefusesNumber self.old result self.new }
+        ensures read_by { IfOk result (λ _. ReadsBy
+            (option_map (wrapped_rule (ImplicitList tag)) T.facts.rule) self.old self.new) }
+        ensures refused_by { IfErr result (RefusesBy
+            (option_map (wrapped_rule (ImplicitList tag)) T.facts.rule) self.old self.new) }
     {
         self.read_wrapped(Wrapper::ImplicitList(tag.inner()))
     }
@@ -85,6 +96,10 @@ impl<R: ReadExt> Deserializer<R> {
         ensures refused { IfErr result (RefusesWrapped T.meaning T.shape
             (Application number) self.old self.new) }
         ensures unsupported { 30 < number → RefusesNumber self.old result self.new }
+        ensures read_by { IfOk result (λ _. ReadsBy
+            (option_map (wrapped_rule (Application number)) T.facts.rule) self.old self.new) }
+        ensures refused_by { IfErr result (RefusesBy
+            (option_map (wrapped_rule (Application number)) T.facts.rule) self.old self.new) }
     {
         self.read_wrapped(Wrapper::Application(number))
     }
@@ -96,6 +111,8 @@ impl<R: ReadExt> Deserializer<R> {
             (option_meaning T.meaning value)) }
         ensures err { IfErr result (Refuses (option_meaning T.meaning)
             (Shape.optional T.shape) self.old self.new) }
+        ensures read_by { IfOk result (λ _. ReadsBy T.facts.rule self.old self.new) }
+        ensures refused_by { IfErr result (RefusesBy T.facts.rule self.old self.new) }
     {
         Ok(Some(T::deserialize(self)?))
     }

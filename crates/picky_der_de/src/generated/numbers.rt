@@ -8,6 +8,9 @@ ghost use Rattle.picky_der_de.specs.Steps.{UsesNoMemory};
 ghost use Rattle.picky_der_de.specs.Reading.{Reads, Refuses, ReadsPrimitive, RefusesPrimitive};
 ghost use Rattle.picky_der_de.specs.Reading.{ReadsInt, RefusesInt};
 ghost use Rattle.picky_der_de.specs.Facts.{unsigned_facts, int_facts};
+ghost use Rattle.picky_der_core.specs.Refusal.{int_error};
+ghost use Rattle.picky_der_de.specs.Outcomes.{plain_rule, rule_of};
+ghost use Rattle.picky_der_de.specs.Ruled.{AreReadBy, AreRefusedBy};
 
 use crate::{Begins, Deserialize, Deserializer, UnsignedInteger};
 use picky_der_core::Result;
@@ -34,6 +37,10 @@ impl Deserialize for u8 {
         ensures refused { IfErr result (RefusesPrimitive Primitive.unsigned (PrimitiveShape.unsigned (2 ^ 8 - 1))
             de.old de.new) }
         ensures memory { IfErr result (UsesNoMemory de.old de.new) }
+        ensures read_by { IfOk result (λ _. AreReadBy
+            (rule_of (Shape.primitive (PrimitiveShape.unsigned (2 ^ 8 - 1)))) de.old de.new) }
+        ensures refused_by { IfErr result (AreRefusedBy
+            (rule_of (Shape.primitive (PrimitiveShape.unsigned (2 ^ 8 - 1)))) de.old de.new) }
     {
         de.read_plain::<UnsignedInteger, u8>()
     }
@@ -65,6 +72,10 @@ impl Deserialize for u16 {
         ensures refused { IfErr result (RefusesPrimitive Primitive.unsigned (PrimitiveShape.unsigned (2 ^ 16 - 1))
             de.old de.new) }
         ensures memory { IfErr result (UsesNoMemory de.old de.new) }
+        ensures read_by { IfOk result (λ _. AreReadBy
+            (rule_of (Shape.primitive (PrimitiveShape.unsigned (2 ^ 16 - 1)))) de.old de.new) }
+        ensures refused_by { IfErr result (AreRefusedBy
+            (rule_of (Shape.primitive (PrimitiveShape.unsigned (2 ^ 16 - 1)))) de.old de.new) }
     {
         de.read_plain::<UnsignedInteger, u16>()
     }
@@ -96,6 +107,10 @@ impl Deserialize for u32 {
         ensures refused { IfErr result (RefusesPrimitive Primitive.unsigned (PrimitiveShape.unsigned (2 ^ 32 - 1))
             de.old de.new) }
         ensures memory { IfErr result (UsesNoMemory de.old de.new) }
+        ensures read_by { IfOk result (λ _. AreReadBy
+            (rule_of (Shape.primitive (PrimitiveShape.unsigned (2 ^ 32 - 1)))) de.old de.new) }
+        ensures refused_by { IfErr result (AreRefusedBy
+            (rule_of (Shape.primitive (PrimitiveShape.unsigned (2 ^ 32 - 1)))) de.old de.new) }
     {
         de.read_plain::<UnsignedInteger, u32>()
     }
@@ -127,6 +142,10 @@ impl Deserialize for u64 {
         ensures refused { IfErr result (RefusesPrimitive Primitive.unsigned (PrimitiveShape.unsigned (2 ^ 64 - 1))
             de.old de.new) }
         ensures memory { IfErr result (UsesNoMemory de.old de.new) }
+        ensures read_by { IfOk result (λ _. AreReadBy
+            (rule_of (Shape.primitive (PrimitiveShape.unsigned (2 ^ 64 - 1)))) de.old de.new) }
+        ensures refused_by { IfErr result (AreRefusedBy
+            (rule_of (Shape.primitive (PrimitiveShape.unsigned (2 ^ 64 - 1)))) de.old de.new) }
     {
         de.read_plain::<UnsignedInteger, u64>()
     }
@@ -158,6 +177,10 @@ impl Deserialize for u128 {
         ensures refused { IfErr result (RefusesPrimitive Primitive.unsigned (PrimitiveShape.unsigned (2 ^ 128 - 1))
             de.old de.new) }
         ensures memory { IfErr result (UsesNoMemory de.old de.new) }
+        ensures read_by { IfOk result (λ _. AreReadBy
+            (rule_of (Shape.primitive (PrimitiveShape.unsigned (2 ^ 128 - 1)))) de.old de.new) }
+        ensures refused_by { IfErr result (AreRefusedBy
+            (rule_of (Shape.primitive (PrimitiveShape.unsigned (2 ^ 128 - 1)))) de.old de.new) }
     {
         de.read_plain::<UnsignedInteger, u128>()
     }
@@ -189,6 +212,10 @@ impl Deserialize for usize {
         ensures refused { IfErr result (RefusesPrimitive Primitive.unsigned (PrimitiveShape.unsigned (2 ^ 64 - 1))
             de.old de.new) }
         ensures memory { IfErr result (UsesNoMemory de.old de.new) }
+        ensures read_by { IfOk result (λ _. AreReadBy
+            (rule_of (Shape.primitive (PrimitiveShape.unsigned (2 ^ 64 - 1)))) de.old de.new) }
+        ensures refused_by { IfErr result (AreRefusedBy
+            (rule_of (Shape.primitive (PrimitiveShape.unsigned (2 ^ 64 - 1)))) de.old de.new) }
     {
         de.read_plain::<UnsignedInteger, usize>()
     }
@@ -216,6 +243,10 @@ impl Deserialize for i8 {
         ensures read { IfOk result (ReadsInt (fits_signed 8) de.old de.new) }
         ensures refused { IfErr result (RefusesInt (fits_signed 8) de.old de.new) }
         ensures memory { IfErr result (UsesNoMemory de.old de.new) }
+        ensures read_by { IfOk result (λ _. AreReadBy (plain_rule 0x02 (int_error (fits_signed 8)))
+            de.old de.new) }
+        ensures refused_by { IfErr result (AreRefusedBy (plain_rule 0x02 (int_error (fits_signed 8)))
+            de.old de.new) }
     {
         de.deserialize_int()
     }
@@ -243,6 +274,10 @@ impl Deserialize for i16 {
         ensures read { IfOk result (ReadsInt (fits_signed 16) de.old de.new) }
         ensures refused { IfErr result (RefusesInt (fits_signed 16) de.old de.new) }
         ensures memory { IfErr result (UsesNoMemory de.old de.new) }
+        ensures read_by { IfOk result (λ _. AreReadBy (plain_rule 0x02 (int_error (fits_signed 16)))
+            de.old de.new) }
+        ensures refused_by { IfErr result (AreRefusedBy (plain_rule 0x02 (int_error (fits_signed 16)))
+            de.old de.new) }
     {
         de.deserialize_int()
     }
@@ -270,6 +305,10 @@ impl Deserialize for i32 {
         ensures read { IfOk result (ReadsInt (fits_signed 32) de.old de.new) }
         ensures refused { IfErr result (RefusesInt (fits_signed 32) de.old de.new) }
         ensures memory { IfErr result (UsesNoMemory de.old de.new) }
+        ensures read_by { IfOk result (λ _. AreReadBy (plain_rule 0x02 (int_error (fits_signed 32)))
+            de.old de.new) }
+        ensures refused_by { IfErr result (AreRefusedBy (plain_rule 0x02 (int_error (fits_signed 32)))
+            de.old de.new) }
     {
         de.deserialize_int()
     }
@@ -297,6 +336,10 @@ impl Deserialize for i64 {
         ensures read { IfOk result (ReadsInt (fits_signed 64) de.old de.new) }
         ensures refused { IfErr result (RefusesInt (fits_signed 64) de.old de.new) }
         ensures memory { IfErr result (UsesNoMemory de.old de.new) }
+        ensures read_by { IfOk result (λ _. AreReadBy (plain_rule 0x02 (int_error (fits_signed 64)))
+            de.old de.new) }
+        ensures refused_by { IfErr result (AreRefusedBy (plain_rule 0x02 (int_error (fits_signed 64)))
+            de.old de.new) }
     {
         de.deserialize_int()
     }
@@ -324,6 +367,10 @@ impl Deserialize for i128 {
         ensures read { IfOk result (ReadsInt (fits_signed 128) de.old de.new) }
         ensures refused { IfErr result (RefusesInt (fits_signed 128) de.old de.new) }
         ensures memory { IfErr result (UsesNoMemory de.old de.new) }
+        ensures read_by { IfOk result (λ _. AreReadBy (plain_rule 0x02 (int_error (fits_signed 128)))
+            de.old de.new) }
+        ensures refused_by { IfErr result (AreRefusedBy (plain_rule 0x02 (int_error (fits_signed 128)))
+            de.old de.new) }
     {
         de.deserialize_int()
     }

@@ -1,12 +1,14 @@
 //! Octet strings, bytes under tags of their own, characters, texts and null, as they are read. Values that may be missing.
-ghost use Rattle.std.specs.Prelude.{◌<◌, IfOk, IfErr, encode_utf8, string_bytes, OnOk};
+ghost use Rattle.std.specs.Prelude.{◌<◌, Some, IfOk, IfErr, encode_utf8, string_bytes, OnOk};
 ghost use Rattle.picky_der_core.specs.Primitive.{Primitive, PrimitiveShape};
 ghost use Rattle.picky_der_core.specs.Tag.{number_of};
 ghost use Rattle.picky_der_core.specs.Tree.{Tree};
 ghost use Rattle.picky_der_core.specs.Shape.{Shape};
 ghost use Rattle.picky_der_de.specs.Reading.{Reads, Refuses, RefusesPrimitive, ReadsPrimitive};
 ghost use Rattle.picky_der_de.specs.TagNumbers.{RefusesNumber};
-ghost use Rattle.picky_der_de.specs.Facts.{bytes_facts, character_facts, text_facts, null_facts};
+ghost use Rattle.picky_der_de.specs.Facts.{bytes_facts, character_facts, text_facts, null_facts, ruled};
+ghost use Rattle.picky_der_de.specs.Outcomes.{rule_of};
+ghost use Rattle.picky_der_de.specs.Ruled.{AreReadBy, AreRefusedBy};
 ghost use Rattle.std.proofs.Common.{String, Global};
 ghost use Rattle.picky_der_de.specs.Steps.{UsesNoMemory};
 ghost use Rattle.picky_der_de.specs.ContainerFacts.{option_facts};
@@ -20,7 +22,7 @@ use picky_der_ser::Serialize;
 impl Deserialize for ByteBuf {
     ghost shape = { Shape.primitive (PrimitiveShape.bytes 0x04) };
 
-    ghost facts = { bytes_facts 0x04 (λ it. it.0.items) };
+    ghost facts = { ruled (Some (rule_of (Shape.primitive (PrimitiveShape.bytes 0x04)))) (bytes_facts 0x04 (λ it. it.0.items)) };
 
     ghost proved = { Prim.assumption };
 
@@ -32,6 +34,8 @@ impl Deserialize for ByteBuf {
             de.old de.new) }
         ensures refused { IfErr result (RefusesPrimitive (Primitive.bytes 0x04) (PrimitiveShape.bytes 0x04)
             de.old de.new) }
+        ensures read_by { IfOk result (λ _. AreReadBy (rule_of (Shape.primitive (PrimitiveShape.bytes 0x04))) de.old de.new) }
+        ensures refused_by { IfErr result (AreRefusedBy (rule_of (Shape.primitive (PrimitiveShape.bytes 0x04))) de.old de.new) }
     {
         Ok(ByteBuf(de.deserialize_tagged_bytes(Tag::OCTET_STRING)?))
     }
@@ -40,7 +44,7 @@ impl Deserialize for ByteBuf {
 impl<const TAG: u8> Deserialize for TaggedBytes<TAG> {
     ghost shape = { Shape.primitive (PrimitiveShape.bytes TAG) };
 
-    ghost facts = { bytes_facts TAG (λ it. it.0.items) };
+    ghost facts = { ruled (Some (rule_of (Shape.primitive (PrimitiveShape.bytes TAG)))) (bytes_facts TAG (λ it. it.0.items)) };
 
     ghost proved = { Prim.assumption };
 
@@ -52,6 +56,8 @@ impl<const TAG: u8> Deserialize for TaggedBytes<TAG> {
             (Shape.primitive (PrimitiveShape.bytes TAG)) de.old de.new) }
         ensures refused { IfErr result (RefusesPrimitive (Primitive.bytes TAG) (PrimitiveShape.bytes TAG)
             de.old de.new) }
+        ensures read_by { IfOk result (λ _. AreReadBy (rule_of (Shape.primitive (PrimitiveShape.bytes TAG))) de.old de.new) }
+        ensures refused_by { IfErr result (AreRefusedBy (rule_of (Shape.primitive (PrimitiveShape.bytes TAG))) de.old de.new) }
         ensures unsupported { 30 < number_of TAG → RefusesNumber de.old result de.new }
     {
         Ok(TaggedBytes(de.deserialize_tagged_bytes(Tag::from(TAG))?))
@@ -71,6 +77,8 @@ impl Deserialize for char {
         ensures refused { IfErr result (RefusesPrimitive (λ c. Primitive.text (encode_utf8 c)) PrimitiveShape.character
             de.old de.new) }
         ensures memory { IfErr result (UsesNoMemory de.old de.new) }
+        ensures read_by { IfOk result (λ _. AreReadBy (rule_of (Shape.primitive PrimitiveShape.character)) de.old de.new) }
+        ensures refused_by { IfErr result (AreRefusedBy (rule_of (Shape.primitive PrimitiveShape.character)) de.old de.new) }
     {
         de.read_plain::<Utf8String, char>()
     }
@@ -91,6 +99,8 @@ impl Deserialize for String {
             (Shape.primitive PrimitiveShape.text) de.old de.new) }
         ensures refused { IfErr result (RefusesPrimitive Primitive.text PrimitiveShape.text
             de.old de.new) }
+        ensures read_by { IfOk result (λ _. AreReadBy (rule_of (Shape.primitive PrimitiveShape.text)) de.old de.new) }
+        ensures refused_by { IfErr result (AreRefusedBy (rule_of (Shape.primitive PrimitiveShape.text)) de.old de.new) }
     {
         de.deserialize_string()
     }
@@ -109,6 +119,8 @@ impl Deserialize for () {
         ensures refused { IfErr result (RefusesPrimitive (λ (_ : Unit {0}). Primitive.null) PrimitiveShape.null
             de.old de.new) }
         ensures memory { IfErr result (UsesNoMemory de.old de.new) }
+        ensures read_by { IfOk result (λ _. AreReadBy (rule_of (Shape.primitive PrimitiveShape.null)) de.old de.new) }
+        ensures refused_by { IfErr result (AreRefusedBy (rule_of (Shape.primitive PrimitiveShape.null)) de.old de.new) }
     {
         de.read_plain::<Null, ()>()
     }

@@ -5,6 +5,9 @@ ghost use Rattle.picky_der_core.specs.Shape.{Shape};
 ghost use Rattle.picky_der_de.specs.Reading.{Reads, Refuses};
 ghost use Rattle.picky_der_de.specs.Members.{RefusesUnordered};
 ghost use Rattle.picky_der_de.specs.ContainerFacts.{list_facts};
+ghost use Rattle.std.specs.Option.{option_map};
+ghost use Rattle.picky_der_de.specs.Outcomes.{list_of_rule};
+ghost use Rattle.picky_der_de.specs.Ruled.{ReadsBy, RefusesBy};
 
 use crate::{Deserialize, Deserializer};
 use picky_der_core::Result;
@@ -51,6 +54,10 @@ impl<T: Deserialize> Deserialize for Asn1SetOf<T> {
         ensures err { IfErr result (Refuses ⟦<Asn1SetOf<T> as Serialize>⟧.meaning
             (Shape.list_of ListKind.set T.shape) de.old de.new) }
         ensures order { IfErr result (RefusesUnordered T.meaning T.shape de.old de.new) }
+        ensures read_by { IfOk result (λ _. ReadsBy
+            (option_map (list_of_rule ListKind.set) T.facts.rule) de.old de.new) }
+        ensures refused_by { IfErr result (RefusesBy
+            (option_map (list_of_rule ListKind.set) T.facts.rule) de.old de.new) }
     {
         Ok(Asn1SetOf(de.read_list(Tag::SET)?))
     }

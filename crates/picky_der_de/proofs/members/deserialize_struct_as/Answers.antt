@@ -2,6 +2,11 @@ use Rattle.std.proofs.Common.{refl, rules}
 use Rattle.picky_der_de.specs.FirstTests.{members_distinct}
 use Rattle.picky_der_de.proofs.PassedOn.{refusal_passed_on, reads_at}
 use Rattle.picky_der_de.proofs.LayoutReads.{layout_unopened, layout_refused, layout_left, layout_reads}
+use Rattle.picky_der_de.specs.Ruled.{RefusesBy}
+use Rattle.picky_der_de.proofs.PassedOn.{passed_on}
+use Rattle.picky_der_de.proofs.RuledLists.{reads_tagged_at}
+use Rattle.picky_der_de.proofs.RuleMembers.{struct_unopened_by, struct_refuses_by, struct_left_over_by, struct_reads_by}
+use Rattle.picky_der_de.proofs.RuledMembers.{layout_not_failed}
 use Rattle.picky_der_de.proofs.members.deserialize_struct_as.Goals as goal
 
 pub returns-in_err-sequence-clause-err : goal.returns-in_err-sequence-clause-err
@@ -15,3 +20,15 @@ returns-in_err-end-clause-err g c = refusal_passed_on _ c.from_residual-in_err-e
 
 pub returns-clause-ok : goal.returns-clause-ok
 returns-clause-ok g c = rw c.from_parts.ensures (reads_at (layout_reads c.in_ok-sequence.ensures.ok c.in_ok-members.ensures.ok c.in_ok-end.ensures.ok c.in_ok-members.ensures.outer) (search rules))
+
+pub returns-in_err-sequence-clause-refused_by : goal.returns-in_err-sequence-clause-refused_by
+returns-in_err-sequence-clause-refused_by g c = passed_on (RefusesBy _ _) _ c.from_residual.ensures.1 refl (struct_unopened_by g.T.Members.DeserializeMembers.facts.rules (rw c.in_err-sequence.was at c.begin_list.follows.holds-at-none))
+
+pub returns-in_err-members-clause-refused_by : goal.returns-in_err-members-clause-refused_by
+returns-in_err-members-clause-refused_by g c = passed_on (RefusesBy _ _) _ c.from_residual-in_err-members.ensures.1 (search rules) (struct_refuses_by g.T.Members.DeserializeMembers.facts.rules _ _ c.in_ok-sequence.ensures.ok c.in_err-members.ensures.refused_by)
+
+pub returns-in_err-end-clause-refused_by : goal.returns-in_err-end-clause-refused_by
+returns-in_err-end-clause-refused_by g c = passed_on (RefusesBy _ _) _ c.from_residual-in_err-end.ensures.1 (search rules) (struct_left_over_by g.T.Members.DeserializeMembers.facts.rules c.in_ok-sequence.ensures.ok c.in_ok-members.ensures.read_by (layout_not_failed c.in_ok-sequence.ensures.ok c.in_ok-members.ensures.ok) c.in_err-end.ensures.err)
+
+pub returns-clause-read_by : goal.returns-clause-read_by
+returns-clause-read_by g c = reads_tagged_at _ _ (struct_reads_by g.T.Members.DeserializeMembers.facts.rules c.in_ok-sequence.ensures.ok c.in_ok-members.ensures.read_by c.in_ok-end.ensures.ok) (search rules)

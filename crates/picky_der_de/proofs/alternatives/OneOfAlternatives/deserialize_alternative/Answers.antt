@@ -2,6 +2,9 @@ use Rattle.std.proofs.Common.{rules}
 use Rattle.std.proofs.lemmas.Result.{err_from_is_err_and}
 use Rattle.picky_der_de.specs.Facts.{is_lawful}
 use Rattle.picky_der_de.proofs.Choices.{reads_this, reads_other, refuses_this, refuses_other}
+use Rattle.picky_der_core.specs.Shape.{firsts}
+use Rattle.picky_der_de.proofs.RuleChoices.{this_reads_by, this_refuses_by, other_reads_by, other_refuses_by}
+use Rattle.picky_der_de.proofs.RuleMembers.{not_listed}
 use Rattle.picky_der_de.proofs.alternatives.OneOfAlternatives.deserialize_alternative.Goals as goal
 
 pub returns-in_err-deserialize-clause-err : goal.returns-in_err-deserialize-clause-err
@@ -20,3 +23,24 @@ returns-in_err-deserialize_alternative-clause-err g c =
 
 pub returns-clause-ok : goal.returns-clause-ok
 returns-clause-ok g c = reads_other c.in_ok-deserialize_alternative.ensures.ok
+
+pub returns-in_err-deserialize-clause-refused_by : goal.returns-in_err-deserialize-clause-refused_by
+returns-in_err-deserialize-clause-refused_by g c =
+    let p = err_from_is_err_and c.from_residual.result c.from_residual.ensures.1 in
+    rw (p.1, p.2) (this_refuses_by (firsts g.A.Deserialize.shape) g.A.Deserialize.facts.rule g.B.Alternatives.facts.rule c.args.tag _ _ _ (c.begins_with.ensures.0 c.if-begins_with.true) c.in_err-deserialize.ensures.refused_by)
+
+pub returns-then-begins_with-clause-read_by : goal.returns-then-begins_with-clause-read_by
+returns-then-begins_with-clause-read_by g c =
+    this_reads_by (firsts g.A.Deserialize.shape) g.A.Deserialize.facts.rule g.B.Alternatives.facts.rule c.args.tag _ _ (c.begins_with.ensures.0 c.if-begins_with.true) c.in_ok-deserialize.ensures.read_by
+
+pub returns-in_err-deserialize_alternative-clause-refused_by :
+    goal.returns-in_err-deserialize_alternative-clause-refused_by
+returns-in_err-deserialize_alternative-clause-refused_by g c =
+    let p = err_from_is_err_and c.from_residual-in_err-deserialize_alternative.result c.from_residual-in_err-deserialize_alternative.ensures.1 in
+    let not_this = not_listed _ (λ h. let x = c.begins_with.ensures.1 h in search rules) in
+    rw (p.1, p.2) (other_refuses_by (firsts g.A.Deserialize.shape) g.A.Deserialize.facts.rule g.B.Alternatives.facts.rule c.args.tag _ _ _ not_this c.in_err-deserialize_alternative.ensures.refused_by)
+
+pub returns-clause-read_by : goal.returns-clause-read_by
+returns-clause-read_by g c =
+    let not_this = not_listed _ (λ h. let x = c.begins_with.ensures.1 h in search rules) in
+    other_reads_by (firsts g.A.Deserialize.shape) g.A.Deserialize.facts.rule g.B.Alternatives.facts.rule c.args.tag _ _ not_this c.in_ok-deserialize_alternative.ensures.read_by

@@ -5,6 +5,8 @@ use Rattle.picky_der_core.specs.declared.asn1.wrapper.Wrapper.{Wrapper}
 use Rattle.picky_der_de.specs.Reading.{Refuses}
 use Rattle.picky_der_de.specs.Wrappers.{wrap_shape_if}
 use Rattle.picky_der_de.proofs.WrapperReads.{refuses_wrapped}
+use Rattle.picky_der_de.specs.Outcomes.{wrap_rule_if}
+use Rattle.picky_der_de.specs.Ruled.{ReadsBy, RefusesBy}
 use Rattle.picky_der_de.proofs.deserializer.Deserializer.deserialize_newtype_struct.Goals as goal
 
 pub returns-in-Some-clause-err : goal.returns-in-Some-clause-err
@@ -22,3 +24,27 @@ returns-in-None-clause-err g c =
     let is : None ≡ wrapper_of c.args.kind = sym c.in-None.is ∙ c.wrapper.ensures in
     MatchResult-weaker c.deserialize.result c.deserialize.ensures.err (λ v h. tt)
     (λ e h. subst (λ (o : Option Wrapper). Refuses (λ v. wrap_if o (m v)) (wrap_shape_if o s) c.args.self.now c.deserialize.new.de e) is h)
+
+pub returns-in-Some-clause-read_by : goal.returns-in-Some-clause-read_by
+returns-in-Some-clause-read_by g c =
+    let r = g.T.Deserialize.facts.rule in
+    let is : Some c.in-Some.wrapper ≡ wrapper_of c.args.kind = sym c.in-Some.is ∙ c.wrapper.ensures in
+    MatchResult-weaker c.read_wrapped.result c.read_wrapped.ensures.read_by (λ v h. subst (λ (o : Option Wrapper). ReadsBy (wrap_rule_if o r) c.args.self.now c.read_wrapped.new.self) is h) (λ e h. tt)
+
+pub returns-in-Some-clause-refused_by : goal.returns-in-Some-clause-refused_by
+returns-in-Some-clause-refused_by g c =
+    let r = g.T.Deserialize.facts.rule in
+    let is : Some c.in-Some.wrapper ≡ wrapper_of c.args.kind = sym c.in-Some.is ∙ c.wrapper.ensures in
+    MatchResult-weaker c.read_wrapped.result c.read_wrapped.ensures.refused_by (λ v h. tt) (λ e h. subst (λ (o : Option Wrapper). RefusesBy (wrap_rule_if o r) c.args.self.now c.read_wrapped.new.self e) is h)
+
+pub returns-in-None-clause-read_by : goal.returns-in-None-clause-read_by
+returns-in-None-clause-read_by g c =
+    let r = g.T.Deserialize.facts.rule in
+    let is : None ≡ wrapper_of c.args.kind = sym c.in-None.is ∙ c.wrapper.ensures in
+    MatchResult-weaker c.deserialize.result c.deserialize.ensures.read_by (λ v h. subst (λ (o : Option Wrapper). ReadsBy (wrap_rule_if o r) c.args.self.now c.deserialize.new.de) is h) (λ e h. tt)
+
+pub returns-in-None-clause-refused_by : goal.returns-in-None-clause-refused_by
+returns-in-None-clause-refused_by g c =
+    let r = g.T.Deserialize.facts.rule in
+    let is : None ≡ wrapper_of c.args.kind = sym c.in-None.is ∙ c.wrapper.ensures in
+    MatchResult-weaker c.deserialize.result c.deserialize.ensures.refused_by (λ v h. tt) (λ e h. subst (λ (o : Option Wrapper). RefusesBy (wrap_rule_if o r) c.args.self.now c.deserialize.new.de e) is h)

@@ -6,6 +6,9 @@ use Rattle.picky_der_de.specs.State.{State}
 use Rattle.picky_der_de.specs.Reading.{Refuses}
 use Rattle.picky_der_de.specs.Members.{RefusesMember}
 use Rattle.picky_der_de.proofs.MemberReads.{member_unread}
+use Rattle.std.proofs.Common.{refl}
+use Rattle.std.proofs.lemmas.Result.{MatchResult-weaker}
+use Rattle.picky_der_de.proofs.RuleOrders.{unordered_reads_by, unordered_refuses_by}
 use Rattle.picky_der_de.proofs.deserializer.Deserializer.next_member.Goals as goal
 
 unread : {A V : Type 0} (meaning : V → Tree) (s : Shape) (a c : State) (r : Result A Asn1DerError) → IfErr r (Refuses meaning s a c) → (a.failed ≡ None → a.implicit_tag ≡ None) → IfErr r (RefusesMember meaning s a c)
@@ -14,3 +17,11 @@ unread meaning s a c (Err e) h d = member_unread h d
 
 pub returns-clause-err : goal.returns-clause-err
 returns-clause-err g c = unread _ _ _ _ c.deserialize.result c.deserialize.ensures.err (λ _. c.requires.whole)
+
+pub returns-clause-read_by : goal.returns-clause-read_by
+returns-clause-read_by g c =
+    MatchResult-weaker c.deserialize.result c.deserialize.ensures.read_by (λ v h. unordered_reads_by g.T.Deserialize.facts.rule _ _ refl h) (λ e h. tt)
+
+pub returns-clause-refused_by : goal.returns-clause-refused_by
+returns-clause-refused_by g c =
+    MatchResult-weaker c.deserialize.result c.deserialize.ensures.refused_by (λ v h. tt) (λ e h. unordered_refuses_by g.T.Deserialize.facts.rule _ _ e refl h)

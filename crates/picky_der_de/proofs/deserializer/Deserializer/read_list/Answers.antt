@@ -4,6 +4,11 @@ use Rattle.picky_der_de.proofs.PassedOn.{refusal_passed_on, passed_on, reads_at}
 use Rattle.picky_der_de.proofs.ListReads.{list_numbered, list_of_unopened, list_of_refused, list_of_reads, all_closed}
 use Rattle.picky_der_de.specs.Members.{RefusesUnordered}
 use Rattle.picky_der_de.proofs.SetOrder.{unordered_unopened, unordered_refused}
+use Rattle.std.specs.Option.{option_map}
+use Rattle.picky_der_ser.specs.Sequences.{list_kind}
+use Rattle.picky_der_de.specs.Outcomes.{list_of_rule}
+use Rattle.picky_der_de.specs.Ruled.{RefusesBy}
+use Rattle.picky_der_de.proofs.RuledLists.{list_unopened_tagged, list_refuses_tagged, list_reads_tagged, reads_tagged_at}
 use Rattle.picky_der_de.proofs.deserializer.Deserializer.read_list.Goals as goal
 
 pub begin_list-requires : goal.begin_list-requires
@@ -36,3 +41,19 @@ returns-in_err-values-clause-order g c set =
 
 pub returns-in_err-end-clause-order : goal.returns-in_err-end-clause-order
 returns-in_err-end-clause-order g c set = absurd (all_closed c.in_ok-values.ensures.ok c.in_err-end.ensures.err)
+
+pub returns-in_err-members-clause-refused_by : goal.returns-in_err-members-clause-refused_by
+returns-in_err-members-clause-refused_by g c =
+    let p = err_from_is_err_and c.from_residual.result c.from_residual.ensures.1 in
+    rw (p.1, p.2) (list_unopened_tagged c.requires g.T.Deserialize.facts.rule (rw c.in_err-members.was at c.begin_list.follows.holds-at-none))
+
+pub returns-in_err-values-clause-refused_by : goal.returns-in_err-values-clause-refused_by
+returns-in_err-values-clause-refused_by g c =
+    passed_on (RefusesBy (option_map (list_of_rule (list_kind c.args.tag)) g.T.Deserialize.facts.rule) _) _ c.from_residual-in_err-values.ensures.1 (search rules) (list_refuses_tagged c.requires g.T.Deserialize.facts.rule _ _ c.in_ok-members.ensures.ok c.in_err-values.ensures.refused_by)
+
+pub returns-in_err-end-clause-refused_by : goal.returns-in_err-end-clause-refused_by
+returns-in_err-end-clause-refused_by g c = absurd (all_closed c.in_ok-values.ensures.ok c.in_err-end.ensures.err)
+
+pub returns-clause-read_by : goal.returns-clause-read_by
+returns-clause-read_by g c =
+    reads_tagged_at _ _ (list_reads_tagged c.requires g.T.Deserialize.facts.rule c.in_ok-members.ensures.ok c.in_ok-values.ensures.read_by c.in_ok-end.ensures.ok) (search rules)

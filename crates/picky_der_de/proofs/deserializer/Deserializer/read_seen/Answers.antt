@@ -2,6 +2,7 @@ use Rattle.picky_der_de.proofs.Contents.{failed_same}
 use Rattle.picky_der_de.proofs.SetOrder.{seen_refused, seen_reads, seen_less}
 use Rattle.picky_der_de.specs.Order.{SeesMember}
 use Rattle.std.proofs.Common.{subst}
+use Rattle.picky_der_de.proofs.RuleOrders.{seen_late_by, seen_reads_by, seen_refuses_by}
 use Rattle.picky_der_de.proofs.deserializer.Deserializer.read_seen.Goals as goal
 
 pub returns-then-less-clause-err : goal.returns-then-less-clause-err
@@ -14,3 +15,15 @@ returns-else-less-clause-ok g c = λ before h. seen_reads (subst (λ b. SeesMemb
 
 pub returns-in-Err-clause-err : goal.returns-in-Err-clause-err
 returns-in-Err-clause-err g c = λ before h. seen_refused h c.requires.whole c.in-Err.ensures.err
+
+pub returns-then-less-clause-refused_by : goal.returns-then-less-clause-refused_by
+returns-then-less-clause-refused_by g c =
+    let f = c.fail.ensures in
+    λ before h. seen_late_by g.T.Deserialize.facts.rule (subst (λ b. SeesMember before c.args.self.now b) c.if-less.true h) c.requires.whole c.in-Ok.ensures.ok c.in-Ok.ensures.read_by f.error (failed_same c.deserialize.new.de f.error f.same)
+
+pub returns-else-less-clause-read_by : goal.returns-else-less-clause-read_by
+returns-else-less-clause-read_by g c = λ before h.
+    seen_reads_by g.T.Deserialize.facts.rule (subst (λ b. SeesMember before c.args.self.now b) c.if-less.false h) c.requires.whole c.in-Ok.ensures.ok c.in-Ok.ensures.read_by
+
+pub returns-in-Err-clause-refused_by : goal.returns-in-Err-clause-refused_by
+returns-in-Err-clause-refused_by g c = λ before h. seen_refuses_by h g.T.Deserialize.facts.rule _ _ c.in-Err.ensures.refused_by

@@ -6,6 +6,7 @@ use Rattle.picky_der_core.specs.EncodingLaws.{length-der}
 use Rattle.picky_der_de.specs.State.{State}
 use Rattle.picky_der_de.proofs.MemberReads.{consumes_member, member_again}
 use Rattle.picky_der_de.proofs.ListReads.{all_refused, all_next, all_for_memory, some_none, some_more, some_all}
+use Rattle.picky_der_de.proofs.RuleLists.{midway_none_by, midway_more_by, midway_end_by, midway_refuses_by, memory_refuses_all_by, again_refuses_all_by}
 use Rattle.picky_der_de.proofs.sequence.Sequence.remaining.Goals as goal
 
 above : (n : ℕ) → (n ≡ 0 → ⊥) → 0 < n
@@ -38,11 +39,11 @@ loop-values-preserved g c =
     let i = c.loop-values.invariant in
     let e = c.in_ok-value.ensures in
     let h = some_more g.T.Serialize.meaning g.T.Deserialize.shape c.loop-values.values.items c.in_ok-value.value i.some r in
-    record { some = rw c.in-Ok.ensures h; same_reference = e.same_reference ∙ i.same_reference; outer = e.outer ∙ i.outer }
+    record { some = rw c.in-Ok.ensures h; same_reference = e.same_reference ∙ i.same_reference; outer = e.outer ∙ i.outer; by_rule = midway_more_by g.T.Deserialize.facts.rule _ i.by_rule r e.read_by }
 
 pub loop-values-init : goal.loop-values-init
 loop-values-init g c =
-    record { some = rw c.new-values.ensures.items (some_none g.T.Serialize.meaning g.T.Deserialize.shape _ c.args.self.now.whole); same_reference = refl; outer = refl }
+    record { some = rw c.new-values.ensures.items (some_none g.T.Serialize.meaning g.T.Deserialize.shape _ c.args.self.now.whole); same_reference = refl; outer = refl; by_rule = midway_none_by g.T.Deserialize.facts.rule _ }
 
 pub returns-in_default-add-clause-err : goal.returns-in_default-add-clause-err
 returns-in_default-add-clause-err g c =
@@ -53,3 +54,26 @@ pub returns-clause-ok : goal.returns-clause-ok
 returns-clause-ok g c =
     let k = c.in_ok-is_at_end.ensures.ok in
     some_all c.loop-values.invariant.some (record { reached = k.1.0 c.if-not-branch.false; had_not_failed = k.0; same = refl })
+
+had_failed : (a : State) (e : Asn1DerError) → a.failed ≡ Some (failure_of e) → a.failed ≡ None → ⊥
+had_failed a e h w = let q : None ≡ Some (failure_of e) = sym w ∙ h in cc
+
+pub returns-in_err-is_at_end-clause-refused_by : goal.returns-in_err-is_at_end-clause-refused_by
+returns-in_err-is_at_end-clause-refused_by g c =
+    let p = err_from_is_err_and c.from_residual.result c.from_residual.ensures.1 in
+    rw (p.1, p.2) (again_refuses_all_by g.T.Deserialize.facts.rule _ _ _ _ c.loop-values.invariant.by_rule (had_failed _ _ c.in_err-is_at_end.ensures.err))
+
+pub returns-in_err-value-clause-refused_by : goal.returns-in_err-value-clause-refused_by
+returns-in_err-value-clause-refused_by g c =
+    let p = err_from_is_err_and c.from_residual-in_err-value.result c.from_residual-in_err-value.ensures.1 in
+    let here = c.in_ok-is_at_end.ensures.ok.1 in
+    let ahead = above _ (λ z. true≢false (sym (here.1 z) ∙ c.if-not-branch.true)) in
+    rw (p.1, p.2) (midway_refuses_by g.T.Deserialize.facts.rule _ _ _ _ c.loop-values.invariant.by_rule ahead c.in_err-value.ensures.refused_by)
+
+pub returns-in_default-add-clause-refused_by : goal.returns-in_default-add-clause-refused_by
+returns-in_default-add-clause-refused_by g c = memory_refuses_all_by g.T.Deserialize.facts.rule _ _ c.fail.ensures.error
+
+pub returns-clause-read_by : goal.returns-clause-read_by
+returns-clause-read_by g c =
+    let k = c.in_ok-is_at_end.ensures.ok in
+    midway_end_by g.T.Deserialize.facts.rule _ _ c.loop-values.invariant.by_rule (k.1.0 c.if-not-branch.false)

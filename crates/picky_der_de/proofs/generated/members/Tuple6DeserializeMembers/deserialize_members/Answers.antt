@@ -3,6 +3,7 @@ use Rattle.std.proofs.lemmas.Result.{err_from_is_err_and}
 use Rattle.picky_der_de.specs.MembersFacts.{layout_member, layout_members}
 use Rattle.picky_der_de.specs.LayoutLaws.{after, lead}
 use Rattle.picky_der_de.proofs.LayoutReads.{layout_member_head, layout_member_next, layout_member_read}
+use Rattle.picky_der_de.proofs.RuleMembers.{member_is_read, turn_first_refuses_by, turn_more_by, turn_refuses_by}
 use Rattle.picky_der_de.proofs.generated.members.Tuple6DeserializeMembers.deserialize_members.Goals as goal
 
 pub returns-in_err-first-clause-err : goal.returns-in_err-first-clause-err
@@ -17,3 +18,16 @@ returns-in_err-others-clause-err g c =
 
 pub returns-clause-ok : goal.returns-clause-ok
 returns-clause-ok g c = layout_member_read (layout_member g.A.DeserializeMember.facts g.met.A.DeserializeMember.proved) c.in_ok-first.first c.requires.implicit_tag c.in_ok-first.ensures.member c.in_ok-first.ensures.none c.in_ok-others.ensures.ok
+
+pub returns-in_err-first-clause-refused_by : goal.returns-in_err-first-clause-refused_by
+returns-in_err-first-clause-refused_by g c =
+    let p = err_from_is_err_and c.from_residual.result c.from_residual.ensures.1 in
+    rw (p.1, p.2) (turn_first_refuses_by g.A.DeserializeMember.facts.rule _ _ _ _ c.in_err-first.ensures.refused_by)
+
+pub returns-in_err-others-clause-refused_by : goal.returns-in_err-others-clause-refused_by
+returns-in_err-others-clause-refused_by g c =
+    let p = err_from_is_err_and c.from_residual-in_err-others.result c.from_residual-in_err-others.ensures.1 in
+    rw (p.1, p.2) (turn_refuses_by g.A.DeserializeMember.facts.rule _ _ _ _ _ (member_is_read g.A.DeserializeMember.item_meaning g.A.DeserializeMember.shape (g.A.DeserializeMember.item c.in_ok-first.first) c.in_ok-first.ensures.member c.in_ok-first.ensures.none) c.in_ok-first.ensures.read_by c.in_err-others.ensures.refused_by)
+
+pub returns-clause-read_by : goal.returns-clause-read_by
+returns-clause-read_by g c = turn_more_by g.A.DeserializeMember.facts.rule _ _ _ _ (member_is_read g.A.DeserializeMember.item_meaning g.A.DeserializeMember.shape (g.A.DeserializeMember.item c.in_ok-first.first) c.in_ok-first.ensures.member c.in_ok-first.ensures.none) c.in_ok-first.ensures.read_by c.in_ok-others.ensures.read_by

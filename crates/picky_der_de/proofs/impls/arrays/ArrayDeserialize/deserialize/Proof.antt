@@ -42,7 +42,7 @@ use denote.Triple.Statement.{Contract, Triple}
 use denote.Triple.Table.{entered}
 use denote.Triple.Walked.{Stays, stay_ref, walk_of, ends_at, walked, Goes-ref, walk_Meets}
 use denote.Param.NoDrop.{glues}
-use Rattle.std.specs.Prelude.{IfOk, IfErr}
+use Rattle.std.specs.Prelude.{IfOk, IfErr, Ok, Err}
 use Rattle.std.specs.declared.clone.Clone as clone
 use Rattle.std.specs.declared.cmp.PartialEq as partial_eq
 use Rattle.std.specs.declared.default.Default as default
@@ -169,6 +169,21 @@ module _ (E : At) {M : Type 1} {𝓤 : Ura M} (𝓛 : Logic 𝓤) (at_mem : Memo
   abbrev Refused : (D E).Denot → (Answer E).Denot → (D E).Denot → Type 0
   Refused x r y = IfErr r (Refuses (gA E).meaning (gA E).shape x y)
 
+  -- no rule is said of an array
+  abbrev ReadBy : (Answer E).Denot → Type 0
+  ReadBy r = IfOk r (λ v. Unit {0})
+
+  abbrev RefusedBy : (Answer E).Denot → Type 0
+  RefusedBy r = IfErr r (λ e. Unit {0})
+
+  read_by_none : (r : (Answer E).Denot) → ReadBy r
+  read_by_none (Ok v) = tt
+  read_by_none (Err e) = tt
+
+  refused_by_none : (r : (Answer E).Denot) → RefusedBy r
+  refused_by_none (Ok v) = tt
+  refused_by_none (Err e) = tt
+
   module _ (κ κT : Lft) (s qT : Share) (rb ro : ℕ) (δ : GName) (x : (D E).Denot) where
     abbrev by_at : By.Ghost
     by_at = (((κ, (κT, (κ, tt))), (Share.left s, (qT, (Share.right s, tt))), (⊑_refl κ, tt), (record { ref_ptr = (rb, ro); ghost_name = δ; now = x }, tt), (vptr rb ro ∷ [], tt)), tt)
@@ -219,7 +234,8 @@ module _ (E : At) {M : Type 1} {𝓤 : Ura M} (𝓛 : Logic 𝓤) (at_mem : Memo
         suffices ! _ (ends_at 𝓛 (ended E) (stayed E) (clauses E 𝓛 at_mem run) bound v r (ws.0, tt) (tt, tt)) $
         nothing ! $ move ! (1 ∷ 0 ∷ []) $ fjoin ! $ move ! (0 ∷ 3 ∷ []) $ join ! $
         nothing ! $ move ! (3 ∷ 0 ∷ []) $ join ! $ move ! (4 ∷ 0 ∷ []) $ join ! $ move ! (3 ∷ 0 ∷ []) $ join ! $ move ! (2 ∷ 0 ∷ []) $ join ! $ join ! $
-        use0 𝓛 (raw (fact 𝓤 (Refused x r ws.0))) (fact_i 𝓤 (Refused x r ws.0) (emp 𝓤) err) $ use0 𝓛 (raw (fact 𝓤 (Read x r ws.0))) (fact_i 𝓤 (Read x r ws.0) (emp 𝓤) ok) $ join ! $ move ! (1 ∷ 0 ∷ []) $ join ! $ done !)))))))))
+        use0 𝓛 (raw (fact 𝓤 (RefusedBy r))) (fact_i 𝓤 (RefusedBy r) (emp 𝓤) (refused_by_none r)) $ use0 𝓛 (raw (fact 𝓤 (ReadBy r))) (fact_i 𝓤 (ReadBy r) (emp 𝓤) (read_by_none r)) $ join ! $
+        use0 𝓛 (raw (fact 𝓤 (Refused x r ws.0))) (fact_i 𝓤 (Refused x r ws.0) (emp 𝓤) err) $ join ! $ use0 𝓛 (raw (fact 𝓤 (Read x r ws.0))) (fact_i 𝓤 (Read x r ws.0) (emp 𝓤) ok) $ join ! $ move ! (1 ∷ 0 ∷ []) $ join ! $ done !)))))))))
 
   abbrev Fits-in-memory : Type 0
   Fits-in-memory = size (layout (A E)) < 2 ^ 63

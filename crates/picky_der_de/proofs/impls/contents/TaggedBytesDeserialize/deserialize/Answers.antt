@@ -3,6 +3,7 @@ use Rattle.std.proofs.lemmas.Result.{err_from_is_err_and}
 use Rattle.picky_der_de.specs.Reading.{RefusesPrimitive}
 use Rattle.picky_der_core.specs.Primitive.{Primitive, PrimitiveShape}
 use Rattle.picky_der_de.proofs.PlainReads.{refuses_of}
+use Rattle.picky_der_de.proofs.RuleReads.{judged_read, judged_refused}
 use Rattle.picky_der_de.proofs.impls.contents.TaggedBytesDeserialize.deserialize.Goals as goal
 
 pub returns-in_err-deserialize_tagged_bytes-clause-err :
@@ -19,3 +20,13 @@ returns-in_err-deserialize_tagged_bytes-clause-refused g c =
     let p = err_from_is_err_and c.from_residual.result c.from_residual.ensures.1 in
     let h = c.in_err-deserialize_tagged_bytes.ensures.err in
     rw (p.1, p.2) (subst (λ tag. RefusesPrimitive (Primitive.bytes tag) (PrimitiveShape.bytes tag) c.args.de.now c.deserialize_tagged_bytes.new.self c.in_err-deserialize_tagged_bytes.field-0.0) c.from.ensures h)
+
+pub returns-in_err-deserialize_tagged_bytes-clause-refused_by :
+    goal.returns-in_err-deserialize_tagged_bytes-clause-refused_by
+returns-in_err-deserialize_tagged_bytes-clause-refused_by g c =
+    let p = err_from_is_err_and c.from_residual.result c.from_residual.ensures.1 in
+    let h = c.in_err-deserialize_tagged_bytes.ensures.err in
+    rw (p.1, p.2) (judged_refused (subst (λ tag. RefusesPrimitive (Primitive.bytes tag) (PrimitiveShape.bytes tag) c.args.de.now c.deserialize_tagged_bytes.new.self c.in_err-deserialize_tagged_bytes.field-0.0) c.from.ensures h))
+
+pub returns-clause-read_by : goal.returns-clause-read_by
+returns-clause-read_by g c = judged_read (rw c.from.ensures at c.in_ok-deserialize_tagged_bytes.ensures.ok)
