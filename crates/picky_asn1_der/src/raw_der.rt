@@ -1,5 +1,5 @@
 //! Elements that are kept as they are.
-ghost use Rattle.std.specs.Prelude.{◌≡◌, IfOk, IfErr};
+ghost use Rattle.std.specs.Prelude.{◌≡◌, Some, IfOk, IfErr};
 ghost use Rattle.std.specs.Cmp.Lexicographic.{slice_cmp};
 ghost use Rattle.std.specs.Ordering.{nat_cmp};
 ghost use Rattle.std.specs.Hash as fed;
@@ -9,7 +9,9 @@ ghost use Rattle.picky_der_core.specs.Shape.{Shape};
 ghost use Rattle.picky_der_ser.specs.Calls.{WritesPlain};
 ghost use Rattle.picky_der_de.specs.Reading.{Reads, Refuses};
 ghost use Rattle.picky_der_de.specs.Elements.{RefusesRaw};
-ghost use Rattle.picky_der_de.specs.Facts.{raw_facts};
+ghost use Rattle.picky_der_de.specs.Facts.{raw_facts, ruled};
+ghost use Rattle.picky_der_de.specs.Outcomes.{raw_rule};
+ghost use Rattle.picky_der_de.specs.Ruled.{AreReadBy, AreRefusedBy};
 
 use picky_der_core::asn1::Tag;
 use picky_der_core::misc::{ReadExt, WriteExt};
@@ -81,7 +83,7 @@ impl Serialize for Asn1RawDer {
 impl Deserialize for Asn1RawDer {
     ghost shape = { Shape.raw };
 
-    ghost facts = { raw_facts (λ it. it.0.items) };
+    ghost facts = { ruled (Some raw_rule) (raw_facts (λ it. it.0.items)) };
 
     ghost proved = { Prim.assumption };
 
@@ -90,6 +92,8 @@ impl Deserialize for Asn1RawDer {
         ensures err { IfErr result (Refuses ⟦<Asn1RawDer as Serialize>⟧.meaning Shape.raw
             de.old de.new) }
         ensures refused { IfErr result (RefusesRaw de.old de.new) }
+        ensures read_by { IfOk result (λ _. AreReadBy raw_rule de.old de.new) }
+        ensures refused_by { IfErr result (AreRefusedBy raw_rule de.old de.new) }
     {
         Ok(Asn1RawDer(de.deserialize_raw()?))
     }

@@ -30,3 +30,4 @@ pub mod OutcomeExamples
 pub mod RuleOrders
 pub mod RuledLists
 pub mod RuledMembers
+pub mod RuledInputs

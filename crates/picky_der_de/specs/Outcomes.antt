@@ -288,3 +288,18 @@ refused (Ok left) = None
 -- how these bytes are refused there, if they are
 abbrev pub refusal : Shape → Spot → List ℕ → Option Refusal
 refusal s at bs = refused (rule_of s at bs)
+
+-- ---- whole inputs
+
+-- before the end of an input of this many bytes
+abbrev pub input_spot : ℕ → Spot
+input_spot size = record { hard = false; ahead = size; implicit_tag = None }
+
+abbrev pub unless_whole : List ℕ → Outcome → Option (Asn1DerError × ℕ)
+unless_whole bytes (Err r) = Some (r.0, length bytes - length r.1)
+unless_whole bytes (Ok []) = None
+unless_whole bytes (Ok (b ∷ left)) = Some (InvalidData, length bytes - length (b ∷ left))
+
+-- how an input is refused that isn't one value's encoding: with which error, and after how many bytes
+abbrev pub whole_refusal : Rule → List ℕ → Option (Asn1DerError × ℕ)
+whole_refusal rule bytes = unless_whole bytes (rule (input_spot (length bytes)) bytes)

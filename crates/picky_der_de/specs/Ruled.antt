@@ -1,9 +1,10 @@
 -- What a deserializer does that reads by a rule.
-use Rattle.std.specs.Prelude.{◌≡◌, ◌≤◌, Bool, false, List, ⊤, Option, None, Some, Ok, Err, ℕ}
+use Rattle.std.specs.Prelude.{◌≡◌, ◌≢◌, ◌≤◌, Bool, false, List, ⊤, Option, None, Some, Ok, Err, ℕ}
 use Rattle.picky_der_core.specs.declared.error.Asn1DerError.{Asn1DerError}
+use Rattle.picky_der_core.specs.declared.error.Asn1DerError.TheVariants.{OutOfMemory}
 use Rattle.picky_der_de.specs.State.{State}
 use Rattle.picky_der_de.specs.Steps.{IsJudged, is_hard}
-use Rattle.picky_der_de.specs.Outcomes.{Spot, Rule, ContentRule, ChoiceRule, members_rule, in_turn}
+use Rattle.picky_der_de.specs.Outcomes.{Spot, Rule, ContentRule, ChoiceRule, members_rule, in_turn, whole_refusal}
 
 -- the place of the next value
 abbrev pub spot_of : State → Spot
@@ -107,3 +108,17 @@ ReadsInTurnBy (Some members) old new = AreReadInTurn members old new
 abbrev pub RefusesInTurnBy : Option (List Rule) → State → State → Asn1DerError → Type 0
 RefusesInTurnBy None old new e = ⊤
 RefusesInTurnBy (Some members) old new e = AreUnreadInTurn members old new e
+
+-- ---- whole inputs
+
+-- if a rule is said, it reads the input as one value
+
+abbrev pub ReadsWholeBy : Option Rule → List ℕ → Type 0
+ReadsWholeBy None bytes = ⊤
+ReadsWholeBy (Some rule) bytes = whole_refusal rule bytes ≡ None
+
+-- or refuses it with exactly this error, at exactly this position
+
+abbrev pub RefusesWholeBy : Option Rule → List ℕ → Asn1DerError → ℕ → Type 0
+RefusesWholeBy None bytes e position = ⊤
+RefusesWholeBy (Some rule) bytes e position = e ≢ OutOfMemory → whole_refusal rule bytes ≡ Some (e, position)

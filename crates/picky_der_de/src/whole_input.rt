@@ -2,6 +2,7 @@
 ghost use Rattle.std.specs.Prelude.{◌≡◌, length, IfOk, IfErr};
 ghost use Rattle.picky_der_core.specs.Equality.{IsKept};
 ghost use Rattle.picky_der_de.specs.Whole.{IsWhole, IsNoEncoding};
+ghost use Rattle.picky_der_de.specs.Ruled.{ReadsWholeBy, RefusesWholeBy};
 
 use crate::{Deserialize, Deserializer};
 use picky_der_core::Asn1DerError;
@@ -39,9 +40,14 @@ impl From<DecodeError> for Asn1DerError {
 ///
 /// An error other than `OutOfMemory` means that they aren't the encoding of a value. Unless it is `TruncatedData`, no bytes
 /// after them could make them one. Bytes after the encoding of a value are `InvalidData`, at the position after it.
+///
+/// If the type has a rule, the error and its position are exactly those of the rule.
 pub fn from_der<T: Deserialize>(alloc: Global, bytes: &[u8]) -> Result<T, DecodeError>
     ensures ok { IfOk result (IsWhole T.meaning T.shape T.eq bytes.now) }
     ensures err { IfErr result (λ refusal. IsNoEncoding T.meaning T.shape bytes.now
+        refusal.error refusal.position) }
+    ensures read_by { IfOk result (λ _. ReadsWholeBy T.facts.rule bytes.now) }
+    ensures refused_by { IfErr result (λ refusal. RefusesWholeBy T.facts.rule bytes.now
         refusal.error refusal.position) }
 {
     let mut de = Deserializer::new_from_reader(alloc, bytes, bytes.len());

@@ -1,6 +1,7 @@
 use Rattle.std.proofs.Common.{[], sym, ◌∙◌, arith}
 use Rattle.picky_der_de.specs.Facts.{is_lawful}
 use Rattle.picky_der_de.proofs.EntryReads.{front_read, consumed_all, is_whole, left_over, no_encoding}
+use Rattle.picky_der_de.proofs.RuledInputs.{whole_refused_by, whole_read_by, left_over_by}
 use Rattle.picky_der_de.proofs.whole_input.from_der.Goals as goal
 
 pub returns-then-position-bytes-clause-err : goal.returns-then-position-bytes-clause-err
@@ -20,3 +21,15 @@ returns-in-Ok-clause-ok g c =
 
 pub returns-clause-err : goal.returns-clause-err
 returns-clause-err g c = no_encoding g.T.Serialize.meaning g.T.Deserialize.shape c.new_from_reader-de.ensures c.has_no_faults.ensures.no_fault c.taken-position.ensures.consumed c.in-Err.ensures.err
+
+pub returns-then-position-bytes-clause-refused_by : goal.returns-then-position-bytes-clause-refused_by
+returns-then-position-bytes-clause-refused_by g c =
+    left_over_by c.new_from_reader-de.ensures g.T.Deserialize.facts.rule (g.T.Serialize.meaning c.in-Ok.value) c.taken-position.ensures.consumed c.if-position-bytes.true c.in-Ok.ensures.ok c.in-Ok.ensures.read_by
+
+pub returns-in-Ok-clause-read_by : goal.returns-in-Ok-clause-read_by
+returns-in-Ok-clause-read_by g c =
+    whole_read_by c.new_from_reader-de.ensures g.T.Deserialize.facts.rule (g.T.Serialize.meaning c.in-Ok.value) c.taken-position.ensures.consumed c.if-position-bytes.false c.in-Ok.ensures.ok c.in-Ok.ensures.read_by
+
+pub returns-clause-refused_by : goal.returns-clause-refused_by
+returns-clause-refused_by g c =
+    whole_refused_by c.new_from_reader-de.ensures g.T.Deserialize.facts.rule c.has_no_faults.ensures.no_fault c.taken-position.ensures.consumed c.in-Err.ensures.err.fails c.in-Err.ensures.refused_by

@@ -6,7 +6,7 @@ use Rattle.picky_der_de.specs.State.{State}
 use Rattle.picky_der_de.specs.Reading.{Refuses}
 use Rattle.picky_der_de.specs.Members.{RefusesMember}
 use Rattle.picky_der_de.proofs.MemberReads.{member_unread}
-use Rattle.std.proofs.Common.{refl}
+use Rattle.std.proofs.Common.{rules}
 use Rattle.std.proofs.lemmas.Result.{MatchResult-weaker}
 use Rattle.picky_der_de.proofs.RuleOrders.{unordered_reads_by, unordered_refuses_by}
 use Rattle.picky_der_de.proofs.deserializer.Deserializer.next_member.Goals as goal
@@ -20,8 +20,8 @@ returns-clause-err g c = unread _ _ _ _ c.deserialize.result c.deserialize.ensur
 
 pub returns-clause-read_by : goal.returns-clause-read_by
 returns-clause-read_by g c =
-    MatchResult-weaker c.deserialize.result c.deserialize.ensures.read_by (λ v h. unordered_reads_by g.T.Deserialize.facts.rule _ _ refl h) (λ e h. tt)
+    MatchResult-weaker c.deserialize.result c.deserialize.ensures.read_by (λ v h. unordered_reads_by g.T.Deserialize.facts.rule c.args.self.now c.deserialize.new.de (let n : c.args.self.now.sets.last ≡ None = search rules in n) h) (λ e h. tt)
 
 pub returns-clause-refused_by : goal.returns-clause-refused_by
 returns-clause-refused_by g c =
-    MatchResult-weaker c.deserialize.result c.deserialize.ensures.refused_by (λ v h. tt) (λ e h. unordered_refuses_by g.T.Deserialize.facts.rule _ _ e refl h)
+    MatchResult-weaker c.deserialize.result c.deserialize.ensures.refused_by (λ v h. tt) (λ e h. unordered_refuses_by g.T.Deserialize.facts.rule c.args.self.now c.deserialize.new.de e (let n : c.args.self.now.sets.last ≡ None = search rules in n) h)

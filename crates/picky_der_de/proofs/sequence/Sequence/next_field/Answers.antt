@@ -29,7 +29,7 @@ had_failed a e h w = let q : None ≡ Some (failure_of e) = sym w ∙ h in cc
 pub returns-in_err-is_at_end-clause-refused_by : goal.returns-in_err-is_at_end-clause-refused_by
 returns-in_err-is_at_end-clause-refused_by g c =
     let p = err_from_is_err_and c.from_residual.result c.from_residual.ensures.1 in
-    rw (p.1, p.2) (again_refuses_by _ _ _ _ (had_failed _ _ c.in_err-is_at_end.ensures.err))
+    rw (p.1, p.2) (again_refuses_by _ _ _ _ (had_failed c.args.self.now.de.now _ c.in_err-is_at_end.ensures.err))
 
 pub returns-then-branch-clause-refused_by : goal.returns-then-branch-clause-refused_by
 returns-then-branch-clause-refused_by g c =

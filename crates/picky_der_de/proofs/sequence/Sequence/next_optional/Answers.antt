@@ -1,7 +1,7 @@
 use Rattle.std.proofs.Common.{◌≡◌, true, false, sym, ◌∙◌}
 use Rattle.std.proofs.lemmas.Result.{err_from_is_err_and}
-use Rattle.picky_der_de.specs.Layouts.{begins_otherwise, no_member}
-use Rattle.picky_der_de.proofs.RuleMembers.{tag_seen, optional_member_refuses_by, optional_member_reads_by, optional_absent_by}
+use Rattle.picky_der_de.specs.Layouts.{no_more, begins_otherwise, no_member}
+use Rattle.picky_der_de.proofs.RuleMembers.{tag_seen, optional_member_refuses_by, optional_member_reads_by, optional_absent_by, optional_no_tag_by}
 use Rattle.picky_der_de.proofs.sequence.Sequence.next_optional.Goals as goal
 
 pub returns-in_err-next_field-in-Ok-Some-clause-err :
@@ -29,3 +29,10 @@ returns-then-begins_with-clause-read_by g c =
 pub returns-else-begins_with-clause-read_by : goal.returns-else-begins_with-clause-read_by
 returns-else-begins_with-clause-read_by g c =
     optional_absent_by g.T.Deserialize.shape _ c.args.self.now.whole (begins_otherwise c.in-Ok-Some.tag (rw c.in-Ok-Some.field-0-is at c.in-Ok-Some.ensures.tag) (λ own. let q : false ≡ true = sym c.if-begins_with.false ∙ c.begins_with.ensures.1 own in cc))
+
+pub returns-in-Ok-None-clause-read_by : goal.returns-in-Ok-None-clause-read_by
+returns-in-Ok-None-clause-read_by g c =
+    optional_absent_by g.T.Deserialize.shape _ c.args.self.now.whole (no_more (rw c.in-Ok-None.field-0-is at c.in-Ok-None.ensures.none))
+
+pub returns-in-Err-clause-refused_by : goal.returns-in-Err-clause-refused_by
+returns-in-Err-clause-refused_by g c = optional_no_tag_by _ _ c.in-Err.ensures.err c.in-Err.ensures.ahead
