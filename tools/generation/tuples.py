@@ -222,8 +222,6 @@ def read_members_proof(width: int) -> Lines:
     inner = others(0) if width > 1 else "layout_members g.Z.DeserializeMembers.facts g.met.Z.DeserializeMembers.proved"
     first = component("A")
     read = "c.in_ok-first.ensures.member c.in_ok-first.ensures.none"
-    member = "g.A.DeserializeMember"
-    is_read = f"(member_is_read {member}.item_meaning {member}.shape ({member}.item c.in_ok-first.first) {read})"
     return [
         *proof(),
         "use Rattle.std.proofs.lemmas.Result.{err_from_is_err_and}",
@@ -245,6 +243,15 @@ def read_members_proof(width: int) -> Lines:
         "",
         "pub returns-clause-ok : goal.returns-clause-ok",
         f"returns-clause-ok g c = layout_member_read {first} c.in_ok-first.first c.requires.implicit_tag {read} c.in_ok-others.ensures.ok",
+        *read_by_rule_proof(read),
+    ]
+
+
+def read_by_rule_proof(read: str) -> Lines:
+    """That members are read and refused by their rules, where the first was read as said."""
+    member = "g.A.DeserializeMember"
+    is_read = f"(member_is_read {member}.item_meaning {member}.shape ({member}.item c.in_ok-first.first) {read})"
+    return [
         "",
         "pub returns-in_err-first-clause-refused_by : goal.returns-in_err-first-clause-refused_by",
         "returns-in_err-first-clause-refused_by g c =",
