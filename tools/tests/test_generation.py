@@ -32,7 +32,7 @@ class Rows(unittest.TestCase):
         self.assertEqual(len(names), len(set(names)))
 
     def test_a_kind_has_its_notation_and_is_exact(self) -> None:
-        row = table.Kind("A", "X", "1", "X", 1, "OWN", "λ it. t it", "e", ["Exact.e"], "b")
+        row = table.Kind("A", "1", "X", 1, "OWN", "λ it. t it", "e", ["Exact.e"], "b", "X")
         self.assertEqual(
             ["impl Notated for A {", "ghost values = { plain_values Notation.X (λ it. t it) e };"],
             [line.strip() for line in kinds.implementations(row) if "impl Notated" in line or "values" in line],
