@@ -1,3 +1,4 @@
+mod KnownTags
 mod LaterWrites
 pub mod RawTags
 mod ListContents

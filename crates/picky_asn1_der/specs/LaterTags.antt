@@ -1,10 +1,11 @@
 -- With which bytes members of later versions don't begin.
-use Rattle.std.specs.Prelude.{◌≡◌, ◌<◌, ℕ, ◌+◌, ◌-◌, ◌/◌, ◌%◌, Bool, true, false, List, [], ◌∷◌, ◌==◌, ◌||◌, if◌then◌else◌, refl}
+use Rattle.std.specs.Prelude.{◌≡◌, ◌<◌, ℕ, ◌+◌, ◌-◌, ◌/◌, ◌%◌, Bool, true, false, List, [], ◌∷◌, ◌==◌, ◌||◌, ◌&&◌, if◌then◌else◌, refl}
 use Rattle.std.specs.List.{list_all}
-use Rattle.std.proofs.Common.{arith}
+use Rattle.std.proofs.Common.{ap, ◌∙◌, arith}
 use Rattle.std.proofs.lemmas.Bool.Decides.{nat_tests}
 use Rattle.picky_der_core.specs.Tag.{is_constructed}
 use Rattle.picky_der_core.specs.Shape.{begins_outside, contains}
+use Rattle.picky_der_de.specs.OtherLaws.{others_of}
 
 -- the primitive one of the two bytes of a tag, and the other one of them (X.690, 8.1.2.5)
 abbrev pub primitive_of : ℕ → ℕ
@@ -53,3 +54,13 @@ in_either_form (b ∷ bs) t = shuffle (t == primitive_of b) (t == primitive_of b
 -- the other byte of a tag is a byte
 pub other_is_byte : (t : ℕ) → t < 256 → other_form t < 256
 other_is_byte t h = grind (arith, nat_tests)
+
+-- elements with the same trees have the same bytes
+pub each_same : {E : Type 0} (excluded : List ℕ) (bytes : E → List ℕ) (xs ys : List E) → others_of bytes xs ≡ others_of bytes ys → each_outside excluded bytes xs ≡ each_outside excluded bytes ys
+each_same excluded bytes [] [] e = refl
+each_same excluded bytes [] (y ∷ ys) e = cc
+each_same excluded bytes (x ∷ xs) [] e = cc
+each_same excluded bytes (x ∷ xs) (y ∷ ys) e =
+    let first : bytes x ≡ bytes y = cc in
+    let rest : others_of bytes xs ≡ others_of bytes ys = cc in
+    ap (λ s. begins_outside excluded s && each_outside excluded bytes xs) first ∙ ap (λ b. begins_outside excluded (bytes y) && b) (each_same excluded bytes xs ys rest)
