@@ -3,7 +3,7 @@ use Rattle.std.specs.Prelude.{◌≡◌, ◌≢◌, ℕ, ◌-◌, ◌^◌, ◌�
 use Rattle.picky_der_core.specs.Integer.{integer_content, integer_value, integer_tree, fits_signed}
 use Rattle.picky_der_core.specs.Primitive.{Primitive, primitive_content}
 use Rattle.picky_der_core.specs.Readable.{IsReadable}
-use Rattle.picky_der_core.specs.Shape.{AreOthers, EachIs, FirstAndRest, FirstOrNone, IsEmpty, contains}
+use Rattle.picky_der_core.specs.Shape.{AreOthers, IsRawOutside, EachIs, FirstAndRest, FirstOrNone, IsEmpty, contains}
 use Rattle.picky_der_core.specs.Tree.{ListKind, Tree, Trees}
 use Rattle.der_types.specs.CharacterStrings.{characters, is_string_content}
 use Rattle.der_types.specs.Constraints.{is_size, is_between, tree_bytes, list_size, member_count}
@@ -81,7 +81,7 @@ abbrev mutual
   pub DenoteMembers : Members → Trees → Type 0
   DenoteMembers Members.end = IsEmpty
   DenoteMembers (Members.member m ms) = DenoteFirst m (DenoteMembers ms)
-  DenoteMembers (Members.others known) = AreOthers known
+  DenoteMembers (Members.others excluded known) = λ ts. AreOthers excluded ts × EachIs (IsRawOutside known) ts
 
   pub DenoteOneOf : Alternatives → Tree → Type 0
   DenoteOneOf Alternatives.none = λ t. ⊥

@@ -58,8 +58,8 @@ mutual
   pub data Members : Type 0 where
     end : Members
     member : Member → Members → Members
-    -- the members of later versions, of which the first begins with none of these bytes
-    others : List ℕ → Members
+    -- the members of later versions, of which the first begins with none of these bytes, and each with none of those
+    others : List ℕ → List ℕ → Members
 
   pub data Alternatives : Type 0 where
     none : Alternatives
@@ -100,7 +100,7 @@ abbrev mutual
   pub layout_of : Members → Layout
   layout_of Members.end = Layout.empty
   layout_of (Members.member m ms) = member_then m (layout_of ms)
-  layout_of (Members.others excluded) = Layout.others excluded
+  layout_of (Members.others excluded known) = Layout.others excluded
 
   pub shapes_of : Alternatives → Shapes
   shapes_of Alternatives.none = Shapes.none

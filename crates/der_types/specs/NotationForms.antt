@@ -8,6 +8,7 @@ use Rattle.picky_der_core.specs.Integer.{fits_signed, int_tree, unsigned_tree}
 use Rattle.picky_der_core.specs.Primitive.{Primitive}
 use Rattle.picky_der_core.specs.Tree.{ListKind, Tree}
 use Rattle.picky_der_core.specs.Shape.{firsts}
+use Rattle.picky_asn1_der.specs.LaterTags.{in_both_forms}
 use Rattle.der_types.specs.ContentForms.{INTEGER}
 use Rattle.der_types.specs.Notation.{Notation, Member, Members, Alternatives, shape_of}
 use Rattle.der_types.specs.TagOrder.{tag_place}
@@ -62,7 +63,11 @@ abbrev pub ◌⨾◌ : Member → Members → Members
 
 -- 25.1: the members of later versions of an extensible type. `SEQUENCE` says with which bytes the first of them doesn't begin.
 abbrev pub later-members : Members
-later-members = Members.others []
+later-members = Members.others [] []
+
+-- the same, where the tags are automatic (25.7): none of them has the tag of a member again. `SEQUENCE` says which tags these are.
+abbrev pub later-members-automatic : Members
+later-members-automatic = Members.others [] (0x00 ∷ [])
 
 -- the same, where none of them may be there
 abbrev pub later-members-refused : Members
@@ -107,20 +112,22 @@ default-as-optional = Member.optional
 abbrev pub added : Notation → Member
 added = Member.optional
 
--- The first member of a later version begins otherwise than each member directly before it that may be absent. These are the bytes
--- of those that came so far.
-abbrev excluding : List ℕ → Members → Members
-excluding before Members.end = Members.end
-excluding before (Members.member (Member.required t) ms) = Members.member (Member.required t) (excluding [] ms)
-excluding before (Members.member (Member.optional t) ms) = Members.member (Member.optional t) (excluding (before ++ firsts (shape_of t)) ms)
-excluding before (Members.member (Member.defaulted value t) ms) = Members.member (Member.defaulted value t) (excluding (before ++ firsts (shape_of t)) ms)
-excluding before (Members.others excluded) = Members.others before
+-- The first member of a later version has another tag than each member directly before it that may be absent, and with automatic tags
+-- each has another tag than all members. A tag is excluded in both of its forms (X.690, 8.1.2.5). These are the first bytes of the members
+-- that may be absent, and of all, that came so far.
+abbrev excluding : List ℕ → List ℕ → Members → Members
+excluding before known Members.end = Members.end
+excluding before known (Members.member (Member.required t) ms) = Members.member (Member.required t) (excluding [] (known ++ firsts (shape_of t)) ms)
+excluding before known (Members.member (Member.optional t) ms) = Members.member (Member.optional t) (excluding (before ++ firsts (shape_of t)) (known ++ firsts (shape_of t)) ms)
+excluding before known (Members.member (Member.defaulted value t) ms) = Members.member (Member.defaulted value t) (excluding (before ++ firsts (shape_of t)) (known ++ firsts (shape_of t)) ms)
+excluding before known (Members.others excluded []) = Members.others (in_both_forms before) []
+excluding before known (Members.others excluded (b ∷ bs)) = Members.others (in_both_forms before) (in_both_forms known)
 
 -- 25: one without members is a list of none, and one with those of later versions alone a list of any elements
 abbrev pub SEQUENCE : Members → Notation
 SEQUENCE Members.end = Notation.sized 0 0 (Notation.list-of ListKind.sequence Notation.NULL)
-SEQUENCE (Members.others excluded) = Notation.list-of ListKind.sequence Notation.any-element
-SEQUENCE ms = Notation.sequence (excluding [] ms)
+SEQUENCE (Members.others excluded known) = Notation.list-of ListKind.sequence Notation.any-element
+SEQUENCE ms = Notation.sequence (excluding [] [] ms)
 
 abbrev least_place : List ℕ → ℕ
 least_place [] = 128
@@ -134,12 +141,12 @@ place_of (Member.defaulted value t) = least_place (firsts (shape_of t))
 
 abbrev insert : Member → Members → Members
 insert m Members.end = m ⨾ Members.end
-insert m (Members.others excluded) = m ⨾ Members.others excluded
+insert m (Members.others excluded known) = m ⨾ Members.others excluded known
 insert m (Members.member n ns) = if nat_lt (place_of m) (place_of n) then m ⨾ n ⨾ ns else n ⨾ insert m ns
 
 abbrev in_tag_order : Members → Members
 in_tag_order Members.end = Members.end
-in_tag_order (Members.others excluded) = Members.others excluded
+in_tag_order (Members.others excluded known) = Members.others excluded known
 in_tag_order (Members.member m ms) = insert m (in_tag_order ms)
 
 -- 27, and X.690, 10.3: the members come in the order of their tags

@@ -3,6 +3,7 @@ ghost use Rattle.std.specs.Prelude.{refl};
 ghost use Rattle.der_types.specs.ExactMembers.{MemberValues, ProvedMember, MembersValues, ProvedMembers, required_values, optional_values, none_values};
 ghost use Rattle.der_types.specs.ExactLater.{others_values};
 ghost use Rattle.der_types.specs.MadeValues.{vec_of};
+ghost use Rattle.picky_asn1_der.specs.LaterTags.{in_both_forms};
 ghost use Rattle.picky_der_core.specs.Shape.{firsts_of};
 
 use crate::{Exact, NotatedMember, NotatedMembers};
@@ -40,9 +41,9 @@ impl<T: Exact + Begins> ExactMember for Optional<T> {
     ghost exact_member = { Prim.assumption };
 }
 
-impl<A: Alternatives> ExactMembers for LaterMembers<A> {
-    ghost all_values = { others_values (λ raw. raw.0.items) (λ s h. (record { 0 = vec_of s h }, refl)) (firsts_of A.shapes) (λ it. it.elements.items) (λ it. it.outside)
-        (λ es o h. (record { elements = vec_of es h; before = record {}; outside = o }, refl)) };
+impl<A: Alternatives, K: Alternatives> ExactMembers for LaterMembers<A, K> {
+    ghost all_values = { others_values (λ raw. raw.0.items) (λ s h. (record { 0 = vec_of s h }, refl)) (in_both_forms (firsts_of A.shapes)) (in_both_forms (firsts_of K.shapes)) (λ it. it.elements.items) (λ it. it.outside) (λ it. it.later)
+        (λ es o l h. (record { elements = vec_of es h; before = record {}; known = record {}; outside = o; later = l }, refl)) };
 
     ghost exact_members = { Prim.assumption };
 }

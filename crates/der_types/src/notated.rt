@@ -4,6 +4,7 @@ ghost use Rattle.std.proofs.Common.{ap};
 ghost use Rattle.picky_der_core.specs.declared.asn1.wrapper.Wrapper.TheVariants as wrapper;
 ghost use Rattle.picky_der_core.specs.Tree.{ListKind};
 ghost use Rattle.picky_der_core.specs.Shape.{Shape, Layout, firsts_of};
+ghost use Rattle.picky_asn1_der.specs.LaterTags.{in_both_forms};
 ghost use Rattle.der_types.specs.Notation.{Notation, Member, Members, Alternatives, shape_of, layout_of, shapes_of};
 ghost use Rattle.der_types.specs.NotationLaws.{IsMember, one_or_other};
 
@@ -170,8 +171,8 @@ impl NotatedMembers for () {
     ghost denoted_layout = { refl };
 }
 
-impl<A: Alternatives> NotatedMembers for LaterMembers<A> {
-    ghost members_notation = { Members.others (firsts_of A.shapes) };
+impl<A: Alternatives, K: Alternatives> NotatedMembers for LaterMembers<A, K> {
+    ghost members_notation = { Members.others (in_both_forms (firsts_of A.shapes)) (in_both_forms (firsts_of K.shapes)) };
 
     ghost denoted_layout = { refl };
 }
