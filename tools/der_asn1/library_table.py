@@ -107,7 +107,7 @@ _TERMS = {
     "Notation": "INTEGER-named ENUMERATED any-content content-under end none optional required",
     "NotationForms": """ANY APPLICATION AUTOMATIC BIT-STRING-CONTAINING CHOICE CONTEXT EXPLICIT FALSE IMPLICIT INTEGER-from-minus-to
         INTEGER-from-to MAX Mode OCTET-STRING-CONTAINING PRIVATE SEQUENCE SEQUENCE-OF SET SET-OF SIZE TRUE UNIVERSAL added default
-        default-as-optional default-of wider later-alternatives-refused later-members later-members-refused minus number ◌⨾◌ ◌∣◌""",
+        default-as-optional default-of wider later-alternatives-refused later-members later-members-automatic later-members-refused minus number ◌⨾◌ ◌∣◌""",
 }
 _OWN_TERMS = {
     "ContentForms": [it.term for it in TYPES if it.is_checked],

@@ -22,7 +22,7 @@ if TYPE_CHECKING:
 
 
 # the words of a term after the last member of an extensible type
-LATER, NO_LATER = "later-members", "later-members-refused"
+LATER, LATER_AUTOMATIC, NO_LATER = "later-members", "later-members-automatic", "later-members-refused"
 
 
 @dataclass(frozen=True)
@@ -89,7 +89,7 @@ def declared_struct(meanings: "Meanings", type_: tree.StructureType, scope: Scop
         found = found.lacking(*default.features).noting(*default.notes)
         fields.append(field_of(it, default))
     end = last_word(type_, scope, parts)
-    later = later_field(parts, fields) if end == LATER else None
+    later = later_field(parts, fields, end) if end in (LATER, LATER_AUTOMATIC) else None
     if end == NO_LATER:
         found = found.lacking(Feature.EXTENSION)
     fields = unique(fields if later is None else [*fields, later])
@@ -115,7 +115,15 @@ def last_word(type_: tree.StructureType, scope: Scope, parts: list[Part]) -> str
     if not is_extensible(type_, scope):
         return "end"
     is_any = any(it.firsts >= ANY_FIRST for it in before_later(parts))
-    return NO_LATER if type_.form is tree.Form.SET or type_.continues or is_any else LATER
+    if type_.form is tree.Form.SET or type_.continues or is_any:
+        return NO_LATER
+    return LATER_AUTOMATIC if all(is_automatic(it) for it in parts) else LATER
+
+
+def is_automatic(part: Part) -> bool:
+    """Whether its tag is one that automatic tagging gives (X.680, 25.7)."""
+    tags = part.resolved.member.type.tags
+    return bool(tags) and tags[0].is_automatic
 
 
 def before_later(parts: list[Part]) -> list[Part]:
@@ -124,11 +132,14 @@ def before_later(parts: list[Part]) -> list[Part]:
     return parts[last:]
 
 
-def later_field(parts: list[Part], fields: list[Field]) -> Field:
-    """The field of the members of later versions. Its type has those of the members directly before that may be absent."""
+def later_field(parts: list[Part], fields: list[Field], end: str) -> Field:
+    """The field of the members of later versions.
+
+    Its type has those of the members directly before that may be absent, and with automatic tags the number of all members.
+    """
     before = fields[len(parts) - len(before_later(parts)) :]
-    types = parts_type([it.type for it in before])
-    return Field("later_members", of("LaterMembers", types), notation="...", comment="The members of later versions, in their order.")
+    types, count = parts_type([it.type for it in before]), len(parts) if end == LATER_AUTOMATIC else 0
+    return Field("later_members", of("LaterMembers", types, str(count)), notation="...", comment="The members of later versions, in their order.")
 
 
 def item_text(part: Part) -> str:

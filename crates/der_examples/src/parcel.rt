@@ -20,15 +20,16 @@ pub struct Parcel {
     /// What is written on it.
     pub note: Option<String>,
     /// The members of later versions, in order. The type lists the optional members directly before them as alternatives of a choice, and
-    /// `NoneOf` alone if there is none. The first element may not begin as one of these alternatives.
-    pub later: LaterMembers<OneOf<String, NoneOf>>,
+    /// `NoneOf` alone if there is none. The first element may not have the tag of one of these alternatives, be it primitive or constructed.
+    /// The number is that of all members if the tags are automatic, and else 0.
+    pub later: LaterMembers<OneOf<String, NoneOf>, 0>,
 }
 
 type Members = (
     u32,
     bool,
     Optional<String>,
-    LaterMembers<OneOf<String, NoneOf>>,
+    LaterMembers<OneOf<String, NoneOf>, 0>,
 );
 
 impl Struct for Parcel {

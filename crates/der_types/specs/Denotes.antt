@@ -3,8 +3,9 @@ use Rattle.std.specs.Prelude.{◌≡◌, ◌≢◌, ℕ, ◌-◌, ◌^◌, ◌�
 use Rattle.picky_der_core.specs.Integer.{integer_content, integer_value, integer_tree, fits_signed}
 use Rattle.picky_der_core.specs.Primitive.{Primitive, primitive_content}
 use Rattle.picky_der_core.specs.Readable.{IsReadable}
-use Rattle.picky_der_core.specs.Shape.{AreOthers, IsRawOutside, EachIs, FirstAndRest, FirstOrNone, IsEmpty, contains}
+use Rattle.picky_der_core.specs.Shape.{AreOthers, EachIs, FirstAndRest, FirstOrNone, IsEmpty, contains}
 use Rattle.picky_der_core.specs.Tree.{ListKind, Tree, Trees}
+use Rattle.picky_asn1_der.specs.LaterTags.{begins_later}
 use Rattle.der_types.specs.CharacterStrings.{characters, is_string_content}
 use Rattle.der_types.specs.Constraints.{is_size, is_between, tree_bytes, list_size, member_count}
 use Rattle.der_types.specs.ContentTypes.{ContentType, tag_of, test_of, size_of, string_width, string_character}
@@ -46,6 +47,11 @@ content_tree tag s = Tree.primitive (Primitive.bytes tag s)
 abbrev pub HasContent : ℕ → (List ℕ → Bool) → Tree → Type 0
 HasContent tag test = IsMade (content_tree tag) (λ s. test s ≡ true)
 
+-- an element without a context tag whose number is below this one
+abbrev pub IsLater : ℕ → Tree → Type 0
+IsLater count (Tree.raw s) = IsTrue (begins_later count s)
+IsLater count _ = ⊥
+
 -- A readable tree that is denoted is a value's.
 abbrev mutual
   pub Denotes : Notation → Tree → Type 0
@@ -81,7 +87,7 @@ abbrev mutual
   pub DenoteMembers : Members → Trees → Type 0
   DenoteMembers Members.end = IsEmpty
   DenoteMembers (Members.member m ms) = DenoteFirst m (DenoteMembers ms)
-  DenoteMembers (Members.others excluded known) = λ ts. AreOthers excluded ts × EachIs (IsRawOutside known) ts
+  DenoteMembers (Members.others excluded count) = λ ts. AreOthers excluded ts × EachIs (IsLater count) ts
 
   pub DenoteOneOf : Alternatives → Tree → Type 0
   DenoteOneOf Alternatives.none = λ t. ⊥

@@ -58,8 +58,9 @@ mutual
   pub data Members : Type 0 where
     end : Members
     member : Member → Members → Members
-    -- the members of later versions, of which the first begins with none of these bytes, and each with none of those
-    others : List ℕ → List ℕ → Members
+    -- the members of later versions, of which the first begins with none of these bytes, and none has a context tag whose number is below
+    -- this one
+    others : List ℕ → ℕ → Members
 
   pub data Alternatives : Type 0 where
     none : Alternatives
@@ -100,7 +101,7 @@ abbrev mutual
   pub layout_of : Members → Layout
   layout_of Members.end = Layout.empty
   layout_of (Members.member m ms) = member_then m (layout_of ms)
-  layout_of (Members.others excluded known) = Layout.others excluded
+  layout_of (Members.others excluded count) = Layout.others excluded
 
   pub shapes_of : Alternatives → Shapes
   shapes_of Alternatives.none = Shapes.none

@@ -1,6 +1,6 @@
 -- The forms of a module as terms: what a module has on the left of these equations, and the type of ASN.1 that it is. The clauses are
 -- those of X.680, but where another one is named.
-use Rattle.std.specs.Prelude.{ℕ, ◌+◌, ◌-◌, ◌*◌, ◌/◌, ◌%◌, ◌^◌, Bool, true, false, ◌&&◌, List, [], ◌∷◌, ◌++◌, ◌==◌, nat_lt, pos, negsuc, if◌then◌else◌}
+use Rattle.std.specs.Prelude.{ℕ, zero, suc, ◌+◌, ◌-◌, ◌*◌, ◌/◌, ◌%◌, ◌^◌, Bool, true, false, ◌&&◌, List, [], ◌∷◌, ◌++◌, ◌==◌, nat_lt, pos, negsuc, if◌then◌else◌}
 use Rattle.picky_der_core.specs.declared.asn1.tag.TagClass.{TagClass}
 use Rattle.picky_der_core.specs.declared.asn1.tag.TagClass.TheVariants.{Universal, Application, ContextSpecific, Private}
 use Rattle.picky_der_core.specs.declared.asn1.wrapper.Wrapper.TheVariants as wrapper
@@ -63,11 +63,11 @@ abbrev pub ◌⨾◌ : Member → Members → Members
 
 -- 25.1: the members of later versions of an extensible type. `SEQUENCE` says with which bytes the first of them doesn't begin.
 abbrev pub later-members : Members
-later-members = Members.others [] []
+later-members = Members.others [] 0
 
--- the same, where the tags are automatic (25.7): none of them has the tag of a member again. `SEQUENCE` says which tags these are.
+-- the same, where the tags are automatic (25.7): none of them has the tag of a member again. `SEQUENCE` says how many tags these are.
 abbrev pub later-members-automatic : Members
-later-members-automatic = Members.others [] (0x00 ∷ [])
+later-members-automatic = Members.others [] 1
 
 -- the same, where none of them may be there
 abbrev pub later-members-refused : Members
@@ -112,22 +112,21 @@ default-as-optional = Member.optional
 abbrev pub added : Notation → Member
 added = Member.optional
 
--- The first member of a later version has another tag than each member directly before it that may be absent, and with automatic tags
--- each has another tag than all members. A tag is excluded in both of its forms (X.690, 8.1.2.5). These are the first bytes of the members
--- that may be absent, and of all, that came so far.
-abbrev excluding : List ℕ → List ℕ → Members → Members
-excluding before known Members.end = Members.end
-excluding before known (Members.member (Member.required t) ms) = Members.member (Member.required t) (excluding [] (known ++ firsts (shape_of t)) ms)
-excluding before known (Members.member (Member.optional t) ms) = Members.member (Member.optional t) (excluding (before ++ firsts (shape_of t)) (known ++ firsts (shape_of t)) ms)
-excluding before known (Members.member (Member.defaulted value t) ms) = Members.member (Member.defaulted value t) (excluding (before ++ firsts (shape_of t)) (known ++ firsts (shape_of t)) ms)
-excluding before known (Members.others excluded []) = Members.others (in_both_forms before) []
-excluding before known (Members.others excluded (b ∷ bs)) = Members.others (in_both_forms before) (in_both_forms known)
+-- The first member of a later version has another tag than each member directly before it that may be absent, in both of its forms (X.690,
+-- 8.1.2.5). These are the first bytes of those that came so far, and how many members came in all: automatic tags count them (25.7).
+abbrev excluding : List ℕ → ℕ → Members → Members
+excluding before count Members.end = Members.end
+excluding before count (Members.member (Member.required t) ms) = Members.member (Member.required t) (excluding [] (suc count) ms)
+excluding before count (Members.member (Member.optional t) ms) = Members.member (Member.optional t) (excluding (before ++ firsts (shape_of t)) (suc count) ms)
+excluding before count (Members.member (Member.defaulted value t) ms) = Members.member (Member.defaulted value t) (excluding (before ++ firsts (shape_of t)) (suc count) ms)
+excluding before count (Members.others excluded zero) = Members.others (in_both_forms before) 0
+excluding before count (Members.others excluded (suc n)) = Members.others (in_both_forms before) count
 
 -- 25: one without members is a list of none, and one with those of later versions alone a list of any elements
 abbrev pub SEQUENCE : Members → Notation
 SEQUENCE Members.end = Notation.sized 0 0 (Notation.list-of ListKind.sequence Notation.NULL)
-SEQUENCE (Members.others excluded known) = Notation.list-of ListKind.sequence Notation.any-element
-SEQUENCE ms = Notation.sequence (excluding [] [] ms)
+SEQUENCE (Members.others excluded count) = Notation.list-of ListKind.sequence Notation.any-element
+SEQUENCE ms = Notation.sequence (excluding [] 0 ms)
 
 abbrev least_place : List ℕ → ℕ
 least_place [] = 128
@@ -141,12 +140,12 @@ place_of (Member.defaulted value t) = least_place (firsts (shape_of t))
 
 abbrev insert : Member → Members → Members
 insert m Members.end = m ⨾ Members.end
-insert m (Members.others excluded known) = m ⨾ Members.others excluded known
+insert m (Members.others excluded count) = m ⨾ Members.others excluded count
 insert m (Members.member n ns) = if nat_lt (place_of m) (place_of n) then m ⨾ n ⨾ ns else n ⨾ insert m ns
 
 abbrev in_tag_order : Members → Members
 in_tag_order Members.end = Members.end
-in_tag_order (Members.others excluded known) = Members.others excluded known
+in_tag_order (Members.others excluded count) = Members.others excluded count
 in_tag_order (Members.member m ms) = insert m (in_tag_order ms)
 
 -- 27, and X.690, 10.3: the members come in the order of their tags

@@ -41,9 +41,9 @@ impl<T: Exact + Begins> ExactMember for Optional<T> {
     ghost exact_member = { Prim.assumption };
 }
 
-impl<A: Alternatives, K: Alternatives> ExactMembers for LaterMembers<A, K> {
-    ghost all_values = { others_values (λ raw. raw.0.items) (λ s h. (record { 0 = vec_of s h }, refl)) (in_both_forms (firsts_of A.shapes)) (in_both_forms (firsts_of K.shapes)) (λ it. it.elements.items) (λ it. it.outside) (λ it. it.later)
-        (λ es o l h. (record { elements = vec_of es h; before = record {}; known = record {}; outside = o; later = l }, refl)) };
+impl<A: Alternatives, const N: u8> ExactMembers for LaterMembers<A, N> {
+    ghost all_values = { others_values (λ raw. raw.0.items) (λ s h. (record { 0 = vec_of s h }, refl)) (in_both_forms (firsts_of A.shapes)) N (λ it. it.elements.items) (λ it. it.outside) (λ it. it.later)
+        (λ es o l h. (record { elements = vec_of es h; before = record {}; outside = o; later = l }, refl)) };
 
     ghost exact_members = { Prim.assumption };
 }

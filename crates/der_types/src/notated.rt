@@ -171,8 +171,8 @@ impl NotatedMembers for () {
     ghost denoted_layout = { refl };
 }
 
-impl<A: Alternatives, K: Alternatives> NotatedMembers for LaterMembers<A, K> {
-    ghost members_notation = { Members.others (in_both_forms (firsts_of A.shapes)) (in_both_forms (firsts_of K.shapes)) };
+impl<A: Alternatives, const N: u8> NotatedMembers for LaterMembers<A, N> {
+    ghost members_notation = { Members.others (in_both_forms (firsts_of A.shapes)) N };
 
     ghost denoted_layout = { refl };
 }

@@ -28,7 +28,7 @@ impl Inhabited for Asn1RawDer {
     ghost example = { (record { 0 = null_element }, null_element_readable) };
 }
 
-impl<A: Alternatives, K: Alternatives> FaithfulMembers for LaterMembers<A, K> {
+impl<A: Alternatives, const N: u8> FaithfulMembers for LaterMembers<A, N> {
     ghost sameness = { plain_members (λ x y. pointwise (λ a b. pointwise eqb a.0.items b.0.items) x.elements.items y.elements.items ∷ []) (λ it. others_of (λ raw. raw.0.items) it.elements.items) (others_respect (λ raw. raw.0.items) (λ it. it.elements.items)) };
 
     ghost respects = { Prim.assumption };

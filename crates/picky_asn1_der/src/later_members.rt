@@ -5,13 +5,13 @@ ghost use Rattle.picky_der_de.specs.MembersFacts.{others_facts};
 ghost use Rattle.picky_der_de.specs.Layouts.{Lacks, RefusesLayout};
 ghost use Rattle.picky_der_de.specs.OtherLaws.{are_outside, others_of};
 ghost use Rattle.picky_der_de.specs.SequenceState.{borrowed_by, outer_of, state_of};
-ghost use Rattle.picky_asn1_der.specs.LaterTags.{each_outside, in_both_forms, other_form};
+ghost use Rattle.picky_asn1_der.specs.LaterTags.{begins_later, each_later, in_both_forms, other_form};
 
 use crate::Asn1RawDer;
 use picky_der_core::asn1::Tag;
 use picky_der_core::misc::{ReadExt, WriteExt};
 use picky_der_core::{Asn1DerError, Result};
-use picky_der_de::{Alternatives, DeserializeMembers, NoneOf};
+use picky_der_de::{Alternatives, DeserializeMembers};
 use picky_der_ser::{SerializeMember, SerializeMembers};
 use std::alloc::Global;
 use std::marker::PhantomData;
@@ -23,19 +23,17 @@ use std::marker::PhantomData;
 /// `OneOf<B, OneOf<C, NoneOf>>`. After a member that is always there it is `NoneOf`. The first element has the tag of no value of
 /// these types, whether it is primitive or constructed.
 ///
-/// `K` has the types of all members of the struct if its tags are automatic (X.680, 25.7): no later member has one of their tags
-/// again. Then no element has the tag of a value of these types, in either form. Else `K` is `NoneOf`.
+/// `N` is the number of members of the struct if its tags are automatic (X.680, 25.7): no later member has one of their tags again.
+/// Then no element has a context tag with a number below `N`, in either form. Else `N` is 0.
 #[derive(Drop)]
 #[derive_where(Debug, PartialEq, Eq)]
-pub struct LaterMembers<A: Alternatives, K: Alternatives = NoneOf> {
+pub struct LaterMembers<A: Alternatives, const N: u8> {
     /// The elements, each with its header.
     pub elements: Vec<Asn1RawDer>,
     #[derive_where(skip)]
     before: PhantomData<A>,
-    #[derive_where(skip)]
-    known: PhantomData<K>,
     ghost outside: { are_outside (in_both_forms (firsts_of A.shapes)) (λ raw. raw.0.items) elements.items ≡ true },
-    ghost later: { each_outside (in_both_forms (firsts_of K.shapes)) (λ raw. raw.0.items) elements.items ≡ true },
+    ghost later: { each_later N (λ raw. raw.0.items) elements.items ≡ true },
 }
 
 // The same tag, constructed in place of primitive, or primitive in place of constructed.
@@ -77,50 +75,57 @@ fn are_outside<A: Alternatives>(elements: &[Asn1RawDer]) -> bool
     }
 }
 
-// Whether each element has the tag of no value of `K`.
-fn each_outside<K: Alternatives>(elements: &[Asn1RawDer]) -> bool
-    ensures { result ≡ each_outside (in_both_forms (firsts_of K.shapes)) (λ raw. raw.0.items) elements.now }
+// Whether the element has no context tag with a number below this one.
+fn is_later(element: &Asn1RawDer, count: u8) -> bool
+    ensures { result ≡ begins_later count element.now.0.items }
 {
-    for element in elements {
-        if !is_outside::<K>(element) {
-            return false;
+    match element.0.first() {
+        Some(byte) => {
+            let number = Tag::from(*byte).number();
+            !(0x80 <= *byte && *byte < 0xC0 && number < count)
         }
+        None => true,
     }
-    true
 }
 
-impl<A: Alternatives, K: Alternatives> LaterMembers<A, K> {
+// Whether no element has such a tag.
+fn each_later(elements: &[Asn1RawDer], count: u8) -> bool
+    ensures { result ≡ each_later count (λ raw. raw.0.items) elements.now }
+{
+    elements.iter().all(|element| is_later(element, count))
+}
+
+impl<A: Alternatives, const N: u8> LaterMembers<A, N> {
     /// No members, on this allocator.
-    pub fn none(alloc: Global) -> LaterMembers<A, K>
+    pub fn none(alloc: Global) -> LaterMembers<A, N>
         ensures { result.elements.items ≡ [] }
     {
         LaterMembers {
             elements: Vec::new(alloc),
             before: PhantomData,
-            known: PhantomData,
         }
     }
 
-    /// These elements, or `None` if the first of them has the tag of a value of `A`, or one has that of a value of `K`.
-    pub fn new(elements: Vec<Asn1RawDer>) -> Option<LaterMembers<A, K>>
+    /// These elements, or `None` if the first of them has the tag of a value of `A`, or one has a context tag with a number below
+    /// `N`.
+    pub fn new(elements: Vec<Asn1RawDer>) -> Option<LaterMembers<A, N>>
         ensures some { IfSome result (λ it. it.elements ≡ elements) }
         ensures none { IfNone result ((are_outside (in_both_forms (firsts_of A.shapes)) (λ raw. raw.0.items)
-            elements.items ≡ false) ⊎ (each_outside (in_both_forms (firsts_of K.shapes)) (λ raw. raw.0.items)
+            elements.items ≡ false) ⊎ (each_later N (λ raw. raw.0.items)
             elements.items ≡ false)) }
     {
-        if are_outside::<A>(&elements) && each_outside::<K>(&elements) {
+        if are_outside::<A>(&elements) && each_later(&elements, N) {
             Some(LaterMembers {
                 elements,
                 before: PhantomData,
-                known: PhantomData,
-            })
+                })
         } else {
             None
         }
     }
 }
 
-impl<A: Alternatives, K: Alternatives> SerializeMembers for LaterMembers<A, K> {
+impl<A: Alternatives, const N: u8> SerializeMembers for LaterMembers<A, N> {
     ghost members = { λ it. others_of (λ raw. raw.0.items) it.elements.items };
 
     fn serialize_members<W: WriteExt>(
@@ -135,7 +140,7 @@ impl<A: Alternatives, K: Alternatives> SerializeMembers for LaterMembers<A, K> {
 }
 
 // Looks at the next byte. One of the tag of a value of `A` is refused.
-fn refuse_excluded<A: Alternatives, K: Alternatives, R: ReadExt>(
+fn refuse_excluded<A: Alternatives, R: ReadExt, const N: u8>(
     sequence: &mut picky_der_de::Sequence<'_, R>,
 ) -> Result<()>
     requires implicit_tag { (state_of sequence.old).implicit_tag ≡ None }
@@ -143,7 +148,7 @@ fn refuse_excluded<A: Alternatives, K: Alternatives, R: ReadExt>(
     ensures outer { outer_of sequence.new ≡ outer_of sequence.old }
     ensures ok { OnOk result (Lacks (Shape.choice A.shapes) (state_of sequence.old)
         (state_of sequence.new)) }
-    ensures err { IfErr result (RefusesLayout ⟦<LaterMembers<A, K> as SerializeMembers>⟧.members
+    ensures err { IfErr result (RefusesLayout ⟦<LaterMembers<A, N> as SerializeMembers>⟧.members
         (Layout.others (in_both_forms (firsts_of A.shapes))) (state_of sequence.old) (state_of sequence.new)) }
 {
     match sequence.next_tag() {
@@ -158,15 +163,15 @@ fn refuse_excluded<A: Alternatives, K: Alternatives, R: ReadExt>(
     }
 }
 
-impl<A: Alternatives, K: Alternatives> DeserializeMembers for LaterMembers<A, K> {
+impl<A: Alternatives, const N: u8> DeserializeMembers for LaterMembers<A, N> {
     ghost layout = { Layout.others (in_both_forms (firsts_of A.shapes)) };
 
     ghost facts = { others_facts (λ raw. raw.0.items) (in_both_forms (firsts_of A.shapes)) (λ it. it.elements.items) (λ it. it.outside) };
 
     fn deserialize_members<R: ReadExt>(
         sequence: &mut picky_der_de::Sequence<'_, R>,
-    ) -> Result<LaterMembers<A, K>> {
-        refuse_excluded::<A, K, R>(sequence)?;
+    ) -> Result<LaterMembers<A, N>> {
+        refuse_excluded::<A, R, N>(sequence)?;
         let elements = sequence.remaining::<Asn1RawDer>()?;
         match LaterMembers::new(elements) {
             Some(members) => Ok(members),

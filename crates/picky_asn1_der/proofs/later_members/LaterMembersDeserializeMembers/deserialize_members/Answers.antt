@@ -23,12 +23,11 @@ returns-in-Some-clause-ok g c =
 pub returns-in-None-clause-err : goal.returns-in-None-clause-err
 returns-in-None-clause-err g c =
     let excluded = in_both_forms (firsts_of g.A.Alternatives.shapes) in
-    let known = in_both_forms (firsts_of g.K.Alternatives.shapes) in
     let es = c.in_ok-elements.elements.items in
     look_refused (skips c.requires.implicit_tag c.in_ok-refuse_excluded.ensures.ok)
     (elim c.in-None.ensures.none [
       | inl own ↦ others_excluded (λ raw. raw.0.items) excluded (λ it. it.elements.items) es c.in_ok-elements.ensures.ok own c.refuse.ensures.fails
       | inr own ↦ others_differ (λ raw. raw.0.items) excluded (λ it. it.elements.items) es c.in_ok-elements.ensures.ok (λ it e.
-      let same : true ≡ false = sym it.later ∙ each_same known (λ raw. raw.0.items) it.elements.items es e ∙ own in
+      let same : true ≡ false = sym it.later ∙ each_same c.N (λ raw. raw.0.items) it.elements.items es e ∙ own in
       cc) c.refuse.ensures.fails
     ])
