@@ -1,6 +1,7 @@
 -- Elements that are put in order.
-use Rattle.std.specs.Prelude.{◌≡◌, ℕ, ◌<◌, ◌≤◌, List, ◌++◌, length, map, slice_range, Vec, Global, Result, Ok, Err}
-use Rattle.std.specs.Prelude.{Bor}
+use Rattle.std.specs.Prelude.{◌≡◌, ℕ, ◌<◌, ◌≤◌, List, ◌++◌, length, map, slice_range, Vec, Result, Ok, Err}
+use Rattle.std.specs.Borrow.{Bor}
+use Rattle.std.specs.Global.{Global}
 use Rattle.std.specs.List.{AllByRecursion, concat}
 use Rattle.picky_der_core.specs.Element.{IsElement}
 use Rattle.picky_der_core.specs.Order.{in_ascending_order}
@@ -27,10 +28,10 @@ AreCut bytes (Ok v) = AreMembers (map (λ m. m.now) v.items) bytes
 AreCut bytes (Err r) = BreaksMember bytes r
 
 -- these bytes are the elements of those in ascending order
-pub record AreInOrder (bytes sorted : List ℕ) : Type 0 where
+pub record AreInOrder (bytes ordered : List ℕ) : Type 0 where
   pub members : List (List ℕ)
   pub cut : AreMembers members bytes
-  pub sorted : sorted ≡ concat (in_ascending_order members)
+  pub is : ordered ≡ concat (in_ascending_order members)
 
 abbrev pub AreArranged : List ℕ → Result (Vec ℕ Global) Rule → Type 0
 AreArranged bytes (Ok v) = AreInOrder bytes v.items
