@@ -256,9 +256,16 @@ static void writing(void) {
     picky_der_put(out, sizeof out, &used, 0x02, &two, 1);
     picky_der_put(out, sizeof out, &used, 0x02, &one, 1);
     need(picky_der_wrap(out, sizeof out, &used, 0, 0x31) == PICKY_DER_RULE_SET_ORDER && used == 6, "a set out of order");
+    need(picky_der_sort(out, sizeof out, used, 7) == PICKY_DER_NO_PLACE && picky_der_sort(out, sizeof out, 9, 0) == PICKY_DER_NO_ROOM, "no bytes to sort");
+    need(picky_der_sort(out, sizeof out, used, 1) > 100 && memcmp(out, "\x02\x01\x02\x02\x01\x01", 6) == 0, "bytes that aren't elements");
+    need(picky_der_sort(out, sizeof out, used, used) == PICKY_DER_OK && memcmp(out, "\x02\x01\x02\x02\x01\x01", 6) == 0, "none to sort");
     need(picky_der_wrap(out, sizeof out, &used, 7, 0x30) == PICKY_DER_NO_PLACE && used == 6, "a start past the end");
     need(picky_der_wrap(out, sizeof out, &used, 0, 0x30) == PICKY_DER_OK && used == 8, "the same as a sequence");
     need(memcmp(out, "\x30\x06\x02\x01\x02\x02\x01\x01", 8) == 0, "its bytes");
+    used = 6;
+    memmove(out, out + 2, 6);
+    need(picky_der_sort(out, sizeof out, used, 0) == PICKY_DER_OK && picky_der_wrap(out, sizeof out, &used, 0, 0x31) == PICKY_DER_OK, "a set in order");
+    need(memcmp(out, "\x31\x06\x02\x01\x01\x02\x01\x02", 8) == 0, "its bytes");
     used = SIZE_MAX - 1;
     need(picky_der_put(out, sizeof out, &used, 0x02, &one, 1) == PICKY_DER_UNSUPPORTED && used == SIZE_MAX - 1, "a size that isn't one");
     need(picky_der_wrap(out, sizeof out, &used, 0, 0x30) == PICKY_DER_UNSUPPORTED && used == SIZE_MAX - 1, "a size that isn't one");

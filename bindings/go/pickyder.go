@@ -163,6 +163,23 @@ func (w *Writer) Within(tag byte, write func() error) error {
 	if err := write(); err != nil {
 		return err
 	}
+	return w.wrap(tag, start)
+}
+
+// SetOf appends a SET OF, whose members are what the function writes, in the order of their encodings (X.690, 11.6).
+func (w *Writer) SetOf(write func() error) error {
+	start := len(w.bytes)
+	if err := write(); err != nil {
+		return err
+	}
+	used := C.size_t(len(w.bytes))
+	if err := errorOf(C.picky_der_sort(pointer(w.bytes), used, used, C.size_t(start)), start); err != nil {
+		return err
+	}
+	return w.wrap(0x31, start)
+}
+
+func (w *Writer) wrap(tag byte, start int) error {
 	return w.grow(func(out []byte, used *C.size_t) C.picky_der_code {
 		return C.picky_der_wrap(pointer(out), C.size_t(len(out)), used, C.size_t(start), C.uint8_t(tag))
 	})

@@ -124,6 +124,15 @@ func writeAgain(t *testing.T, w *Writer, der []byte) error {
 	return err
 }
 
+func writeNumbers(w *Writer, numbers ...byte) (err error) {
+	for _, number := range numbers {
+		if err == nil {
+			err = w.Put(2, []byte{number})
+		}
+	}
+	return err
+}
+
 func TestWriting(t *testing.T) {
 	for _, it := range inputs(t) {
 		var w Writer
@@ -141,6 +150,22 @@ func TestWriting(t *testing.T) {
 		}
 		return w.Put(2, []byte{1})
 	})
+	if err == nil || len(w.Bytes()) != 6 {
+		t.Error("what was written stays", w.Bytes())
+	}
+	if err := w.SetOf(func() error { return nil }); err != nil || !bytes.Equal(w.Bytes()[6:], []byte{0x31, 0}) {
+		t.Error("an empty set", err)
+	}
+	var sorted Writer
+	for _, number := range []byte{2, 1} {
+		number := number
+		if err := sorted.SetOf(func() error { return writeNumbers(&sorted, number, 1, 2) }); err != nil {
+			t.Error("a set in order", err)
+		}
+	}
+	if !bytes.Equal(sorted.Bytes(), []byte{0x31, 9, 2, 1, 1, 2, 1, 2, 2, 1, 2, 0x31, 9, 2, 1, 1, 2, 1, 1, 2, 1, 2}) {
+		t.Error("the order of sets", sorted.Bytes())
+	}
 	if err == nil || !strings.Contains(err.Error(), "X.690, 10.3, 11.6") {
 		t.Error("a set out of order", err)
 	}

@@ -9,7 +9,7 @@ import ctypes
 import os
 import threading
 from ctypes import POINTER, byref, c_bool, c_char_p, c_size_t, c_uint8, c_uint32
-from typing import Callable, Iterable, Iterator, List, NamedTuple, Optional, Tuple, Type, Union
+from typing import Callable, Iterable, Iterator, NamedTuple, Optional, Tuple, Type, Union
 
 from . import _tables
 from ._tables import RULES, TEXTS, TYPES
@@ -19,6 +19,7 @@ __all__ = ["DecodeError", "Element", "TYPES", "Writer", "check", "elements", "en
 Data = Union[bytes, bytearray, memoryview]
 
 _SHORTEST_ENDS = 32
+_SET = 0x31
 
 
 class _Element(ctypes.Structure):
@@ -50,7 +51,8 @@ def _load() -> ctypes.CDLL:
     library.picky_der_next.argtypes = [c_char_p, c_size_t, POINTER(_Place), sizes, c_size_t, POINTER(_Element)]
     library.picky_der_put.argtypes = [POINTER(c_uint8), c_size_t, sizes, c_uint8, c_char_p, c_size_t]
     library.picky_der_wrap.argtypes = [POINTER(c_uint8), c_size_t, sizes, c_size_t, c_uint8]
-    for name in ("check", "front", "elements", "next", "put", "wrap"):
+    library.picky_der_sort.argtypes = [POINTER(c_uint8), c_size_t, c_size_t, c_size_t]
+    for name in ("check", "front", "elements", "next", "put", "wrap", "sort"):
         getattr(library, f"picky_der_{name}").restype = c_uint32
     return library
 
@@ -196,6 +198,10 @@ class Writer:
         """What is written in this block is the content of an element with this tag."""
         return _Within(self, _byte(tag))
 
+    def set_of(self) -> "_Within":
+        """What is written in this block are the members of a SET OF, which are put in the order of X.690, 11.6."""
+        return _Within(self, _SET, sorts=True)
+
     def bytes(self) -> bytes:
         """What was written."""
         with self._lock:
@@ -203,6 +209,9 @@ class Writer:
 
     def _wrap(self, start: int, tag: int) -> None:
         self._call(lambda out, used: _library.picky_der_wrap(out, len(out), used, start, tag))
+
+    def _sort(self, start: int) -> None:
+        self._call(lambda out, used: _library.picky_der_sort(out, len(out), self._used, start))
 
     def _call(self, call: "Callable[[ctypes.Array[c_uint8], object], int]") -> None:
         """Calls with the room that there is, and if that is too small, with what the first call counted at least."""
@@ -222,14 +231,16 @@ class Writer:
 
 
 class _Within:
-    def __init__(self, writer: Writer, tag: int) -> None:
-        self._writer, self._tag, self._start = writer, tag, 0
+    def __init__(self, writer: Writer, tag: int, sorts: bool = False) -> None:
+        self._writer, self._tag, self._sorts, self._start = writer, tag, sorts, 0
 
     def __enter__(self) -> Writer:
         self._start = self._writer._used
         return self._writer
 
     def __exit__(self, kind: object, value: object, trace: object) -> None:
+        if kind is None and self._sorts:
+            self._writer._sort(self._start)
         if kind is None:
             self._writer._wrap(self._start, self._tag)
 
@@ -246,19 +257,24 @@ def encode(tag: int, *contents: Data) -> bytes:
     It raises DecodeError for the tag of a SET, 0x31, if the members are in neither of the orders of a SET; `encode_set` sorts them.
     """
     content = b"".join(map(_bytes, contents))
-    if tag != 0x31:
-        return Writer().put(tag, content).bytes()
     writer = Writer()
+    if tag != _SET:
+        return writer.put(tag, content).bytes()
     with writer.within(tag):
-        for member in _members(content):
-            writer.put(member.tag, member.content)
+        _put_all(writer, content)
     return writer.bytes()
-
-
-def _members(content: bytes) -> List[Element]:
-    return [it for it in elements(content) if it.depth == 0]
 
 
 def encode_set(members: Iterable[Data]) -> bytes:
     """Returns a SET OF with these members, encodings that are put in the order of X.690, 11.6."""
-    return encode(0x31, *sorted(map(_bytes, members)))
+    writer = Writer()
+    with writer.set_of():
+        _put_all(writer, b"".join(map(_bytes, members)))
+    return writer.bytes()
+
+
+def _put_all(writer: Writer, content: bytes) -> None:
+    """Writes the outermost elements of the content."""
+    for it in elements(content):
+        if it.depth == 0:
+            writer.put(it.tag, it.content)

@@ -128,6 +128,14 @@ class Tests(unittest.TestCase):
         for it in CASES[:20]:
             self.assertEqual(self.again(it.der), it.der)
         self.assertEqual(picky_der.encode_set([b"\x02\x01\x02", b"\x02\x01\x01"]).hex(), "3106020101020102")
+        self.assertEqual(picky_der.encode_set([]), b"\x31\x00")
+        self.assertRaises(DecodeError, picky_der.encode_set, [b"\x02\x01\x02", b"\x02\x01"])
+        writer = picky_der.Writer()
+        with writer.put(0x05).set_of():
+            for size in range(300, 0, -1):
+                writer.put(0x04, bytes(size))
+        members = [bytes(it.content) for it in picky_der.elements(writer.bytes()[2:]) if it.depth == 1]
+        self.assertEqual(members, [bytes(size) for size in range(1, 301)])
         self.assertRaises(DecodeError, picky_der.encode, 0x31, b"\x02\x01\x02", b"\x02\x01\x01")
         self.assertRaises(ValueError, picky_der.encode, 256)
 

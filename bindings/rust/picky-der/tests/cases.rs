@@ -107,6 +107,9 @@ fn small_ones() {
     let mut writer = Writer::new();
     let unordered = writer.within(0x31, |set| set.put(2, &[2])?.put(2, &[1]).map(|_| ()));
     assert!(unordered.unwrap_err().rule().is_some());
+    let mut writer = Writer::new();
+    writer.set_of(|set| set.put(2, &[2])?.put(2, &[1, 1])?.put(2, &[1]).map(drop)).unwrap();
+    assert_eq!(writer.as_bytes(), [0x31, 10, 2, 1, 1, 2, 1, 2, 2, 2, 1, 1]);
     let mut deep = Vec::new();
     for _ in 0..200 {
         let mut writer = Writer::new();
