@@ -25,9 +25,10 @@ pub one_more : (xs ys : List (Bor (List ℕ))) (x : Bor (List ℕ)) (bytes rest 
 one_more xs ys x bytes rest after same elements is element e =
     let ms : List (List ℕ) = map (λ m. m.now) xs in
     let all : map (λ m. m.now) ys ≡ ms ++ (x.now ∷ []) =
-    ap (map (λ m. m.now)) same ∙ map-append (λ m. m.now) xs (x ∷ []) in
-    (subst (AllByRecursion IsElement) (sym all) (all_and_one ms x.now elements element),
-    is ∙ ap (λ b. concat ms ++ b) e ∙ sym (concat_and_one ms x.now after) ∙ ap (λ a. concat a ++ after) (sym all))
+    ap (map (λ m. m.now)) same ∙ map-append (λ m. m.now) xs (x ∷ []) in (
+      subst (AllByRecursion IsElement) (sym all) (all_and_one ms x.now elements element),
+      is ∙ ap (λ b. concat ms ++ b) e ∙ sym (concat_and_one ms x.now after) ∙ ap (λ a. concat a ++ after) (sym all),
+    )
 
 -- as many bytes, in another order
 pub length-in_order : (bytes ordered : List ℕ) → AreInOrder bytes ordered → length ordered ≡ length bytes
