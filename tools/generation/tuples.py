@@ -228,6 +228,7 @@ def read_members_proof(width: int) -> Lines:
         "use Rattle.picky_der_de.specs.MembersFacts.{layout_member, layout_members}",
         f"use Rattle.picky_der_de.specs.LayoutLaws.{{after{', lead' if width > 1 else ''}}}",
         "use Rattle.picky_der_de.proofs.LayoutReads.{layout_member_head, layout_member_next, layout_member_read}",
+        "use Rattle.picky_der_de.specs.RefusesBy.{unsaid}",
         "use Rattle.picky_der_de.proofs.MemberRuled.{layout_head_by, layout_next_by, still_none}",
         f"use Rattle.picky_der_de.proofs.generated.members.Tuple{width + 1}DeserializeMembers.deserialize_members.Goals as goal",
         "",
@@ -252,21 +253,21 @@ def read_members_by_rule(first: str, read: str) -> Lines:
     a = "g.A.DeserializeMember"
     member = f"{a}.item_meaning {a}.left_out {a}.shape {a}.facts.rule"
     item = f"{a}.presence ({a}.item c.in_ok-first.first) ({first}.there c.in_ok-first.first) {read}"
-    after = f"(still_none {member} others none c.requires.implicit_tag ({a}.item c.in_ok-first.first) {read})"
+    after = f"(still_none {member} unsaid none c.requires.implicit_tag ({a}.item c.in_ok-first.first) {read})"
     return [
         "",
         "pub returns-in_err-first-clause-refused_by : goal.returns-in_err-first-clause-refused_by",
         "returns-in_err-first-clause-refused_by g c =",
         "    let p = err_from_is_err_and c.from_residual.result c.from_residual.ensures.1 in",
-        f"    rw (p.1, p.2) (λ none others. layout_head_by {member} _ none c.requires.implicit_tag {a}.presence c.in_err-first.ensures.err)",
+        f"    rw (p.1, p.2) (λ none. layout_head_by {member} _ none c.requires.implicit_tag {a}.presence c.in_err-first.ensures.err)",
         "",
         "pub returns-in_err-others-clause-refused_by : goal.returns-in_err-others-clause-refused_by",
         "returns-in_err-others-clause-refused_by g c =",
         "    let p = err_from_is_err_and c.from_residual-in_err-others.result c.from_residual-in_err-others.ensures.1 in",
-        f"    rw (p.1, p.2) (λ none others. layout_next_by {member} _ none c.requires.implicit_tag {item} (c.in_err-others.ensures.refused_by {after} others))",
+        f"    rw (p.1, p.2) (λ none. layout_next_by {member} _ none c.requires.implicit_tag {item} (c.in_err-others.ensures.refused_by {after}))",
         "",
         "pub returns-clause-leads : goal.returns-clause-leads",
-        f"returns-clause-leads g c = λ none others last e by. layout_next_by {member} _ none c.requires.implicit_tag {item} (c.in_ok-others.ensures.leads {after} others last e by)",
+        f"returns-clause-leads g c = λ none last e by. layout_next_by {member} _ none c.requires.implicit_tag {item} (c.in_ok-others.ensures.leads {after} last e by)",
     ]
 
 

@@ -32,7 +32,7 @@ use Rattle.picky_der_de.specs.PlainRules.{by_bytes}
 use Rattle.picky_der_de.specs.Rules.{IsNext, spot_before, soft_spot, AreNext, each_rule, at_member, after_member}
 use Rattle.picky_der_de.specs.Rules.{RefusesEachBy, list_of_rule, field_rule, always_rule, at_field, after_field}
 use Rattle.picky_der_de.specs.Rules.{perhaps_rule, cut, there, is_default, after_there, at_end, absent, layout_rule}
-use Rattle.picky_der_de.specs.Rules.{missing, refused, next_byte_refusal, fields_rule, end_rule, LeadsTo, RefusesBefore}
+use Rattle.picky_der_de.specs.Rules.{missing, refused, next_byte_refusal, fields_rule, LeadsTo, RefusesBefore}
 use Rattle.picky_der_de.proofs.Refusals.{front_consumed}
 use Rattle.picky_der_de.proofs.Order.{judged_after_any_order}
 use Rattle.picky_der_de.proofs.KnownBytes.{kept_known}
@@ -315,15 +315,14 @@ module _ {V : Type 0} (meaning : V → Tree) (s : Shape) (rule : Rule) {tag : �
 
 -- ---- structs
 
-module _ (members : Rule → Rule) where
+module _ (members : Rule) where
   none_before : {a b : State} {outer : EnclosingEnd} → OpensList 0x30 a b outer → b.sets.last ≡ None
   none_before o = ap (λ (z : State). z.sets.last) o.opened
 
   pub struct_member_by : {a b c : State} {outer : EnclosingEnd} {e : Asn1DerError} → OpensList 0x30 a b outer
       → RefusesBefore members b c e → RefusesBy (fields_rule ListKind.sequence members) a c e
-  struct_member_by o by = content_by (members end_rule) o (by (none_before o) end_rule)
+  struct_member_by o by = content_by members o (by (none_before o))
 
   pub struct_end_by : {a b c d : State} {outer : EnclosingEnd} {e : Asn1DerError} → OpensList 0x30 a b outer
       → LeadsTo members b c → RefusesClose c d e → RefusesBy (fields_rule ListKind.sequence members) a d e
-  struct_end_by {d = d} {e = e} o leads h =
-      content_by (members end_rule) o (leads (none_before o) end_rule d e (end_by h))
+  struct_end_by {d = d} {e = e} o leads h = content_by members o (leads (none_before o) d e (end_by h))

@@ -16,7 +16,7 @@ use Rattle.picky_der_de.specs.Layouts.{Presence, always, perhaps, layout_with}
 use Rattle.picky_der_de.specs.LayoutLaws.{IsLayoutMember, AreLayoutMembers, same_unless_default, no_layout_members}
 use Rattle.picky_der_de.specs.LayoutLaws.{after, lead}
 use Rattle.picky_der_de.specs.RefusesBy.{Rule, unsaid}
-use Rattle.picky_der_de.specs.Rules.{layout_rule, fields_rule}
+use Rattle.picky_der_de.specs.Rules.{layout_rule, fields_rule, end_rule}
 use Rattle.picky_der_de.specs.Facts.{Facts, Proved, is_lawful}
 use Rattle.picky_der_de.specs.FirstTests.{are_members_distinct, members_distinct}
 use Rattle.picky_der_de.specs.OtherLaws.{others_of, are_outside, others_are}
@@ -158,8 +158,8 @@ pub record MembersFacts (P : Type 0) (l : Layout) : Type 1 where
   pub tests : P → P → List Bool
   -- whether each member that is always there can't be absent
   pub there : Bool
-  -- with which error bytes are refused, by the rule for what follows the members
-  pub rule : Rule → Rule
+  -- with which error bytes are refused up to the end, after which nothing may be left over
+  pub rule : Rule
   pub Premise : Type 0
   -- two lists of readable members with the same trees pass them, where the first byte distinguishes missing members
   pub follows : Premise → AreLayoutMembers members l (λ x y. AreTrue (tests x y))
@@ -179,7 +179,7 @@ none_facts = record {
   members = λ x. Trees.none;
   tests = λ x y. [];
   there = true;
-  rule = λ others. others;
+  rule = end_rule;
   Premise = ⊤;
   follows =
       λ o. no_layout_members;
@@ -195,7 +195,7 @@ module _ {P : Type 0} {l : Layout} where
     members = λ x. prepend (first x) (others.members x);
     tests = λ x y. a.eq (first x) (first y) ∷ others.tests x y;
     there = a.there && others.there;
-    rule = λ more. layout_rule presence meaning left_out s a.rule (others.rule more);
+    rule = layout_rule presence meaning left_out s a.rule others.rule;
     Premise = ProvedMember a prepend × others.Premise;
     follows = λ o. lead first (layout_member a o.0) (others.follows o.1);
   }
@@ -225,7 +225,7 @@ module _ {P E : Type 0} (bytes : E → List ℕ) (excluded : List ℕ) (elements
     members = λ p. others_of bytes (elements p);
     tests = λ x y. pointwise (λ a b. pointwise eqb (bytes a) (bytes b)) (elements x) (elements y) ∷ [];
     there = true;
-    rule = λ more. unsaid;
+    rule = unsaid;
     Premise = ⊤;
     follows = λ o. others_are bytes excluded elements outside;
   }

@@ -170,18 +170,18 @@ abbrev pub layout_rule : {V : Type 0} → Presence → (V → Tree) → (V → B
 layout_rule always meaning left_out s = always_rule meaning s
 layout_rule perhaps meaning left_out s = perhaps_rule meaning left_out s
 
--- Such members were read, where no order is tested: they are refused before others as these are refused after them.
-abbrev pub LeadsTo : (Rule → Rule) → State → State → Type 0
-LeadsTo members old new = old.sets.last ≡ None → (others : Rule) (last : State) (e : Asn1DerError)
-    → RefusesBy others new last e → RefusesBy (members others) old last e
+-- Such members were read, where no order is tested: what is left over after them is refused as after them.
+abbrev pub LeadsTo : Rule → State → State → Type 0
+LeadsTo members old new = old.sets.last ≡ None → (last : State) (e : Asn1DerError) → RefusesBy end_rule new last e
+    → RefusesBy members old last e
 
--- they are refused before any others
-abbrev pub RefusesBefore : (Rule → Rule) → State → State → Asn1DerError → Type 0
-RefusesBefore members old new e = old.sets.last ≡ None → (others : Rule) → RefusesBy (members others) old new e
+-- one of them was refused
+abbrev pub RefusesBefore : Rule → State → State → Asn1DerError → Type 0
+RefusesBefore members old new e = old.sets.last ≡ None → RefusesBy members old new e
 
--- a sequence or set of these members, before whose end nothing may be left over
-abbrev pub fields_rule : ListKind → (Rule → Rule) → Rule
-fields_rule kind members = list_rule (list_tag kind) (members end_rule)
+-- a sequence or set of these members, of which the last ones are followed by `end_rule`
+abbrev pub fields_rule : ListKind → Rule → Rule
+fields_rule kind members = list_rule (list_tag kind) members
 
 -- ---- choices
 

@@ -1,7 +1,7 @@
 use Rattle.std.proofs.Common.{refl, rules}
 use Rattle.picky_der_core.specs.Tree.{ListKind}
 use Rattle.picky_der_de.specs.RefusesBy.{RefusesBy}
-use Rattle.picky_der_de.specs.Rules.{fields_rule, end_rule}
+use Rattle.picky_der_de.specs.Rules.{fields_rule}
 use Rattle.picky_der_de.proofs.WrapperRuled.{header_by}
 use Rattle.picky_der_de.proofs.MemberRuled.{struct_member_by, struct_end_by}
 use Rattle.picky_der_de.specs.FirstTests.{members_distinct}
@@ -34,7 +34,7 @@ returns-clause-ok g c =
 pub returns-in_err-sequence-clause-refused_by : goal.returns-in_err-sequence-clause-refused_by
 returns-in_err-sequence-clause-refused_by g c =
     passed_on (RefusesBy (fields_rule ListKind.sequence g.T.Members.DeserializeMembers.facts.rule) _) _
-    c.from_residual.ensures.1 refl (header_by (g.T.Members.DeserializeMembers.facts.rule end_rule)
+    c.from_residual.ensures.1 refl (header_by g.T.Members.DeserializeMembers.facts.rule
     (rw c.in_err-sequence.was at c.begin_list.follows.holds-at-none))
 
 pub returns-in_err-members-clause-refused_by : goal.returns-in_err-members-clause-refused_by

@@ -5,4 +5,4 @@ pub returns-clause-ok : goal.returns-clause-ok
 returns-clause-ok g c = layout_none c.requires.implicit_tag
 
 pub returns-clause-leads : goal.returns-clause-leads
-returns-clause-leads g c = λ none others last e by. by
+returns-clause-leads g c = λ none last e by. by
