@@ -227,15 +227,15 @@ def read_members_proof(width: int) -> Lines:
         "use Rattle.std.proofs.lemmas.Result.{err_from_is_err_and}",
         "use Rattle.picky_der_de.specs.MembersFacts.{layout_member, layout_members}",
         f"use Rattle.picky_der_de.specs.LayoutLaws.{{after{', lead' if width > 1 else ''}}}",
+        "use Rattle.picky_der_de.specs.Rules.{field_rule}",
         "use Rattle.picky_der_de.proofs.LayoutReads.{layout_member_head, layout_member_next, layout_member_read}",
-        "use Rattle.picky_der_de.specs.RefusesBy.{unsaid}",
         "use Rattle.picky_der_de.proofs.MemberRuled.{layout_head_by, layout_next_by, still_none}",
         f"use Rattle.picky_der_de.proofs.generated.members.Tuple{width + 1}DeserializeMembers.deserialize_members.Goals as goal",
         "",
         "pub returns-in_err-first-clause-err : goal.returns-in_err-first-clause-err",
         "returns-in_err-first-clause-err g c =",
         "    let p = err_from_is_err_and c.from_residual.result c.from_residual.ensures.1 in",
-        f"    rw (p.1, p.2) (layout_member_head {first} g.met.A.DeserializeMember.distinguished (λ v. v.0) ({others(1)}) c.requires.implicit_tag c.in_err-first.ensures.err)",
+        f"    rw (p.1, p.2) (layout_member_head {first} (field_rule g.A.DeserializeMember.facts.rule) g.met.A.DeserializeMember.distinguished (λ v. v.0) ({others(1)}) c.requires.implicit_tag c.in_err-first.ensures.err)",
         "",
         "pub returns-in_err-others-clause-err : goal.returns-in_err-others-clause-err",
         "returns-in_err-others-clause-err g c =",
@@ -253,7 +253,7 @@ def read_members_by_rule(first: str, read: str) -> Lines:
     a = "g.A.DeserializeMember"
     member = f"{a}.item_meaning {a}.left_out {a}.shape {a}.facts.rule"
     item = f"{a}.presence ({a}.item c.in_ok-first.first) ({first}.there c.in_ok-first.first) {read}"
-    after = f"(still_none {member} unsaid none c.requires.implicit_tag ({a}.item c.in_ok-first.first) {read})"
+    after = f"(still_none {a}.item_meaning {a}.shape _ _ none c.requires.implicit_tag ({a}.item c.in_ok-first.first) {read})"
     return [
         "",
         "pub returns-in_err-first-clause-refused_by : goal.returns-in_err-first-clause-refused_by",

@@ -1,5 +1,5 @@
 -- Choices and values of twins are refused by their rules.
-use Rattle.std.proofs.Common.{◌≡◌, ◌≢◌, ℕ, Bool, true, false, List, ◌∷◌, Option, Some, None, refl, sym, ◌∙◌, ap, subst}
+use Rattle.std.proofs.Common.{◌≡◌, ◌≢◌, ℕ, Bool, true, false, List, [], ◌∷◌, Option, Some, None, refl, sym, ◌∙◌, ap, subst}
 use Rattle.std.proofs.Common.{IfSome, inl, inr}
 use Rattle.picky_der_core.specs.declared.error.Asn1DerError.{Asn1DerError}
 use Rattle.picky_der_core.specs.declared.error.Asn1DerError.TheVariants.{InvalidData, OutOfMemory}
@@ -37,7 +37,7 @@ module _ {begins : List ℕ} {this : Rule} {others : ChoiceRule} {b : ℕ} {a c 
 
   pub other_by : (contains begins b ≡ true → ⊥) → RefusesBy (others b) a c e
       → RefusesBy (alternative_rule begins this others b) a c e
-  other_by no by j bs left k l = at_other (is_false (contains begins b) no) (by j bs left k l)
+  other_by other by j bs left k l = at_other (is_false (contains begins b) other) (by j bs left k l)
     where
       is_false : (x : Bool) → (x ≡ true → ⊥) → x ≡ false
       is_false true h = absurd (h refl)
@@ -80,6 +80,7 @@ module _ {V W : Type 0} {meaning : W → Tree} {s : Shape} {parts : V → W} {ru
   -- a value of the twin was read that is none of the type
   pub no_value_by : {a b c : State} {kind e : Asn1DerError} (w : W) → Reads s a b (meaning w)
       → IsNoValue meaning parts w kind → FailsAs kind b e c → RefusesBy (tested_rule meaning s parts rule) a c e
+  unfolding next_of
   no_value_by {a} {b} {c} {kind} {e} w r none f j bs left k l = by_error none
     where
       same : e ≡ kind
@@ -88,4 +89,4 @@ module _ {V W : Type 0} {meaning : W → Tree} {s : Shape} {parts : V → W} {ru
       by_error : IsNoValue meaning parts w kind → tested_rule meaning s parts rule (spot_of a) bs e left
       by_error (inl memory) = absurd (j.memory (same ∙ memory))
       by_error (inr other) =
-          after_twin b.until_end (next_of w r k (sym (ap (λ (z : State). z.input) f.1) ∙ l)) other.1 (same ∙ other.0)
+          after_twin b.until_end (next_of w r k (sym (ap (λ (z : State). z.input) f.1) ∙ l) refl) other.1 (same ∙ other.0)

@@ -516,12 +516,12 @@ module _ {W X : Type 0} {presence : Presence} {prepend : X → Trees → Trees} 
       by_presence always (Some w) t r h = required_read r n
       by_presence perhaps o t r h = maybe_read meaning o whole r h n
 
-  pub layout_member_head : {rule : Rule} {left_out : W → Bool} → IsLeftOut meaning item left_out
+  pub layout_member_head : (rule : Rule) {left_out : W → Bool} → IsLeftOut meaning item left_out
       → {V : Type 0} {others : V → Trees} {l : Layout} {AreEqual : V → V → Type 0} (first : V → X)
       → AreLayoutMembers others l AreEqual → {b d : State} {e : Asn1DerError} → b.implicit_tag ≡ None
       → RefusesLayoutMember presence meaning left_out s rule b d e
       → RefusesLayout (λ v. prepend (first v) (others v)) (layout_with presence s l) b d e
-  layout_member_head {rule} {left_out} left {V} {others} {l} first cs {b} {d} {e} whole h =
+  layout_member_head rule {left_out} left {V} {others} {l} first cs {b} {d} {e} whole h =
       refuses_alike (λ v. c.prepends (first v) (others v)) (by_presence presence c.there h)
     where
       by_presence : (p : Presence) → ((x : X) → IsThere p (item x)) → RefusesLayoutMember p meaning left_out s rule b d e

@@ -51,19 +51,19 @@ whole_spot : (a : State) → a.implicit_tag ≡ None → spot_of a ≡ spot_befo
 whole_spot a d = rw d refl
 
 -- after what was read of a list
-after_spot : {a b : State} {bytes : List ℕ} → Consumed (without_order a) (without_order b) bytes → b.implicit_tag ≡ None
+after_spot : (a b : State) {bytes : List ℕ} → Consumed (without_order a) (without_order b) bytes → b.implicit_tag ≡ None
     → spot_of b ≡ spot_before (is_hard a.end) b.until_end
-after_spot t d = rw (t.end, d) refl
+after_spot a b t d = rw (t.end, d) refl
+
+none_next : {V : Type 0} (meaning : V → Tree) {s : Shape} (at : Spot) (bs : List ℕ) → AreNext meaning s at bs [] at.ahead bs
+none_next meaning at bs = record {
+  of_shape = tt;
+  readable = tt;
+  is = ap (λ x. x ++ bs) (sym members_encoding-none);
+  ahead = omega (arith, ap length members_encoding-none);
+}
 
 module _ {V : Type 0} (meaning : V → Tree) {s : Shape} {rule : Rule} where
-  none_next : (at : Spot) (bs : List ℕ) → AreNext meaning s at bs [] at.ahead bs
-  none_next at bs = record {
-    of_shape = tt;
-    readable = tt;
-    is = ap (λ x. x ++ bs) (sym members_encoding-none);
-    ahead = omega (arith, ap length members_encoding-none);
-  }
-
   -- the next member was refused
   pub each_head : {c d : State} {e : Asn1DerError} → RefusesMember meaning s rule c d e → 0 < c.until_end
       → RefusesEachBy meaning s rule c d e
@@ -71,7 +71,7 @@ module _ {V : Type 0} (meaning : V → Tree) {s : Shape} {rule : Rule} where
     where
       by : RefusesNext meaning s rule c d e → each_rule meaning s (AreInOrder c.sets) rule (spot_of c) bs e left
       by (no_value h refuses) =
-          at_member [] c.until_end bs (none_next (spot_of c) bs) (no_members_in_order c.sets) ahead
+          at_member [] c.until_end bs (none_next meaning (spot_of c) bs) (no_members_in_order c.sets) ahead
           (subst (λ at. rule at bs e left) (whole_spot c whole) (refuses j bs left k l))
       by (after_value mid v h (without_memory n f is same)) = absurd (j.memory is)
       by (after_value mid v h (out_of_order o)) =
@@ -137,7 +137,7 @@ module _ {V : Type 0} (meaning : V → Tree) {s : Shape} {rule : Rule} where
 
   -- it had failed before
   pub each_again : {c d : State} {e : Asn1DerError} → (c.failed ≡ None → ⊥) → RefusesEachBy meaning s rule c d e
-  each_again no whole j = absurd (no j.had_not_failed)
+  each_again had_failed whole j = absurd (had_failed j.had_not_failed)
 
 -- in the order of the whole list
 pub each_whole : {V : Type 0} {meaning : V → Tree} {s : Shape} {rule : Rule} (kind : ListKind) {a b d : State}
@@ -169,29 +169,28 @@ still_unordered {b = b} {t = t} r none =
     without (Some x) e = absurd (let q : Some x ≡ None = e in cc)
 
 module _ {W : Type 0} (meaning : W → Tree) (left_out : W → Bool) (s : Shape) (member others : Rule) where
-  member_is_next : {b c : State} {bs rest : List ℕ} (w : W) → ReadsMember s b c (meaning w) → b.input ≡ Some bs
+  unfoldable member_is_next : {b c : State} {bs rest : List ℕ} (w : W) → ReadsMember s b c (meaning w) → b.input ≡ Some bs
       → c.input ≡ Some rest → IsNext meaning s (spot_of b) bs c.until_end rest
-  member_is_next {b} {c} {bs} {rest} w r k l =
-      subst (λ n. IsNext meaning s (spot_of b) bs n rest) (sym (ap (λ (z : State). z.until_end) r.follows.same))
-      (next_of w r.reads k (sym (ap (λ (z : State). z.input) r.follows.same) ∙ l))
+  member_is_next w r k l = next_of w r.reads k (sym (ap (λ (z : State). z.input) r.follows.same) ∙ l)
+      (sym (ap (λ (z : State). z.until_end) r.follows.same))
 
   -- what follows a member that was read
-  follows_by : {R : Rule} {b c d : State} {e : Asn1DerError} (w : W) → ReadsMember s b c (meaning w)
+  follows_by : (R : Rule) {b c d : State} {e : Asn1DerError} (w : W) → ReadsMember s b c (meaning w)
       → ((bs rest left : List ℕ) → IsNext meaning s (spot_of b) bs c.until_end rest
       → others (spot_before (is_hard b.end) c.until_end) rest e left → R (spot_of b) bs e left)
       → RefusesBy others c d e → RefusesBy R b d e
-  follows_by {R} {b} {c} {d} {e} w r lead by j bs left k l =
+  follows_by R {b} {c} {d} {e} w r lead by j bs left k l =
       let t = consumes_member r in
       let p = front_consumed b.input c.input (der (meaning w)) bs t.input k in
       let q = by (judged_after_any_order t j) p.0 left p.1 l in
       lead bs p.0 left (member_is_next w r k p.1)
-      (subst (λ at. others at p.0 e left) (after_spot t (member_not_implicit r)) q)
+      (subst (λ at. others at p.0 e left) (after_spot b c t (member_not_implicit r)) q)
 
   -- a look at the next byte isn't seen
-  looked_by : {R Q : Rule} {b c d : State} {x : ℕ} {e : Asn1DerError} → Peeks b c x
+  looked_by : (R Q : Rule) {b c d : State} {x : ℕ} {e : Asn1DerError} → Peeks b c x
       → ((bs rest left : List ℕ) → bs ≡ x ∷ rest → R (spot_of b) bs e left → Q (spot_of b) bs e left)
       → RefusesBy R c d e → RefusesBy Q b d e
-  looked_by {R} {Q} {b} {c} {d} {x} {e} p lead by j bs left k l =
+  looked_by R Q {b} {c} {d} {x} {e} p lead by j bs left k l =
       let q = by (peeks_judged p j) bs left (kept_known b.input c.input bs p.input k) l in
       let f = known_next b.input bs p.next k in
       lead bs f.0 left f.1 (subst (λ at. R at bs e left) (ap spot_of p.same) q)
@@ -226,7 +225,7 @@ module _ {W : Type 0} (meaning : W → Tree) (left_out : W → Bool) (s : Shape)
 
   always_next : {b c d : State} {e : Asn1DerError} (w : W) → ReadsMember s b c (meaning w) → RefusesBy others c d e
       → RefusesBy (always_rule meaning s member others) b d e
-  always_next {c = c} w r by = follows_by w r (λ bs rest left n h. after_field c.until_end rest n h) by
+  always_next {c = c} w r by = follows_by (always_rule meaning s member others) w r (λ bs rest left n h. after_field c.until_end rest n h) by
 
   -- ---- one that may be missing
 
@@ -239,14 +238,14 @@ module _ {W : Type 0} (meaning : W → Tree) (left_out : W → Bool) (s : Shape)
   optional_head : {b d : State} {e : Asn1DerError} → b.sets.last ≡ None → b.implicit_tag ≡ None
       → RefusesOptional meaning s (field_rule member) b d e
       → RefusesBy (perhaps_rule meaning left_out s member others) b d e
-  optional_head {b} {d} {e} none whole (no_tag h ahead) j bs left k l =
+  optional_head {b} {d} {e} none whole (no_tag h ahead) = λ j bs left k l.
       cut (ahead j.had_not_failed) (bytes_by (identifier_refusal b) next_byte_refusal (λ rest. no_byte_by b.implicit_tag b rest whole)
       h.refuses.just j bs left k l)
   optional_head {b} {d} {e} none whole (no_member mid tag i own r) =
       let p = as_look whole i in
       let unordered : mid.sets.last ≡ None = ap (λ (z : State). z.sets.last) p.same ∙ none in
       let still : mid.implicit_tag ≡ None = ap (λ (z : State). z.implicit_tag) p.same ∙ whole in
-      looked_by p (λ bs rest left is h. begun p.ahead bs rest left is h) (member_by unordered still r)
+      looked_by (field_rule member) (perhaps_rule meaning left_out s member others) p (λ bs rest left is h. begun p.ahead bs rest left is h) (member_by unordered still r)
     where
       begun : 0 < b.until_end → (bs rest left : List ℕ) → bs ≡ tag ∷ rest → field_rule member (spot_of b) bs e left
           → perhaps_rule meaning left_out s member others (spot_of b) bs e left
@@ -256,8 +255,9 @@ module _ {W : Type 0} (meaning : W → Tree) (left_out : W → Bool) (s : Shape)
   perhaps_head : {b d : State} {e : Asn1DerError} → b.sets.last ≡ None → b.implicit_tag ≡ None
       → RefusesDefault meaning left_out s (field_rule member) b d e
       → RefusesBy (perhaps_rule meaning left_out s member others) b d e
+  unfolding next_of member_is_next
   perhaps_head none whole (as_optional h) = optional_head none whole h
-  perhaps_head {b} {d} {e} none whole (written_out mid w out r failed f) j bs left k l =
+  perhaps_head {b} {d} {e} none whole (written_out mid w out r failed f) = λ j bs left k l.
       let error : e ≡ InvalidData = subst (λ o. IsAnswer o InvalidData e) (consumes_member r).not_failed failed.0 in
       is_default mid.until_end (member_is_next w r k (sym (ap (λ (z : State). z.input) failed.1) ∙ l)) out error
 
@@ -265,12 +265,12 @@ module _ {W : Type 0} (meaning : W → Tree) (left_out : W → Bool) (s : Shape)
       → IfSome o (λ w. ReadsMember s b c (meaning w)) → IfNone o (Lacks s b c) → RefusesBy others c d e
       → RefusesBy (perhaps_rule meaning left_out s member others) b d e
   perhaps_next {c = c} (Some w) whole r l by =
-      follows_by w r (λ bs rest left n h. after_there c.until_end rest n h) by
-  perhaps_next {b} {c} {d} {e} None whole r (no_more n) by j bs left k l =
+      follows_by (perhaps_rule meaning left_out s member others) w r (λ bs rest left n h. after_there c.until_end rest n h) by
+  perhaps_next {b} {c} {d} {e} None whole r (no_more n) by = λ j bs left k l.
       at_end n.reached (subst (λ z. RefusesBy others z d e) n.same by j bs left k l)
   perhaps_next None whole r (begins_otherwise tag i other) by =
       let p = as_look whole i in
-      looked_by p (λ bs rest left is h. absent p.ahead tag rest is other h) by
+      looked_by others (perhaps_rule meaning left_out s member others) p (λ bs rest left is h. absent p.ahead tag rest is other h) by
 
 -- ---- by its presence
 
@@ -290,12 +290,13 @@ module _ {W : Type 0} (meaning : W → Tree) (left_out : W → Bool) (s : Shape)
     layout_next_by always (Some w) t r l by = always_next meaning left_out s member others w r by
     layout_next_by perhaps o t r l by = perhaps_next meaning left_out s member others o whole r l by
 
-    pub still_none : {c : State} (o : Option W) → IfSome o (λ w. ReadsMember s b c (meaning w))
-        → IfNone o (Lacks s b c) → c.sets.last ≡ None
-    still_none (Some w) r l = still_unordered r none
-    still_none None r (no_more n) = ap (λ (z : State). z.sets.last) n.same ∙ none
-    still_none None r (begins_otherwise tag i other) =
-        ap (λ (z : State). z.sets.last) (as_look whole i).same ∙ none
+-- nor is an order tested after it
+pub still_none : {W : Type 0} (meaning : W → Tree) (s : Shape) (b c : State) → b.sets.last ≡ None → b.implicit_tag ≡ None
+    → (o : Option W) → IfSome o (λ w. ReadsMember s b c (meaning w)) → IfNone o (Lacks s b c) → c.sets.last ≡ None
+still_none meaning s b c none whole (Some w) r l = still_unordered r none
+still_none meaning s b c none whole None r (no_more n) = ap (λ (z : State). z.sets.last) n.same ∙ none
+still_none meaning s b c none whole None r (begins_otherwise tag i other) =
+    ap (λ (z : State). z.sets.last) (as_look whole i).same ∙ none
 
 -- ---- whole lists of one type
 

@@ -143,8 +143,8 @@ module _ {before a : State} {less : Bool} (h : SeesMember before a less) (whole 
         first = λ j. q.first (judged_alike k j);
       }
 
-  refused_before : {rule : Rule} {c : State} {e : Asn1DerError} → RefusesBy rule a c e → RefusesBy rule before c e
-  refused_before {rule} {c} {e} by j bs left k l =
+  refused_before : (rule : Rule) {c : State} {e : Asn1DerError} → RefusesBy rule a c e → RefusesBy rule before c e
+  refused_before rule {c} {e} by j bs left k l =
       let kept_sets : OpenSets = sets_seen less before.sets h.member in
       let q : RefusesBy rule (record before { sets = sets_seen less before.sets h.member }) c e =
       subst (λ (z : State). RefusesBy rule z c e) h.same by in
@@ -152,7 +152,7 @@ module _ {before a : State} {less : Bool} (h : SeesMember before a less) (whole 
 
   pub seen_refused : {V : Type 0} {meaning : V → Tree} {s : Shape} {rule : Rule} {c : State} {e : Asn1DerError}
       → Refuses meaning s a c e → RefusesBy rule a c e → RefusesMember meaning s rule before c e
-  seen_refused r by = member_unread (refuses_before r) (refused_before by) (λ w. was_whole)
+  seen_refused {rule = rule} r by = member_unread (refuses_before r) (refused_before rule by) (λ w. was_whole)
 
 pub seen_reads : {before a c : State} {s : Shape} {t : Tree} → SeesMember before a false → a.implicit_tag ≡ None
     → Reads s a c t → ReadsMember s before c t

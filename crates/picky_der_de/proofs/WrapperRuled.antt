@@ -31,10 +31,10 @@ use Rattle.picky_der_de.proofs.PlainRuled.{same_left, bytes_by}
 -- ---- a value that was read
 
 -- it is at the front of known bytes, before those that are left
-pub next_of : {V : Type 0} {meaning : V → Tree} {s : Shape} {a b : State} {bs left : List ℕ} (v : V)
-    → Reads s a b (meaning v) → a.input ≡ Some bs → b.input ≡ Some left
-    → IsNext meaning s (spot_of a) bs b.until_end left
-next_of {meaning = meaning} {a = a} {b = b} {bs = bs} v r k l =
+unfoldable pub next_of : {V : Type 0} {meaning : V → Tree} {s : Shape} {a b : State} {bs left : List ℕ} {after : ℕ}
+    (v : V) → Reads s a b (meaning v) → a.input ≡ Some bs → b.input ≡ Some left → b.until_end ≡ after
+    → IsNext meaning s (spot_of a) bs after left
+next_of {meaning = meaning} {a = a} {b = b} {bs = bs} v r k l room =
     let written = written_at (place_of a) (meaning v) in
     let p = front_consumed a.input b.input written bs r.consumes.input k in
     record {
@@ -43,7 +43,7 @@ next_of {meaning = meaning} {a = a} {b = b} {bs = bs} v r k l =
       readable = r.readable;
       may_be_there = r.may_be_there;
       is = p.2 ∙ ap (λ x. written ++ x) (same_left b.input p.1 l);
-      ahead = r.consumes.until_end;
+      ahead = r.consumes.until_end ∙ ap (λ n. length written + n) room;
     }
 
 -- ---- wrappers
@@ -101,7 +101,7 @@ module _ {V : Type 0} (meaning : V → Tree) (s : Shape) (inner : Rule) {w : Wra
   left_over_by {a} {b} {m} {c} {outer} {e} v o r h j bs left k l =
       let p = opens o k in
       let over = h.left r.consumes.not_failed in
-      let n = next_of v r p.known (sym (ap (λ (z : State). z.input) over.2) ∙ l) in
+      let n = next_of v r p.known (sym (ap (λ (z : State). z.input) over.2) ∙ l) refl in
       after_value b.until_end m.until_end p.rest p.is
       (subst (λ at. IsNext meaning s at p.rest m.until_end left) (inside o) n) over.0 over.1
 

@@ -19,6 +19,7 @@ use Rattle.picky_der_de.specs.Members.{members_encoding}
 use Rattle.picky_der_de.specs.Layouts.{Presence, always, perhaps}
 use Rattle.picky_der_de.specs.State.{State}
 use Rattle.picky_der_de.specs.Order.{AreInOrder}
+use Rattle.picky_der_de.specs.Entry.{ReaderView}
 use Rattle.picky_der_de.specs.RefusesBy.{Spot, Rule, RefusesBy}
 use Rattle.picky_der_de.specs.PlainRules.{by_bytes}
 
@@ -233,3 +234,13 @@ pub data whole_rule {V : Type 0} (meaning : V → Tree) (s : Shape) (rule : Rule
 
 abbrev pub RefusesWholeBy : {V : Type 0} → (V → Tree) → Shape → Rule → List ℕ → Asn1DerError → ℕ → Type 0
 RefusesWholeBy meaning s rule bytes e position = e ≢ OutOfMemory → whole_rule meaning s rule bytes e position
+
+-- A value at the front of a reader's bytes is refused with its error, unless the reader or an allocation failed. The
+-- reader doesn't have a byte any more that was only looked at.
+abbrev pub RefusesFrontBy : Rule → ℕ → ReaderView → ReaderView → Asn1DerError → Type 0
+RefusesFrontBy rule limit old new e = new.faults ≡ old.faults → e ≢ OutOfMemory → (input : List ℕ)
+    → old.input ≡ Some input → (left : List ℕ) × rule (soft_spot limit) input e left
+
+-- the same of a slice
+abbrev pub RefusesSliceBy : Rule → List ℕ → Asn1DerError → Type 0
+RefusesSliceBy rule bytes e = e ≢ OutOfMemory → (left : List ℕ) × rule (soft_spot (length bytes)) bytes e left

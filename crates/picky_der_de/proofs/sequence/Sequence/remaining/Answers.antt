@@ -4,6 +4,7 @@ use Rattle.picky_der_core.specs.declared.error.Asn1DerError.{Asn1DerError}
 use Rattle.picky_der_core.specs.Failure.{failure_of}
 use Rattle.picky_der_core.specs.EncodingLaws.{length-der}
 use Rattle.picky_der_de.specs.State.{State}
+use Rattle.picky_der_de.specs.RefusesBy.{unsaid}
 use Rattle.picky_der_de.proofs.MemberReads.{consumes_member, member_again}
 use Rattle.picky_der_de.proofs.ListReads.{all_refused, all_next, all_for_memory, some_none, some_more, some_all}
 use Rattle.picky_der_de.proofs.MemberRuled.{each_head, each_next, each_again, each_for_memory}
@@ -24,7 +25,7 @@ returns-in_err-is_at_end-clause-err g c =
     let f = c.in_err-is_at_end.ensures.err in
     rw (p.1, p.2)
     (c.loop-values.invariant.some.refuses _ _
-    (all_refused (member_again f) (failed_ahead c.loop-values.self.de.now _ f)))
+    (all_refused {rule = unsaid} (member_again f) (failed_ahead c.loop-values.self.de.now _ f)))
 
 pub returns-in_err-value-clause-err : goal.returns-in_err-value-clause-err
 returns-in_err-value-clause-err g c =

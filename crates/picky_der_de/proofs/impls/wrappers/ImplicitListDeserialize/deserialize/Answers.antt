@@ -13,4 +13,4 @@ returns-in_err-value-clause-err g c =
 pub returns-in_err-value-clause-refused_by : goal.returns-in_err-value-clause-refused_by
 returns-in_err-value-clause-refused_by g c =
     let p = err_from_is_err_and c.from_residual.result c.from_residual.ensures.1 in
-    rw (p.1, p.2) c.in_err-value.ensures.refused_by
+    rw (p.1, p.2) (rw c.from.ensures at c.in_err-value.ensures.refused_by)
