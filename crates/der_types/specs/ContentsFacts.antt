@@ -30,12 +30,14 @@ module _ {V : Type 0} (tag : ℕ) (content : V → List ℕ) (eq : V → V → B
       }
 
   -- two values with one content, which passes the test, are equal by this `==`
-  abbrev pub contents_facts : (test : List ℕ → Bool) → ((x y : V) → content x ≡ content y → eq x y ≡ true) → Facts V (contents_shape tag)
+  abbrev pub contents_facts : (test : List ℕ → Bool) → ((x y : V) → content x ≡ content y → eq x y ≡ true)
+      → Facts V (contents_shape tag)
   contents_facts test same =
       ruled (content_rule tag test) (plain_facts (contents_of tag content) eq (by_content same))
 
 -- They are by another `==`, and so by that of the type, a parameter, of which the values have one.
-abbrev pub content_of_facts : {V A : Type 0} (tag : ℕ) (content : A → List ℕ) (test : List ℕ → Bool) (equal : A → A → Bool)
+abbrev pub content_of_facts : {V A : Type 0} (tag : ℕ) (content : A → List ℕ) (test : List ℕ → Bool) (equal : A → A
+    → Bool)
     → ((x y : A) → content x ≡ content y → equal x y ≡ true) → (eq : A → A → Bool) (part : V → A)
     → Facts V (contents_shape tag)
 content_of_facts tag content test equal same eq part = record {

@@ -1,5 +1,6 @@
 -- Choices and values of twins are refused by their rules.
-use Rattle.std.proofs.Common.{◌≡◌, ◌≢◌, ℕ, Bool, true, false, List, [], ◌∷◌, Option, Some, None, refl, sym, ◌∙◌, ap, subst}
+use Rattle.std.proofs.Common.{◌≡◌, ◌≢◌, ℕ, Bool, true, false, List, [], ◌∷◌, Option, Some, None, refl, sym, ◌∙◌, ap}
+use Rattle.std.proofs.Common.{subst}
 use Rattle.std.proofs.Common.{IfSome, inl, inr}
 use Rattle.picky_der_core.specs.declared.error.Asn1DerError.{Asn1DerError}
 use Rattle.picky_der_core.specs.declared.error.Asn1DerError.TheVariants.{InvalidData, OutOfMemory}
@@ -32,7 +33,8 @@ no_alternative_by {c = c} {e = e} f j bs left k l = record {
 }
 
 module _ {begins : List ℕ} {this : Rule} {others : ChoiceRule} {b : ℕ} {a c : State} {e : Asn1DerError} where
-  pub this_by : contains begins b ≡ true → RefusesBy this a c e → RefusesBy (alternative_rule begins this others b) a c e
+  pub this_by : contains begins b ≡ true → RefusesBy this a c e
+      → RefusesBy (alternative_rule begins this others b) a c e
   this_by is by j bs left k l = at_this is (by j bs left k l)
 
   pub other_by : (contains begins b ≡ true → ⊥) → RefusesBy (others b) a c e
@@ -45,7 +47,8 @@ module _ {begins : List ℕ} {this : Rule} {others : ChoiceRule} {b : ℕ} {a c 
 
 -- ---- choices
 
-no_byte_of : (d : Option ℕ) (a : State) (rest : List ℕ) → choice_refusal_in d a rest ≡ choice_refusal_at d (spot_of a) rest
+no_byte_of : (d : Option ℕ) (a : State) (rest : List ℕ)
+    → choice_refusal_in d a rest ≡ choice_refusal_at d (spot_of a) rest
 no_byte_of None a [] = refl
 no_byte_of None a (b ∷ rest) = refl
 no_byte_of (Some number) a rest = refl
@@ -89,4 +92,5 @@ module _ {V W : Type 0} {meaning : W → Tree} {s : Shape} {parts : V → W} {ru
       by_error : IsNoValue meaning parts w kind → tested_rule meaning s parts rule (spot_of a) bs e left
       by_error (inl memory) = absurd (j.memory (same ∙ memory))
       by_error (inr other) =
-          after_twin b.until_end (next_of w r k (sym (ap (λ (z : State). z.input) f.1) ∙ l) refl) other.1 (same ∙ other.0)
+          after_twin b.until_end (next_of w r k (sym (ap (λ (z : State). z.input) f.1) ∙ l) refl) other.1
+          (same ∙ other.0)

@@ -213,7 +213,8 @@ layout_none {b} d = record {
 
 module _ {V W : Type 0} (meaning : W → Tree) {s : Shape} {l : Layout} (item : V → Option W) (there : (v : V)
     → IfNone (item v) ⊥) where
-  required_head : {rule : Rule} (others : V → Trees) {c d : State} {e : Asn1DerError} → RefusesMember meaning s rule c d e
+  required_head : {rule : Rule} (others : V → Trees) {c d : State} {e : Asn1DerError}
+      → RefusesMember meaning s rule c d e
       → RefusesLayout (λ v. maybe_more meaning (item v) (others v)) (Layout.required s l) c d e
   required_head others {c} r = record { rest = rest_head (λ v p. unread v (item v) (there v) p.1) r }
     where
@@ -322,7 +323,8 @@ module _ {V W U : Type 0} (meaning : W → Tree) (others : U → Trees) (s : Sha
   }
 
   -- no tag was there, or the member was refused
-  maybe_head : {rule : Rule} {b d : State} {e : Asn1DerError} → b.implicit_tag ≡ None → RefusesOptional meaning s rule b d e
+  maybe_head : {rule : Rule} {b d : State} {e : Asn1DerError} → b.implicit_tag ≡ None
+      → RefusesOptional meaning s rule b d e
       → RefusesLayout (λ v. maybe_more meaning (part v) (others (rest v))) (Layout.maybe s l) b d e
   maybe_head whole (no_tag h ahead) = indistinct_refused h ahead
   maybe_head whole (no_member mid tag i own r) =
@@ -476,7 +478,8 @@ module _ {V W U : Type 0} (meaning : W → Tree) (left_out : W → Bool) (others
         let never : false ≡ true = sym q ∙ out in
         cc
 
-    default_head : {rule : Rule} {b d : State} {e : Asn1DerError} → b.implicit_tag ≡ None → RefusesDefault meaning left_out s rule b d e
+    default_head : {rule : Rule} {b d : State} {e : Asn1DerError} → b.implicit_tag ≡ None
+        → RefusesDefault meaning left_out s rule b d e
         → RefusesLayout (λ v. maybe_more meaning (item v) (others (rest v))) (Layout.maybe s l) b d e
     default_head whole (as_optional h) = maybe_head meaning others s l item rest begins begin whole h
     default_head whole (written_out c x is r _ f) = record {
@@ -524,7 +527,8 @@ module _ {W X : Type 0} {presence : Presence} {prepend : X → Trees → Trees} 
   layout_member_head rule {left_out} left {V} {others} {l} first cs {b} {d} {e} whole h =
       refuses_alike (λ v. c.prepends (first v) (others v)) (by_presence presence c.there h)
     where
-      by_presence : (p : Presence) → ((x : X) → IsThere p (item x)) → RefusesLayoutMember p meaning left_out s rule b d e
+      by_presence : (p : Presence) → ((x : X) → IsThere p (item x))
+          → RefusesLayoutMember p meaning left_out s rule b d e
           → RefusesLayout (λ v. maybe_more meaning (item (first v)) (others v)) (layout_with p s l) b d e
       by_presence always there h = required_head meaning (λ v. item (first v)) (λ v. there (first v)) others h
       by_presence perhaps there h =

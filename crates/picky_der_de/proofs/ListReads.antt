@@ -362,7 +362,8 @@ first_all meaning s {a} {b} n vs same h = record {
 }
 
 -- the next member was refused
-pub first_refused : {V : Type 0} {meaning : V → Tree} {s : Shape} {rule : Rule} {a b d : State} {e : Asn1DerError} (n : ℕ)
+pub first_refused : {V : Type 0} {meaning : V → Tree} {s : Shape} {rule : Rule} {a b d : State} {e : Asn1DerError}
+    (n : ℕ)
     (vs : List V) → ReadsFirst meaning s a b vs → length vs < n → RefusesMember meaning s rule b d e
     → RefusesTimes meaning n s a d e
 first_refused {V} {meaning} {s} {rule} {a} {b} {d} {e} n vs h l r =

@@ -161,12 +161,13 @@ nothing_here meaning v z is (ever n r d y left i q f) st = n is
 pub member_missing : {V : Type 0} {meaning : V → Tree} {s : Shape} (rule : Rule) {a b c : State} {e : Asn1DerError}
     → HasNoMore a b → a.implicit_tag ≡ None → Fails b c e → e ≡ TruncatedData → c ≡ failed_with b e
     → RefusesMember meaning s (field_rule rule) a c e
-member_missing {meaning = meaning} {s = s} rule {a = a} {b = b} {c = c} {e = e} h d f is failed = member_unread (record {
-  fails = subst (λ z. Fails z c e) h.same f;
-  none = λ j end bs w v st. nothing_here meaning v h.reached is w
-      (subst (λ x. IsAtFront (place_in x a.until_end) s bs end (meaning v)) d st);
-  first = λ j k x l. absurd (omega (arith, h.reached));
-}) (λ j bs left k l. missing h.reached is
+member_missing {meaning = meaning} {s = s} rule {a = a} {b = b} {c = c} {e = e} h d f is failed =
+    member_unread (record {
+      fails = subst (λ z. Fails z c e) h.same f;
+      none = λ j end bs w v st. nothing_here meaning v h.reached is w
+          (subst (λ x. IsAtFront (place_in x a.until_end) s bs end (meaning v)) d st);
+      first = λ j k x l. absurd (omega (arith, h.reached));
+    }) (λ j bs left k l. missing h.reached is
     (same_left c.input l (ap (λ (z : State). z.input) failed ∙ ap (λ (z : State). z.input) h.same ∙ k))) (λ w. d)
 
 -- a member that is there was refused
@@ -295,14 +296,16 @@ module _ {V : Type 0} (meaning : V → Tree) {s : Shape} {c d : State} {e : Asn1
   refused_less (no_value r by) = absurd (unread r)
   refused_less (after_value b u r h) = untested (meaning u) r h
 
-pub member_refused_less : {V : Type 0} {meaning : V → Tree} {s : Shape} {rule : Rule} {c d : State} {e : Asn1DerError} (v : V)
+pub member_refused_less : {V : Type 0} {meaning : V → Tree} {s : Shape} {rule : Rule} {c d : State} {e : Asn1DerError}
+    (v : V)
     (us : Trees) → RefusesMember meaning s rule c d e → IsJudged c d e → IsOf s (meaning v) → IsReadable (meaning v)
     → AreBefore c d e (members_encoding (Trees.more (meaning v) us)) → IsRefusedLess c d e (der (meaning v))
 member_refused_less {meaning = meaning} v us r j of_shape readable w =
     refused_less meaning v us (r.implicit_tag j.had_not_failed) j of_shape readable w r.refuses
 
 -- so none is there in order
-pub no_member_in_order : {V : Type 0} {meaning : V → Tree} {s : Shape} {rule : Rule} {c d : State} {e : Asn1DerError} (v : V)
+pub no_member_in_order : {V : Type 0} {meaning : V → Tree} {s : Shape} {rule : Rule} {c d : State} {e : Asn1DerError}
+    (v : V)
     (us vs : Trees) → RefusesMember meaning s rule c d e → IsJudged c d e → IsOf s (meaning v) → IsReadable (meaning v)
     → AreInOrder c.sets (encodings (Trees.more (meaning v) vs))
     → AreBefore c d e (members_encoding (Trees.more (meaning v) us)) → ⊥
@@ -310,7 +313,8 @@ no_member_in_order {meaning = meaning} {c = c} v us vs r j of_shape readable ord
     true≢false (sym (member_refused_less v us r j of_shape readable w).less
     ∙ first_in_order c.sets (meaning v) vs order)
 
-pub no_member : {V : Type 0} {meaning : V → Tree} {s : Shape} {rule : Rule} {c d : State} {e : Asn1DerError} (v : V) (us : Trees)
+pub no_member : {V : Type 0} {meaning : V → Tree} {s : Shape} {rule : Rule} {c d : State} {e : Asn1DerError} (v : V)
+    (us : Trees)
     → RefusesMember meaning s rule c d e → IsJudged c d e → IsOf s (meaning v) → IsReadable (meaning v)
     → AreInOrder c.sets (encodings (Trees.more (meaning v) us))
     → AreBefore c d e (members_encoding (Trees.more (meaning v) us)) → ⊥

@@ -1,6 +1,8 @@
 -- Members of lists are refused by their rules.
-use Rattle.std.proofs.Common.{◌≡◌, ℕ, ◌+◌, ◌<◌, ◌≤◌, Bool, true, false, List, [], ◌∷◌, ◌++◌, length, map, Option, Some, None}
-use Rattle.std.proofs.Common.{IfSome, IfNone, refl, sym, ◌∙◌, ap, subst, arith, append_assoc, length-append, true≢false, append-nil}
+use Rattle.std.proofs.Common.{◌≡◌, ℕ, ◌+◌, ◌<◌, ◌≤◌, Bool, true, false, List, [], ◌∷◌, ◌++◌, length, map, Option, Some}
+use Rattle.std.proofs.Common.{None}
+use Rattle.std.proofs.Common.{IfSome, IfNone, refl, sym, ◌∙◌, ap, subst, arith, append_assoc, length-append, true≢false}
+use Rattle.std.proofs.Common.{append-nil}
 use Rattle.std.specs.Prelude.{IsTrue, option_map}
 use Rattle.picky_der_core.specs.Element.{IsPrefix}
 use Rattle.picky_der_core.specs.declared.error.Asn1DerError.{Asn1DerError}
@@ -39,7 +41,8 @@ use Rattle.picky_der_de.proofs.KnownBytes.{kept_known}
 use Rattle.picky_der_de.proofs.Peeked.{peeks_judged}
 use Rattle.picky_der_de.proofs.LayoutReads.{as_look}
 use Rattle.picky_der_de.proofs.MemberReads.{members_encoding-more, members_encoding-none, no_members_in_order}
-use Rattle.picky_der_de.proofs.MemberReads.{consumes_whole, consumes_member, member_not_implicit, members_lead, order_after}
+use Rattle.picky_der_de.proofs.MemberReads.{consumes_whole, consumes_member, member_not_implicit, members_lead}
+use Rattle.picky_der_de.proofs.MemberReads.{order_after}
 use Rattle.picky_der_de.proofs.MemberReads.{opened_in_order, whole_in_order, first_in_order}
 use Rattle.picky_der_de.proofs.PlainRuled.{same_left, bytes_by}
 use Rattle.picky_der_de.proofs.ListReads.{list_tagged}
@@ -55,7 +58,8 @@ after_spot : (a b : State) {bytes : List ℕ} → Consumed (without_order a) (wi
     → spot_of b ≡ spot_before (is_hard a.end) b.until_end
 after_spot a b t d = rw (t.end, d) refl
 
-none_next : {V : Type 0} (meaning : V → Tree) {s : Shape} (at : Spot) (bs : List ℕ) → AreNext meaning s at bs [] at.ahead bs
+none_next : {V : Type 0} (meaning : V → Tree) {s : Shape} (at : Spot) (bs : List ℕ)
+    → AreNext meaning s at bs [] at.ahead bs
 none_next meaning at bs = record {
   of_shape = tt;
   readable = tt;
@@ -169,7 +173,8 @@ still_unordered {b = b} {t = t} r none =
     without (Some x) e = absurd (let q : Some x ≡ None = e in cc)
 
 module _ {W : Type 0} (meaning : W → Tree) (left_out : W → Bool) (s : Shape) (member others : Rule) where
-  unfoldable member_is_next : {b c : State} {bs rest : List ℕ} (w : W) → ReadsMember s b c (meaning w) → b.input ≡ Some bs
+  unfoldable member_is_next : {b c : State} {bs rest : List ℕ} (w : W) → ReadsMember s b c (meaning w)
+      → b.input ≡ Some bs
       → c.input ≡ Some rest → IsNext meaning s (spot_of b) bs c.until_end rest
   member_is_next w r k l = next_of w r.reads k (sym (ap (λ (z : State). z.input) r.follows.same) ∙ l)
       (sym (ap (λ (z : State). z.until_end) r.follows.same))
@@ -225,7 +230,8 @@ module _ {W : Type 0} (meaning : W → Tree) (left_out : W → Bool) (s : Shape)
 
   always_next : {b c d : State} {e : Asn1DerError} (w : W) → ReadsMember s b c (meaning w) → RefusesBy others c d e
       → RefusesBy (always_rule meaning s member others) b d e
-  always_next {c = c} w r by = follows_by (always_rule meaning s member others) w r (λ bs rest left n h. after_field c.until_end rest n h) by
+  always_next {c = c} w r by =
+      follows_by (always_rule meaning s member others) w r (λ bs rest left n h. after_field c.until_end rest n h) by
 
   -- ---- one that may be missing
 
@@ -239,13 +245,15 @@ module _ {W : Type 0} (meaning : W → Tree) (left_out : W → Bool) (s : Shape)
       → RefusesOptional meaning s (field_rule member) b d e
       → RefusesBy (perhaps_rule meaning left_out s member others) b d e
   optional_head {b} {d} {e} none whole (no_tag h ahead) = λ j bs left k l.
-      cut (ahead j.had_not_failed) (bytes_by (identifier_refusal b) next_byte_refusal (λ rest. no_byte_by b.implicit_tag b rest whole)
+      cut (ahead j.had_not_failed)
+      (bytes_by (identifier_refusal b) next_byte_refusal (λ rest. no_byte_by b.implicit_tag b rest whole)
       h.refuses.just j bs left k l)
   optional_head {b} {d} {e} none whole (no_member mid tag i own r) =
       let p = as_look whole i in
       let unordered : mid.sets.last ≡ None = ap (λ (z : State). z.sets.last) p.same ∙ none in
       let still : mid.implicit_tag ≡ None = ap (λ (z : State). z.implicit_tag) p.same ∙ whole in
-      looked_by (field_rule member) (perhaps_rule meaning left_out s member others) p (λ bs rest left is h. begun p.ahead bs rest left is h) (member_by unordered still r)
+      looked_by (field_rule member) (perhaps_rule meaning left_out s member others) p
+      (λ bs rest left is h. begun p.ahead bs rest left is h) (member_by unordered still r)
     where
       begun : 0 < b.until_end → (bs rest left : List ℕ) → bs ≡ tag ∷ rest → field_rule member (spot_of b) bs e left
           → perhaps_rule meaning left_out s member others (spot_of b) bs e left
@@ -265,12 +273,14 @@ module _ {W : Type 0} (meaning : W → Tree) (left_out : W → Bool) (s : Shape)
       → IfSome o (λ w. ReadsMember s b c (meaning w)) → IfNone o (Lacks s b c) → RefusesBy others c d e
       → RefusesBy (perhaps_rule meaning left_out s member others) b d e
   perhaps_next {c = c} (Some w) whole r l by =
-      follows_by (perhaps_rule meaning left_out s member others) w r (λ bs rest left n h. after_there c.until_end rest n h) by
+      follows_by (perhaps_rule meaning left_out s member others) w r
+      (λ bs rest left n h. after_there c.until_end rest n h) by
   perhaps_next {b} {c} {d} {e} None whole r (no_more n) by = λ j bs left k l.
       at_end n.reached (subst (λ z. RefusesBy others z d e) n.same by j bs left k l)
   perhaps_next None whole r (begins_otherwise tag i other) by =
       let p = as_look whole i in
-      looked_by others (perhaps_rule meaning left_out s member others) p (λ bs rest left is h. absent p.ahead tag rest is other h) by
+      looked_by others (perhaps_rule meaning left_out s member others) p
+      (λ bs rest left is h. absent p.ahead tag rest is other h) by
 
 -- ---- by its presence
 
@@ -291,7 +301,8 @@ module _ {W : Type 0} (meaning : W → Tree) (left_out : W → Bool) (s : Shape)
     layout_next_by perhaps o t r l by = perhaps_next meaning left_out s member others o whole r l by
 
 -- nor is an order tested after it
-pub still_none : {W : Type 0} (meaning : W → Tree) (s : Shape) (b c : State) → b.sets.last ≡ None → b.implicit_tag ≡ None
+pub still_none : {W : Type 0} (meaning : W → Tree) (s : Shape) (b c : State) → b.sets.last ≡ None
+    → b.implicit_tag ≡ None
     → (o : Option W) → IfSome o (λ w. ReadsMember s b c (meaning w)) → IfNone o (Lacks s b c) → c.sets.last ≡ None
 still_none meaning s b c none whole (Some w) r l = still_unordered r none
 still_none meaning s b c none whole None r (no_more n) = ap (λ (z : State). z.sets.last) n.same ∙ none

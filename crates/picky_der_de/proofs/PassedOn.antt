@@ -26,7 +26,8 @@ pub refuses_at : {V : Type 0} {meaning : V → Tree} {s : Shape} {a x y : State}
 refuses_at h same = rw same h
 
 pub rule_passed_on : {T : Type 0} (rule : Rule) (a : State) {x y : State} {e : Asn1DerError}
-    (r : Result T Asn1DerError) → IsErrAnd r (λ error. error ≡ e) → x ≡ y → RefusesBy rule a y e → IfErr r (RefusesBy rule a x)
+    (r : Result T Asn1DerError) → IsErrAnd r (λ error. error ≡ e) → x ≡ y → RefusesBy rule a y e
+    → IfErr r (RefusesBy rule a x)
 rule_passed_on rule a r h same f = passed_on (RefusesBy rule a) r h same f
 
 -- nothing is said

@@ -26,7 +26,8 @@ same_plain : (d : Option ℕ) (tag : ℕ) (judge : Judge) (s : State) (rest : Li
 same_plain None tag judge s rest = refl
 same_plain (Some number) tag judge s rest = refl
 
-pub plain_by : (tag : ℕ) (judge : Judge) {a c : State} {e : Asn1DerError} → AreJustRefused (refusal_at tag judge a) a c e
+pub plain_by : (tag : ℕ) (judge : Judge) {a c : State} {e : Asn1DerError}
+    → AreJustRefused (refusal_at tag judge a) a c e
     → RefusesBy (plain_rule tag judge) a c e
 plain_by tag judge {a} just =
     bytes_by (refusal_at tag judge a) (λ at rest. plain_refusal_in at.implicit_tag tag judge at rest)

@@ -66,7 +66,8 @@ encodings-as : (t u : Tree) (ts : Trees) → der t ≡ der u → encodings (Tree
 unfolding der tree_bytes
 encodings-as t u ts same = ap (λ m. m ∷ encodings ts) same
 
-first_refused : {W : Type 0} {meaning : W → Tree} {s : Shape} {rule : Rule} {c d : State} {e : Asn1DerError} (ts : Trees)
+first_refused : {W : Type 0} {meaning : W → Tree} {s : Shape} {rule : Rule} {c d : State} {e : Asn1DerError}
+    (ts : Trees)
     → RefusesMember meaning s rule c d e → IsJudged c d e → FirstIsUnread meaning s (IsAhead c) ts
     → AreInOrder c.sets (encodings ts) → AreUpToEnd c d e (members_encoding ts) → ⊥
 first_refused ts r j (nothing ahead) order w = none_left (ahead j.had_not_failed) w

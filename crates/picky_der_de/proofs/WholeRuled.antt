@@ -1,5 +1,6 @@
 -- Whole inputs are refused by the rules of their types.
-use Rattle.std.proofs.Common.{◌≡◌, ◌≢◌, ℕ, ◌+◌, ◌<◌, List, [], ◌++◌, length, Option, Some, None, refl, sym, ◌∙◌, ap, subst}
+use Rattle.std.proofs.Common.{◌≡◌, ◌≢◌, ℕ, ◌+◌, ◌<◌, List, [], ◌++◌, length, Option, Some, None, refl, sym, ◌∙◌, ap}
+use Rattle.std.proofs.Common.{subst}
 use Rattle.std.proofs.Common.{arith, length-append}
 use Rattle.picky_der_core.specs.declared.error.Asn1DerError.{Asn1DerError}
 use Rattle.picky_der_core.specs.declared.error.Asn1DerError.TheVariants.{InvalidData, OutOfMemory}
@@ -59,12 +60,12 @@ module _ {V : Type 0} (meaning : V → Tree) (s : Shape) (rule : Rule) {bytes : 
 -- ---- the front of an input
 
 -- known bytes were refused with the error of the rule
-pub front_refused_by : {V : Type 0} {meaning : V → Tree} {s : Shape} {rule : Rule} {input : Option (List ℕ)} {limit : ℕ}
+pub front_refused_by : {V : Type 0} {meaning : V → Tree} {s : Shape} (rule : Rule) {input : Option (List ℕ)} {limit : ℕ}
     {faults : List Fault} {references : List ℕ} {old new : State} {e : Asn1DerError}
     → old ≡ fresh input limit faults references → Refuses meaning s old new e → RefusesBy rule old new e
     → new.faults ≡ faults → e ≢ OutOfMemory → (bytes : List ℕ) → input ≡ Some bytes
     → (left : List ℕ) × rule (soft_spot limit) bytes e left
-front_refused_by {rule = rule} {old = old} {new = new} {e = e} is h by still memory bytes k =
+front_refused_by rule {old = old} {new = new} {e = e} is h by still memory bytes k =
     let known : old.input ≡ Some bytes = ap (λ (z : State). z.input) is ∙ k in
     let j : IsJudged old new e = record {
       had_not_failed = ap (λ (z : State). z.failed) is;

@@ -44,7 +44,8 @@ module _ {A : Type 0} {s : Shape} (a : Facts A s) (means : A → Tree) (equal : 
       })
 
   abbrev pub wrapped_facts : {V : Type 0} (w : Wrapper) (part : V → A) → Facts V (Shape.wrapped w s)
-  wrapped_facts w part = facts_by a means equal (wrapped_rule means s w a.rule) (λ v. Tree.wrapped w (means (part v))) (λ x y. equal (part x) (part y))
+  wrapped_facts w part = facts_by a means equal (wrapped_rule means s w a.rule) (λ v. Tree.wrapped w (means (part v)))
+      (λ x y. equal (part x) (part y))
       (λ is. record {
         has_shape = λ v r. wrapped_has_shape w (λ x. means (part x)) s (λ x. is.has_shape (part x)) v r;
         injective = λ x y. wrapped_injective w means s equal is.injective (part x) (part y);

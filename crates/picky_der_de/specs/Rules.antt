@@ -117,8 +117,8 @@ pub record AreNext {V : Type 0} (meaning : V → Tree) (s : Shape) (at : Spot) (
   pub is : bs ≡ members_encoding (trees (map meaning vs)) ++ left
   pub ahead : at.ahead ≡ length (members_encoding (trees (map meaning vs))) + after
 
--- After values in order the next one is refused. Or one more is there, and is read before it is refused: its encoding is
--- less than that of the one before it (X.690, 11.6).
+-- After values in order the next one is refused. Or one more is there, and is read before it is refused: its encoding
+-- is less than that of the one before it (X.690, 11.6).
 pub data each_rule {V : Type 0} (meaning : V → Tree) (s : Shape) (order : List (List ℕ) → Type 0) (member : Rule)
     (at : Spot) (bs : List ℕ) (e : Asn1DerError) (left : List ℕ) : Type 0 where
   at_member : (vs : List V) (after : ℕ) (rest : List ℕ) → AreNext meaning s at bs vs after rest
@@ -155,7 +155,8 @@ pub data always_rule {V : Type 0} (meaning : V → Tree) (s : Shape) (member oth
 -- One that may be missing, or is missing where it would be a default. It is there if the next byte begins it.
 pub data perhaps_rule {V : Type 0} (meaning : V → Tree) (left_out : V → Bool) (s : Shape) (member others : Rule)
     (at : Spot) (bs : List ℕ) (e : Asn1DerError) (left : List ℕ) : Type 0 where
-  cut : 0 < at.ahead → by_bytes next_byte_refusal at bs e left → perhaps_rule meaning left_out s member others at bs e left
+  cut : 0 < at.ahead → by_bytes next_byte_refusal at bs e left
+      → perhaps_rule meaning left_out s member others at bs e left
   there : 0 < at.ahead → (b : ℕ) (rest : List ℕ) → bs ≡ b ∷ rest → IsFirst s b → member at bs e left
       → perhaps_rule meaning left_out s member others at bs e left
   is_default : (after : ℕ) (there : IsNext meaning s at bs after left) → IsTrue (left_out there.value)

@@ -50,8 +50,8 @@ pub fn from_bytes<T: Deserialize>(alloc: Global, bytes: &[u8]) -> Result<T>
 /// readable value of the type's shape is there within the limit.
 ///
 /// `Other` comes only if the reader failed. Unless the error is `TruncatedData`, no more bytes after the consumed ones
-/// could make a value. What was consumed isn't given back. Unless the reader or an allocation failed, it is the error of
-/// the type's rule.
+/// could make a value. What was consumed isn't given back. Unless the reader or an allocation failed, it is the error
+/// of the type's rule.
 pub fn from_reader<T: Deserialize, R: ReadExt>(alloc: Global, reader: &mut R) -> Result<T>
     ensures ok { IfOk result (ReadsFront T.meaning T.shape T.eq DEFAULT_MAX_LEN
         (view_of R.remaining R.faults reader.old) (view_of R.remaining R.faults reader.new)) }

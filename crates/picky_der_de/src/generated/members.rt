@@ -21,7 +21,8 @@ impl<A: DeserializeMember, Z: DeserializeMembers> DeserializeMembers for (A, Z) 
     ghost proved = { Prim.assumption };
 }
 
-impl<A: DeserializeMember, B: DeserializeMember, Z: DeserializeMembers> DeserializeMembers for (A, B, Z) {
+impl<A: DeserializeMember, B: DeserializeMember, Z: DeserializeMembers> DeserializeMembers
+    for (A, B, Z) {
     ghost layout = { layout_with A.presence A.shape (layout_with B.presence B.shape Z.layout) };
 
     ghost facts = { member_facts (λ it. it.0) A.facts A.left_out A.prepend (member_facts (λ it. it.1) B.facts B.left_out B.prepend (members_facts (λ it. it.2) Z.facts Z.members)) };
@@ -36,7 +37,12 @@ impl<A: DeserializeMember, B: DeserializeMember, Z: DeserializeMembers> Deserial
     ghost proved = { Prim.assumption };
 }
 
-impl<A: DeserializeMember, B: DeserializeMember, C: DeserializeMember, Z: DeserializeMembers> DeserializeMembers for (A, B, C, Z) {
+impl<
+    A: DeserializeMember,
+    B: DeserializeMember,
+    C: DeserializeMember,
+    Z: DeserializeMembers,
+> DeserializeMembers for (A, B, C, Z) {
     ghost layout = { layout_with A.presence A.shape (layout_with B.presence B.shape (layout_with C.presence C.shape Z.layout)) };
 
     ghost facts = { member_facts (λ it. it.0) A.facts A.left_out A.prepend (member_facts (λ it. it.1) B.facts B.left_out B.prepend (member_facts (λ it. it.2) C.facts C.left_out C.prepend (members_facts (λ it. it.3) Z.facts Z.members))) };
@@ -51,7 +57,13 @@ impl<A: DeserializeMember, B: DeserializeMember, C: DeserializeMember, Z: Deseri
     ghost proved = { Prim.assumption };
 }
 
-impl<A: DeserializeMember, B: DeserializeMember, C: DeserializeMember, D: DeserializeMember, Z: DeserializeMembers> DeserializeMembers for (A, B, C, D, Z) {
+impl<
+    A: DeserializeMember,
+    B: DeserializeMember,
+    C: DeserializeMember,
+    D: DeserializeMember,
+    Z: DeserializeMembers,
+> DeserializeMembers for (A, B, C, D, Z) {
     ghost layout = { layout_with A.presence A.shape (layout_with B.presence B.shape (layout_with C.presence C.shape (layout_with D.presence D.shape Z.layout))) };
 
     ghost facts = { member_facts (λ it. it.0) A.facts A.left_out A.prepend (member_facts (λ it. it.1) B.facts B.left_out B.prepend (member_facts (λ it. it.2) C.facts C.left_out C.prepend (member_facts (λ it. it.3) D.facts D.left_out D.prepend (members_facts (λ it. it.4) Z.facts Z.members)))) };
@@ -66,12 +78,21 @@ impl<A: DeserializeMember, B: DeserializeMember, C: DeserializeMember, D: Deseri
     ghost proved = { Prim.assumption };
 }
 
-impl<A: DeserializeMember, B: DeserializeMember, C: DeserializeMember, D: DeserializeMember, E: DeserializeMember, Z: DeserializeMembers> DeserializeMembers for (A, B, C, D, E, Z) {
+impl<
+    A: DeserializeMember,
+    B: DeserializeMember,
+    C: DeserializeMember,
+    D: DeserializeMember,
+    E: DeserializeMember,
+    Z: DeserializeMembers,
+> DeserializeMembers for (A, B, C, D, E, Z) {
     ghost layout = { layout_with A.presence A.shape (layout_with B.presence B.shape (layout_with C.presence C.shape (layout_with D.presence D.shape (layout_with E.presence E.shape Z.layout)))) };
 
     ghost facts = { member_facts (λ it. it.0) A.facts A.left_out A.prepend (member_facts (λ it. it.1) B.facts B.left_out B.prepend (member_facts (λ it. it.2) C.facts C.left_out C.prepend (member_facts (λ it. it.3) D.facts D.left_out D.prepend (member_facts (λ it. it.4) E.facts E.left_out E.prepend (members_facts (λ it. it.5) Z.facts Z.members))))) };
 
-    fn deserialize_members<R: ReadExt>(sequence: &mut Sequence<'_, R>) -> Result<(A, B, C, D, E, Z)> {
+    fn deserialize_members<R: ReadExt>(
+        sequence: &mut Sequence<'_, R>,
+    ) -> Result<(A, B, C, D, E, Z)> {
         let first = A::deserialize_member(sequence)?;
         let others = <(B, C, D, E, Z) as DeserializeMembers>::deserialize_members(sequence)?;
         let (second, third, fourth, fifth, after) = others;
@@ -81,12 +102,22 @@ impl<A: DeserializeMember, B: DeserializeMember, C: DeserializeMember, D: Deseri
     ghost proved = { Prim.assumption };
 }
 
-impl<A: DeserializeMember, B: DeserializeMember, C: DeserializeMember, D: DeserializeMember, E: DeserializeMember, F: DeserializeMember, Z: DeserializeMembers> DeserializeMembers for (A, B, C, D, E, F, Z) {
+impl<
+    A: DeserializeMember,
+    B: DeserializeMember,
+    C: DeserializeMember,
+    D: DeserializeMember,
+    E: DeserializeMember,
+    F: DeserializeMember,
+    Z: DeserializeMembers,
+> DeserializeMembers for (A, B, C, D, E, F, Z) {
     ghost layout = { layout_with A.presence A.shape (layout_with B.presence B.shape (layout_with C.presence C.shape (layout_with D.presence D.shape (layout_with E.presence E.shape (layout_with F.presence F.shape Z.layout))))) };
 
     ghost facts = { member_facts (λ it. it.0) A.facts A.left_out A.prepend (member_facts (λ it. it.1) B.facts B.left_out B.prepend (member_facts (λ it. it.2) C.facts C.left_out C.prepend (member_facts (λ it. it.3) D.facts D.left_out D.prepend (member_facts (λ it. it.4) E.facts E.left_out E.prepend (member_facts (λ it. it.5) F.facts F.left_out F.prepend (members_facts (λ it. it.6) Z.facts Z.members)))))) };
 
-    fn deserialize_members<R: ReadExt>(sequence: &mut Sequence<'_, R>) -> Result<(A, B, C, D, E, F, Z)> {
+    fn deserialize_members<R: ReadExt>(
+        sequence: &mut Sequence<'_, R>,
+    ) -> Result<(A, B, C, D, E, F, Z)> {
         let first = A::deserialize_member(sequence)?;
         let others = <(B, C, D, E, F, Z) as DeserializeMembers>::deserialize_members(sequence)?;
         let (second, third, fourth, fifth, sixth, after) = others;
@@ -96,12 +127,23 @@ impl<A: DeserializeMember, B: DeserializeMember, C: DeserializeMember, D: Deseri
     ghost proved = { Prim.assumption };
 }
 
-impl<A: DeserializeMember, B: DeserializeMember, C: DeserializeMember, D: DeserializeMember, E: DeserializeMember, F: DeserializeMember, G: DeserializeMember, Z: DeserializeMembers> DeserializeMembers for (A, B, C, D, E, F, G, Z) {
+impl<
+    A: DeserializeMember,
+    B: DeserializeMember,
+    C: DeserializeMember,
+    D: DeserializeMember,
+    E: DeserializeMember,
+    F: DeserializeMember,
+    G: DeserializeMember,
+    Z: DeserializeMembers,
+> DeserializeMembers for (A, B, C, D, E, F, G, Z) {
     ghost layout = { layout_with A.presence A.shape (layout_with B.presence B.shape (layout_with C.presence C.shape (layout_with D.presence D.shape (layout_with E.presence E.shape (layout_with F.presence F.shape (layout_with G.presence G.shape Z.layout)))))) };
 
     ghost facts = { member_facts (λ it. it.0) A.facts A.left_out A.prepend (member_facts (λ it. it.1) B.facts B.left_out B.prepend (member_facts (λ it. it.2) C.facts C.left_out C.prepend (member_facts (λ it. it.3) D.facts D.left_out D.prepend (member_facts (λ it. it.4) E.facts E.left_out E.prepend (member_facts (λ it. it.5) F.facts F.left_out F.prepend (member_facts (λ it. it.6) G.facts G.left_out G.prepend (members_facts (λ it. it.7) Z.facts Z.members))))))) };
 
-    fn deserialize_members<R: ReadExt>(sequence: &mut Sequence<'_, R>) -> Result<(A, B, C, D, E, F, G, Z)> {
+    fn deserialize_members<R: ReadExt>(
+        sequence: &mut Sequence<'_, R>,
+    ) -> Result<(A, B, C, D, E, F, G, Z)> {
         let first = A::deserialize_member(sequence)?;
         let others = <(B, C, D, E, F, G, Z) as DeserializeMembers>::deserialize_members(sequence)?;
         let (second, third, fourth, fifth, sixth, seventh, after) = others;
@@ -111,16 +153,32 @@ impl<A: DeserializeMember, B: DeserializeMember, C: DeserializeMember, D: Deseri
     ghost proved = { Prim.assumption };
 }
 
-impl<A: DeserializeMember, B: DeserializeMember, C: DeserializeMember, D: DeserializeMember, E: DeserializeMember, F: DeserializeMember, G: DeserializeMember, H: DeserializeMember, Z: DeserializeMembers> DeserializeMembers for (A, B, C, D, E, F, G, H, Z) {
+impl<
+    A: DeserializeMember,
+    B: DeserializeMember,
+    C: DeserializeMember,
+    D: DeserializeMember,
+    E: DeserializeMember,
+    F: DeserializeMember,
+    G: DeserializeMember,
+    H: DeserializeMember,
+    Z: DeserializeMembers,
+> DeserializeMembers for (A, B, C, D, E, F, G, H, Z) {
     ghost layout = { layout_with A.presence A.shape (layout_with B.presence B.shape (layout_with C.presence C.shape (layout_with D.presence D.shape (layout_with E.presence E.shape (layout_with F.presence F.shape (layout_with G.presence G.shape (layout_with H.presence H.shape Z.layout))))))) };
 
     ghost facts = { member_facts (λ it. it.0) A.facts A.left_out A.prepend (member_facts (λ it. it.1) B.facts B.left_out B.prepend (member_facts (λ it. it.2) C.facts C.left_out C.prepend (member_facts (λ it. it.3) D.facts D.left_out D.prepend (member_facts (λ it. it.4) E.facts E.left_out E.prepend (member_facts (λ it. it.5) F.facts F.left_out F.prepend (member_facts (λ it. it.6) G.facts G.left_out G.prepend (member_facts (λ it. it.7) H.facts H.left_out H.prepend (members_facts (λ it. it.8) Z.facts Z.members)))))))) };
 
-    fn deserialize_members<R: ReadExt>(sequence: &mut Sequence<'_, R>) -> Result<(A, B, C, D, E, F, G, H, Z)> {
+    fn deserialize_members<R: ReadExt>(
+        sequence: &mut Sequence<'_, R>,
+    ) -> Result<(A, B, C, D, E, F, G, H, Z)> {
         let first = A::deserialize_member(sequence)?;
-        let others = <(B, C, D, E, F, G, H, Z) as DeserializeMembers>::deserialize_members(sequence)?;
+        let others = <(B, C, D, E, F, G, H, Z) as DeserializeMembers>::deserialize_members(
+            sequence,
+        )?;
         let (second, third, fourth, fifth, sixth, seventh, eighth, after) = others;
-        Ok((first, second, third, fourth, fifth, sixth, seventh, eighth, after))
+        Ok((
+            first, second, third, fourth, fifth, sixth, seventh, eighth, after,
+        ))
     }
 
     ghost proved = { Prim.assumption };

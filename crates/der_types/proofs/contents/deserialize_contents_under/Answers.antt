@@ -26,5 +26,6 @@ returns-in-None-clause-err g c =
 
 pub returns-in-None-clause-refused_by : goal.returns-in-None-clause-refused_by
 returns-in-None-clause-refused_by g c =
-    subst (λ state. IfErr c.read_contents_under.result (RefusesBy (content_rule c.args.tag g.T.Contents.is_content) state
+    subst (λ state. IfErr c.read_contents_under.result
+    (RefusesBy (content_rule c.args.tag g.T.Contents.is_content) state
     c.read_contents_under.new.de)) c.in-None.ensures.none c.read_contents_under.ensures.refused_by

@@ -28,4 +28,5 @@ returns-clause-refused_by g c =
     MatchResult-weaker c.deserialize-result.result (err_both _ _ c.deserialize-result.result
     c.deserialize-result.ensures.err c.deserialize-result.ensures.refused_by)
     (λ v h. tt)
-    (λ e r memory. front_refused_by c.new_from_reader-de.ensures r.0 r.1 slice.no_fault memory c.args.bytes.now refl)
+    (λ e r memory. front_refused_by g.T.Deserialize.facts.rule c.new_from_reader-de.ensures r.0 r.1 slice.no_fault
+    memory c.args.bytes.now refl)

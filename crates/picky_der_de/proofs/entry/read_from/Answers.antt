@@ -25,5 +25,5 @@ returns-clause-refused_by g c =
     MatchResult-weaker c.deserialize-result.result (err_both _ _ c.deserialize-result.result
     c.deserialize-result.ensures.err c.deserialize-result.ensures.refused_by)
     (λ v h. tt)
-    (λ e r still memory bytes k. front_refused_by c.new_from_reader-de.ensures r.0 r.1
+    (λ e r still memory bytes k. front_refused_by g.T.Deserialize.facts.rule c.new_from_reader-de.ensures r.0 r.1
     (sym c.into_reader.ensures.faults ∙ still) memory bytes k)

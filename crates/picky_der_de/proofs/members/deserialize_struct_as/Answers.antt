@@ -37,7 +37,8 @@ returns-clause-ok g c =
 
 pub returns-in_err-sequence-clause-refused_by : goal.returns-in_err-sequence-clause-refused_by
 returns-in_err-sequence-clause-refused_by g c =
-    rule_passed_on (struct_rule g) _ _ c.from_residual.ensures.1 refl (header_by g.T.Members.DeserializeMembers.facts.rule
+    rule_passed_on (struct_rule g) _ _ c.from_residual.ensures.1 refl
+    (header_by g.T.Members.DeserializeMembers.facts.rule
     (rw c.in_err-sequence.was at c.begin_list.follows.holds-at-none))
 
 pub returns-in_err-members-clause-refused_by : goal.returns-in_err-members-clause-refused_by
