@@ -17,6 +17,7 @@ pub mod DateTimes
 pub mod Denotes
 pub mod Dotted
 pub mod Exact
+pub mod ExactAdded
 pub mod ExactArrays
 pub mod ExactCharacters
 pub mod ExactChoices
@@ -35,6 +36,7 @@ pub mod Names
 pub mod Notation
 pub mod NotationForms
 pub mod NotationLaws
+pub mod NumberedLaws
 pub mod ObjectIdentifier
 pub mod ObjectIdentifierLaws
 pub mod PrimitiveForm

@@ -62,6 +62,13 @@ added_read l {b} {c} {d} {tag} {ts} whole i read =
     full n distinct last e f left us (inl are) readable w = n.full distinct last e f left us are readable w
     full n distinct last e f left us (inr are) readable w = empty_left us (as_look whole i).ahead are w
 
+-- members that are the parts of values were refused
+pub parts_refused : {P V : Type 0} {members : P → Trees} {l : Layout} (parts : V → P) {b d : State} {e : Asn1DerError}
+    → RefusesLayout members l b d e → RefusesLayout (λ v. members (parts v)) l b d e
+parts_refused parts h = record {
+  rest = record { fails = h.rest.fails; none = λ j v p readable order w. h.rest.none j (parts v) p readable order w };
+}
+
 -- they were refused after a look
 pub added_refused : {P V : Type 0} (members : P → Trees) (l : Layout) (item : V → Option P) {b c d : State} {tag : ℕ}
     {e : Asn1DerError} → b.implicit_tag ≡ None → Identifies b c tag → RefusesLayout members l c d e

@@ -1,14 +1,16 @@
 //! Members that an extension added.
-ghost use Rattle.std.specs.Prelude.{◌≡◌, true};
+ghost use Rattle.std.specs.Prelude.{◌≡◌, true, None, IfOk, IfErr};
 ghost use Rattle.std.specs.Option.{option_eq};
 ghost use Rattle.picky_der_core.specs.Equality.{IsThatOf};
 ghost use Rattle.picky_der_core.specs.Shape.{Layout};
+ghost use Rattle.picky_der_de.specs.Layouts.{ReadsLayout, RefusesLayout};
 ghost use Rattle.picky_der_de.specs.MembersFacts.{conjunction};
+ghost use Rattle.picky_der_de.specs.SequenceState.{borrowed_by, outer_of, state_of};
 ghost use Rattle.picky_asn1_der.specs.AddedLaws.{added_facts, added_members, has_required};
 
 use picky_der_core::Result;
 use picky_der_core::misc::{ReadExt, WriteExt};
-use picky_der_de::DeserializeMembers;
+use picky_der_de::{DeserializeMembers, Struct};
 use picky_der_ser::SerializeMembers;
 
 /// The members that an extension added to a SEQUENCE, or none in a value of an earlier version (X.680, 25.1). They are
@@ -27,6 +29,24 @@ pub trait AddedMembers: DeserializeMembers {
 
     // Two are equal exactly if each of the members is.
     ghost equal: { (x y : Self) → Self.eq x y ≡ conjunction (Self.facts.tests x y) };
+}
+
+/// Reads members as those of a struct. It is the whole body of `DeserializeMembers::deserialize_members` of such a type,
+/// and its errors are those of the members.
+pub fn deserialize_members_as<T: Struct, R: ReadExt>(
+    sequence: &mut picky_der_de::Sequence<'_, R>,
+) -> Result<T>
+    requires had_not_failed { (state_of sequence.old).failed ≡ None }
+    requires implicit_tag { (state_of sequence.old).implicit_tag ≡ None }
+    ensures same_reference { borrowed_by sequence.new ≡ borrowed_by sequence.old }
+    ensures outer { outer_of sequence.new ≡ outer_of sequence.old }
+    ensures ok { IfOk result (λ value. ReadsLayout T.Members.layout (state_of sequence.old)
+        (state_of sequence.new) (T.Members.members (T.parts value))) }
+    ensures err { IfErr result (RefusesLayout (λ value. T.Members.members (T.parts value))
+        T.Members.layout (state_of sequence.old) (state_of sequence.new)) }
+{
+    let members = T::Members::deserialize_members(sequence)?;
+    Ok(T::from_parts(members))
 }
 
 impl<M: PartialEq> Added<M> {

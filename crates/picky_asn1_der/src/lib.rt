@@ -34,7 +34,7 @@ pub mod parts;
 pub mod raw_der;
 pub mod round_trip;
 
-pub use added::{Added, AddedMembers};
+pub use added::{Added, AddedMembers, deserialize_members_as};
 pub use later_members::LaterMembers;
 pub use later_members_from::LaterMembersFrom;
 pub use parts::{Signed, from_der_signed, part_range};
