@@ -80,3 +80,17 @@ module _ {E : Type 0} (bytes : E → List ℕ) where
   pub numbered_alike : (n : ℕ) (es fs : List E) → others_of bytes es ≡ others_of bytes fs
       → are_numbered_from n bytes es ≡ are_numbered_from n bytes fs
   numbered_alike n es fs e = ap (ascend_from n) (same_bytes es fs e)
+
+  -- the first of them is numbered, or isn't
+  pub numbered_next : (least b : ℕ) (bs : List ℕ) (e : E) (es : List E) → bytes e ≡ b ∷ bs
+      → is_numbered_from least b ≡ true
+      → are_numbered_from least bytes (e ∷ es) ≡ are_numbered_from (number_of b + 1) bytes es
+  numbered_next least b bs e es is h = rw (is, h) refl
+
+  pub numbered_no_more : (least b : ℕ) (bs : List ℕ) (e : E) (es : List E) → bytes e ≡ b ∷ bs
+      → is_numbered_from least b ≡ false → are_numbered_from least bytes (e ∷ es) ≡ false
+  numbered_no_more least b bs e es is h = rw (is, h) refl
+
+  pub empty_not_numbered : (least : ℕ) (e : E) (es : List E) → bytes e ≡ []
+      → are_numbered_from least bytes (e ∷ es) ≡ false
+  empty_not_numbered least e es is = rw is refl

@@ -5,7 +5,7 @@ ghost use Rattle.picky_der_core.specs.Equality.{IsThatOf};
 ghost use Rattle.picky_der_core.specs.Shape.{Layout};
 ghost use Rattle.picky_der_de.specs.MembersFacts.{others_facts};
 ghost use Rattle.picky_der_de.specs.OtherLaws.{others_of};
-ghost use Rattle.picky_asn1_der.specs.LaterTags.{numbered_below, are_numbered_from};
+ghost use Rattle.picky_asn1_der.specs.LaterTags.{numbered_below, is_numbered_from, are_numbered_from};
 ghost use Rattle.picky_asn1_der.specs.LaterTagLaws.{numbered_are_outside};
 
 use crate::Asn1RawDer;
@@ -29,20 +29,27 @@ pub struct LaterMembersFrom<const N: u8> {
     ghost numbered: { are_numbered_from N (λ raw. raw.0.items) elements.items ≡ true },
 }
 
+// Whether it is a context tag with this number or a greater one.
+fn is_numbered_from(tag: Tag, least: u8) -> bool
+    ensures { result ≡ is_numbered_from least tag }
+{
+    tag.is_context_specific() && least <= tag.number()
+}
+
 // Whether each element has a context tag, with a number from this one on that is greater than that of the one before.
 fn are_numbered_from(elements: &[Asn1RawDer], least: u8) -> bool
     ensures { result ≡ are_numbered_from least (λ raw. raw.0.items) elements.now }
 {
-    let mut least = least;
+    let mut next = least;
     for element in elements {
         let Some(byte) = element.0.first() else {
             return false;
         };
         let tag = Tag::from(*byte);
-        if !tag.is_context_specific() || tag.number() < least {
+        if !is_numbered_from(tag, next) {
             return false;
         }
-        least = tag.number() + 1;
+        next = tag.number() + 1;
     }
     true
 }

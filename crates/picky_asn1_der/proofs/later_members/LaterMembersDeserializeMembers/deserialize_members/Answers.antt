@@ -1,8 +1,6 @@
-use Rattle.std.proofs.Common.{◌≡◌, true, sym, subst}
+use Rattle.std.proofs.Common.{sym}
 use Rattle.std.proofs.lemmas.Result.{err_from_is_err_and}
-use Rattle.picky_der_core.specs.Shape.{Layout, firsts_of}
-use Rattle.picky_der_de.specs.Layouts.{ReadsLayout}
-use Rattle.picky_der_de.specs.OtherLaws.{are_outside, others_of}
+use Rattle.picky_der_core.specs.Shape.{firsts_of}
 use Rattle.picky_der_de.proofs.LayoutReads.{skips}
 use Rattle.picky_der_de.proofs.OtherReads.{look_read, look_refused, others_read, others_refused, others_excluded}
 use Rattle.picky_asn1_der.specs.LaterTags.{in_both_forms}
