@@ -30,7 +30,9 @@ def added_uses(declared: AddedDeclaration) -> Uses:
 
 def added_lines(declared: AddedDeclaration, names: PrivateNames) -> list[str]:
     """The items of added members."""
-    return [*definition(declared), "", *added_impls(declared, names)]
+    members = tuple_names(declared, names)[0]
+    more = [notated_impl(declared, members), exact_impl(declared, members), faithful_impl(declared, members)]
+    return [*definition(declared), "", *added_impls(declared, names), *(line for it in more for line in ["", *it])]
 
 
 def added_impls(declared: AddedDeclaration, names: PrivateNames) -> list[str]:
@@ -51,12 +53,6 @@ def added_impls(declared: AddedDeclaration, names: PrivateNames) -> list[str]:
         "",
         f"{STEP}ghost equal = {{ λ x y. refl }};",
         "}",
-        "",
-        *notated_impl(declared, members),
-        "",
-        *exact_impl(declared, members),
-        "",
-        *faithful_impl(declared, members),
     ]
 
 
