@@ -143,7 +143,8 @@ fn refuse_excluded<A: Alternatives, R: ReadExt>(
 impl<A: Alternatives> DeserializeMembers for LaterMembers<A> {
     ghost layout = { Layout.others (in_both_forms (firsts_of A.shapes)) };
 
-    ghost facts = { others_facts (λ raw. raw.0.items) (in_both_forms (firsts_of A.shapes)) (λ it. it.elements.items) (λ it. it.outside) };
+    ghost facts = { others_facts (λ raw. raw.0.items) (in_both_forms (firsts_of A.shapes)) (λ it. it.elements.items)
+        (λ it. it.outside) };
 
     fn deserialize_members<R: ReadExt>(
         sequence: &mut picky_der_de::Sequence<'_, R>,

@@ -31,7 +31,8 @@ returns-in_default c =
     let here = from_here es i e c.loop-element-test.true c.element-item.is in
     let none : None ≡ slice_get e.0.items 0 = rw (c.in_default.is, c.deref.ensures.value) at c.first.ensures.value in
     let left = rw here at c.loop-element.invariant in
-    sym (empty_not_numbered (λ raw. raw.0.items) c.loop-element.next e (drop (i + 1) es) (is_empty e.0.items none)) ∙ left
+    sym (empty_not_numbered (λ raw. raw.0.items) c.loop-element.next e (drop (i + 1) es) (is_empty e.0.items none))
+    ∙ left
 
 pub returns-then-not-is_numbered_from : goal.returns-then-not-is_numbered_from
 returns-then-not-is_numbered_from c =
@@ -63,4 +64,5 @@ loop-element-preserved c =
     (begins e.0.items b some) is) ∙ left)
 
 pub returns : goal.returns
-returns c = rw (drop_all c.loop-element.element-index c.args.elements.now c.loop-element-test.false) at c.loop-element.invariant
+returns c = rw (drop_all c.loop-element.element-index c.args.elements.now c.loop-element-test.false) at
+    c.loop-element.invariant
