@@ -31,8 +31,8 @@ pub trait AddedMembers: DeserializeMembers {
     ghost equal: { (x y : Self) → Self.eq x y ≡ conjunction (Self.facts.tests x y) };
 }
 
-/// Reads members as those of a struct. It is the whole body of `DeserializeMembers::deserialize_members` of such a type,
-/// and its errors are those of the members.
+/// Reads members as those of a struct. It is the whole body of `DeserializeMembers::deserialize_members` of such a
+/// type, and its errors are those of the members.
 pub fn deserialize_members_as<T: Struct, R: ReadExt>(
     sequence: &mut picky_der_de::Sequence<'_, R>,
 ) -> Result<T>

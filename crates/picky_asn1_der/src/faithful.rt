@@ -12,7 +12,8 @@ ghost use Rattle.picky_asn1_der.specs.AddedLaws.{added_sameness};
 
 use crate::application_tag::ApplicationTag;
 use crate::{
-    Added, AddedMembers, Alternatives, Asn1RawDer, Faithful, FaithfulMembers, Inhabited, LaterMembers, LaterMembersFrom,
+    Added, AddedMembers, Alternatives, Asn1RawDer, Faithful, FaithfulMembers, Inhabited,
+    LaterMembers, LaterMembersFrom,
 };
 use std::fmt::Debug;
 

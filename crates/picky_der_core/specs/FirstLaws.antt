@@ -14,7 +14,8 @@ use Rattle.picky_der_core.specs.Tree.{ListKind, Tree, Trees}
 use Rattle.picky_der_core.specs.Encoding.{plain_encoding, tree_bytes, der, list_tag}
 use Rattle.picky_der_core.specs.Readable.{IsReadable}
 use Rattle.picky_der_core.specs.Shape.{Shape, Shapes, Layout, IsOf, IsOneOf, AreMembersOf, FirstOrNone, EachIs, firsts}
-use Rattle.picky_der_core.specs.Shape.{AllOrNone, firsts_of, next_firsts, contains, are_disjoint, tags_below, tag_with_number}
+use Rattle.picky_der_core.specs.Shape.{AllOrNone, firsts_of, next_firsts, contains, are_disjoint, tags_below}
+use Rattle.picky_der_core.specs.Shape.{tag_with_number}
 use Rattle.picky_der_core.specs.Shape.{IsPrimitiveTree, IsRaw, begins_outside, IsRawOutside, AreOthers, IsList}
 use Rattle.picky_der_core.specs.Shape.{IsOptional, IsWrapped, IsChoice}
 use Rattle.picky_der_core.specs.EncodingLaws.{is_absent-readable, der-wrapped_present}
