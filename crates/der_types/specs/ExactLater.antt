@@ -47,10 +47,10 @@ module _ {E : Type 0} (bytes : E → List ℕ) (element : (s : List ℕ) → len
     others_complete : (ts : Trees) → AreOthers excluded ts → AreReadable ts → AreShort ts
         → (v : V) × (others_of bytes (elements v) ≡ ts)
     others_complete Trees.none p r s =
-        of_made (are_outside excluded bytes) elements whole Trees.none ([], refl, refl) refl s.0
+        of_made (λ es. are_outside excluded bytes es) elements whole Trees.none ([], refl, refl) refl s.0
     others_complete (Trees.more (Tree.raw bs) ts) p r s =
         let m = made_first bs ts s.1.0 (each_made ts p.1 s.1.1) in
-        of_made (are_outside excluded bytes) elements whole (Trees.more (Tree.raw bs) ts) m
+        of_made (λ es. are_outside excluded bytes es) elements whole (Trees.more (Tree.raw bs) ts) m
         (ap (begins_outside excluded) (element bs s.1.0).1 ∙ p.0.1) s.0
     others_complete (Trees.more _ ts) p r s = absurd p.0
 
@@ -78,7 +78,7 @@ module _ {E : Type 0} (bytes : E → List ℕ) (element : (s : List ℕ) → len
         → (v : V) × (others_of bytes (elements v) ≡ ts)
     from_complete ts p r s =
         let m = each_made ts (numbered_raw least ts p r) s.1 in
-        of_made (are_numbered_from least bytes) elements whole ts m
+        of_made (λ es. are_numbered_from least bytes es) elements whole ts m
         (numbered_complete bytes least m.0 (subst (AreNumberedFrom least) (sym m.2) p)) s.0
 
     pub numbered_exact : AreExact (Members.others-from least) (λ v. others_of bytes (elements v))
