@@ -9,7 +9,9 @@ ghost use Rattle.std.proofs.Common.{ap};
 ghost use Rattle.std.specs.Prelude.{◌≡◌, true, false, not, refl, IfSome, IfNone, IfOk, IfErr};
 ghost use Rattle.picky_der_core.specs.Equality.{IsThatOf};
 ghost use Rattle.picky_der_de.specs.Reading.{Reads, Refuses};
-ghost use Rattle.picky_der_de.specs.Facts.{part_facts};
+ghost use Rattle.picky_der_de.specs.Facts.{tested_part_facts};
+ghost use Rattle.picky_der_de.specs.RefusesBy.{RefusesBy};
+ghost use Rattle.picky_der_de.specs.Rules.{tested_rule};
 ghost use Rattle.der_types.specs.Constraints.{$test_name, RefusesConstrained};
 ghost use Rattle.der_types.specs.ExactConstraints.{$exact_values};
 ghost use Rattle.der_types.specs.Notation.{Notation};
@@ -97,7 +99,7 @@ $list
 impl<T: $of + Deserialize, $parameters> Deserialize for $type {
     ghost shape = { T.shape };
 
-    ghost facts = { part_facts T.facts T.meaning T.eq (λ it. it.value) };
+    ghost facts = { tested_part_facts T.facts T.meaning T.eq (λ it. it.value) };
 
     ghost proved = { Prim.assumption };
 
@@ -108,6 +110,8 @@ impl<T: $of + Deserialize, $parameters> Deserialize for $type {
             deserializer.old deserializer.new) }
         ensures refused { IfErr result (RefusesConstrained T.meaning T.shape
             (λ value. $allows) deserializer.old deserializer.new) }
+        ensures refused_by { IfErr result (RefusesBy (tested_rule T.meaning T.shape
+            ⟦<$type as Constrained>⟧.unconstrained T.facts.rule) deserializer.old deserializer.new) }
     {
         deserialize_constrained_as(deserializer)
     }

@@ -519,7 +519,7 @@ impl Serialize for CrlReason {
 impl Deserialize for CrlReason {
     ghost shape = { contents_shape 0x0A };
 
-    ghost facts = { contents_facts 0x0A (λ it. crl_reason_number it ∷ []) ⟦<Self as PartialEq>⟧.eq ⟦<Self as Contents>⟧.same };
+    ghost facts = { contents_facts 0x0A (λ it. crl_reason_number it ∷ []) ⟦<Self as PartialEq>⟧.eq ⟦<Self as Contents>⟧.is_content ⟦<Self as Contents>⟧.same };
 
     ghost proved = { Prim.assumption };
 

@@ -60,7 +60,7 @@ impl<T: Contents, const TAG: u8> Serialize for ImplicitPrimitive<T, TAG> {
 impl<T: Contents, const TAG: u8> Deserialize for ImplicitPrimitive<T, TAG> {
     ghost shape = { contents_shape (primitive_form TAG) };
 
-    ghost facts = { content_of_facts (primitive_form TAG) T.content T.equal T.same T.eq (λ tagged. tagged.0) };
+    ghost facts = { content_of_facts (primitive_form TAG) T.content T.is_content T.equal T.same T.eq (λ tagged. tagged.0) };
 
     ghost proved = { Prim.assumption };
 

@@ -4,9 +4,9 @@ ghost use Rattle.std.specs.Prelude.{IfErr};
 ghost use Rattle.std.specs.Cmp.Lexicographic.{bytes_decides};
 ghost use Rattle.std.specs.List.{list_all};
 ghost use Rattle.std.specs.Str.{encode_utf8_all};
-ghost use Rattle.picky_der_de.specs.Facts.{bytes_facts};
+ghost use Rattle.picky_der_de.specs.Facts.{bytes_facts, ruled};
 ghost use Rattle.der_types.specs.ContentsFacts.{contents_of, contents_shape};
-ghost use Rattle.der_types.specs.ContentTests.{ReadsContent, RefusesContent};
+ghost use Rattle.der_types.specs.ContentTests.{ReadsContent, RefusesContent, content_rule};
 ghost use Rattle.der_types.specs.CharacterStrings.{string_content, characters, is_string_content};
 
 use crate::character_sets::{Bmp, General, Ia5, Numeric, Printable, Teletex, Universal, Visible};
@@ -207,7 +207,7 @@ impl<S: CharacterSet> Serialize for RestrictedString<S> {
 impl<S: CharacterSet> Deserialize for RestrictedString<S> {
     ghost shape = { contents_shape S.TAG };
 
-    ghost facts = { bytes_facts S.TAG (λ it. it.content.items) };
+    ghost facts = { ruled (content_rule S.TAG (is_string_content S.WIDTH S.is_character)) (bytes_facts S.TAG (λ it. it.content.items)) };
 
     ghost proved = { Prim.assumption };
 

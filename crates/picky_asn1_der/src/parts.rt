@@ -5,6 +5,7 @@ ghost use Rattle.picky_der_core.specs.Element.{length_octets, tlv, IsElement, Is
 ghost use Rattle.picky_der_core.specs.Encoding.{der};
 ghost use Rattle.picky_der_core.specs.Readable.{IsReadable};
 ghost use Rattle.picky_der_core.specs.Tree.{Tree};
+ghost use Rattle.picky_der_de.specs.Rules.{RefusesWholeBy};
 ghost use Rattle.picky_der_de.specs.Whole.{IsWhole, IsNoEncoding};
 ghost use Rattle.picky_asn1_der.specs.Parts.{first_member_of, has_first_member, part_at, WithoutTag, HasMember};
 ghost use Rattle.picky_asn1_der.specs.Parts.{IsHeaderOf, IsPiece};
@@ -40,6 +41,8 @@ pub fn from_der_signed<T: Deserialize>(
         × (it.part.end ≤ length bytes.now)) }
     ensures err { IfErr result (λ refusal. IsNoEncoding T.meaning T.shape bytes.now
         refusal.error refusal.position) }
+    ensures refused_by { IfErr result (λ refusal. RefusesWholeBy T.meaning T.shape T.facts.rule
+        bytes.now refusal.error refusal.position) }
 {
     let value = from_der::<T>(alloc, bytes)?;
     match part_range(bytes, &[0]) {

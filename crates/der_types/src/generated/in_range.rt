@@ -4,7 +4,9 @@ ghost use Rattle.std.proofs.Common.{ap};
 ghost use Rattle.std.specs.Prelude.{◌≡◌, true, false, not, refl, IfSome, IfNone, IfOk, IfErr};
 ghost use Rattle.picky_der_core.specs.Equality.{IsThatOf};
 ghost use Rattle.picky_der_de.specs.Reading.{Reads, Refuses};
-ghost use Rattle.picky_der_de.specs.Facts.{part_facts};
+ghost use Rattle.picky_der_de.specs.Facts.{tested_part_facts};
+ghost use Rattle.picky_der_de.specs.RefusesBy.{RefusesBy};
+ghost use Rattle.picky_der_de.specs.Rules.{tested_rule};
 ghost use Rattle.der_types.specs.Constraints.{is_between, RefusesConstrained};
 ghost use Rattle.der_types.specs.ExactConstraints.{in_range_values};
 ghost use Rattle.der_types.specs.Notation.{Notation};
@@ -15,7 +17,7 @@ use picky_der_core::Result;
 use picky_der_core::asn1::Tag;
 use picky_der_core::misc::{ReadExt, WriteExt};
 use picky_der_de::{Begins, Deserialize, Deserializer, Faithful};
-use picky_der_ser::{Serialize, Serializer};
+use picky_der_ser::{ Serialize, Serializer};
 
 /// A number from `MIN` to `MAX`, as in `INTEGER (MIN..MAX)` (X.680, 51.4). It is encoded as the number. For a range that begins below zero,
 /// implement `Constrained`.
@@ -65,8 +67,7 @@ impl<T: WholeNumber + PartialEq, const MIN: u64, const MAX: u64> InRange<T, MIN,
     {}
 }
 
-impl<T: WholeNumber + Deserialize, const MIN: u64, const MAX: u64> Constrained
-    for InRange<T, MIN, MAX> {
+impl<T: WholeNumber + Deserialize, const MIN: u64, const MAX: u64> Constrained for InRange<T, MIN, MAX> {
     type Of = T;
 
     ghost unconstrained = { λ it. it.value };
@@ -90,11 +91,11 @@ impl<T: WholeNumber, const MIN: u64, const MAX: u64> Serialize for InRange<T, MI
     }
 }
 
-impl<T: WholeNumber + Deserialize, const MIN: u64, const MAX: u64> Deserialize
-    for InRange<T, MIN, MAX> {
+
+impl<T: WholeNumber + Deserialize, const MIN: u64, const MAX: u64> Deserialize for InRange<T, MIN, MAX> {
     ghost shape = { T.shape };
 
-    ghost facts = { part_facts T.facts T.meaning T.eq (λ it. it.value) };
+    ghost facts = { tested_part_facts T.facts T.meaning T.eq (λ it. it.value) };
 
     ghost proved = { Prim.assumption };
 
@@ -105,6 +106,8 @@ impl<T: WholeNumber + Deserialize, const MIN: u64, const MAX: u64> Deserialize
             deserializer.old deserializer.new) }
         ensures refused { IfErr result (RefusesConstrained T.meaning T.shape
             (λ value. is_between MIN MAX (T.number value)) deserializer.old deserializer.new) }
+        ensures refused_by { IfErr result (RefusesBy (tested_rule T.meaning T.shape
+            ⟦<InRange<T, MIN, MAX> as Constrained>⟧.unconstrained T.facts.rule) deserializer.old deserializer.new) }
     {
         deserialize_constrained_as(deserializer)
     }

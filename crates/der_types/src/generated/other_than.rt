@@ -4,7 +4,9 @@ ghost use Rattle.std.proofs.Common.{ap};
 ghost use Rattle.std.specs.Prelude.{◌≡◌, true, false, not, refl, IfSome, IfNone, IfOk, IfErr};
 ghost use Rattle.picky_der_core.specs.Equality.{IsThatOf};
 ghost use Rattle.picky_der_de.specs.Reading.{Reads, Refuses};
-ghost use Rattle.picky_der_de.specs.Facts.{part_facts};
+ghost use Rattle.picky_der_de.specs.Facts.{tested_part_facts};
+ghost use Rattle.picky_der_de.specs.RefusesBy.{RefusesBy};
+ghost use Rattle.picky_der_de.specs.Rules.{tested_rule};
 ghost use Rattle.der_types.specs.Constraints.{is_between, RefusesConstrained};
 ghost use Rattle.der_types.specs.ExactConstraints.{other_than_values};
 ghost use Rattle.der_types.specs.Notation.{Notation};
@@ -15,7 +17,7 @@ use picky_der_core::Result;
 use picky_der_core::asn1::Tag;
 use picky_der_core::misc::{ReadExt, WriteExt};
 use picky_der_de::{Begins, Deserialize, Deserializer, Faithful};
-use picky_der_ser::{Serialize, Serializer};
+use picky_der_ser::{ Serialize, Serializer};
 
 /// A number other than `N`. It is encoded as the number.
 ///
@@ -91,10 +93,11 @@ impl<T: WholeNumber, const N: u64> Serialize for OtherThan<T, N> {
     }
 }
 
+
 impl<T: WholeNumber + Deserialize, const N: u64> Deserialize for OtherThan<T, N> {
     ghost shape = { T.shape };
 
-    ghost facts = { part_facts T.facts T.meaning T.eq (λ it. it.value) };
+    ghost facts = { tested_part_facts T.facts T.meaning T.eq (λ it. it.value) };
 
     ghost proved = { Prim.assumption };
 
@@ -105,6 +108,8 @@ impl<T: WholeNumber + Deserialize, const N: u64> Deserialize for OtherThan<T, N>
             deserializer.old deserializer.new) }
         ensures refused { IfErr result (RefusesConstrained T.meaning T.shape
             (λ value. not (is_between N N (T.number value))) deserializer.old deserializer.new) }
+        ensures refused_by { IfErr result (RefusesBy (tested_rule T.meaning T.shape
+            ⟦<OtherThan<T, N> as Constrained>⟧.unconstrained T.facts.rule) deserializer.old deserializer.new) }
     {
         deserialize_constrained_as(deserializer)
     }

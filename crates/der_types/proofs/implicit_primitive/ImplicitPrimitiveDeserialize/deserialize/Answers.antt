@@ -37,4 +37,5 @@ returns-in_err-value-clause-refused g c =
           λ v. Tree.primitive (Primitive.bytes (primitive_form g.row.TAG) (g.T.Contents.content v))}
           (λ w. w.0) refused.refuses;
       just = refused.just;
+      by = refused.by;
     })

@@ -27,3 +27,19 @@ returns-in-None-clause-err g c =
     look_refused (skips c.requires.implicit_tag c.in_ok-refuse_excluded.ensures.ok)
     (others_excluded (λ raw. raw.0.items) (firsts_of g.A.Alternatives.shapes) (λ it. it.elements.items)
     c.in_ok-elements.elements.items c.in_ok-elements.ensures.ok c.in-None.ensures.none c.refuse.ensures.fails)
+
+pub returns-in_err-refuse_excluded-clause-refused_by : goal.returns-in_err-refuse_excluded-clause-refused_by
+returns-in_err-refuse_excluded-clause-refused_by g c =
+    let p = err_from_is_err_and c.from_residual.result c.from_residual.ensures.1 in
+    rw (p.1, p.2) (λ none j bs left k l. tt)
+
+pub returns-in_err-elements-clause-refused_by : goal.returns-in_err-elements-clause-refused_by
+returns-in_err-elements-clause-refused_by g c =
+    let p = err_from_is_err_and c.from_residual-in_err-elements.result c.from_residual-in_err-elements.ensures.1 in
+    rw (p.1, p.2) (λ none j bs left k l. tt)
+
+pub returns-in-None-clause-refused_by : goal.returns-in-None-clause-refused_by
+returns-in-None-clause-refused_by g c = λ none j bs left k l. tt
+
+pub returns-in-Some-clause-leads : goal.returns-in-Some-clause-leads
+returns-in-Some-clause-leads g c = λ none last e by j bs left k l. tt
