@@ -286,7 +286,8 @@ mutual
       let parts = and_parts (is_checked n) (are_members_checked ms) e in
       maybe_checked (λ x. Denotes n x × (x ≢ value)) (DenoteMembers ms) (λ x p. checked n parts.0 x p.0)
       (members_checked ms parts.1) ts d
-  members_checked (Members.others known) e ts d = cc
+  members_checked (Members.others excluded) e ts d = cc
+  members_checked (Members.others-from least) e ts d = cc
 
   alternatives_checked : (ns : Alternatives) → are_alternatives_checked ns ≡ true → (t : Tree) → DenoteOneOf ns t
       → IsChecked t

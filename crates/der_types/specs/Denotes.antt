@@ -1,7 +1,9 @@
 -- Which trees the types of ASN.1 denote, with their contents and ranges. The clauses are clauses of X.680 unless
 -- another one is named.
-use Rattle.std.specs.Prelude.{◌≡◌, ◌≢◌, ℕ, ◌-◌, ◌^◌, ◌≤◌, ◌<◌, ℤ, pos, negsuc, Bool, true, false, ◌&&◌, ◌⊎◌, ◌==◌}
-use Rattle.std.specs.Prelude.{nat_lt, nat_le, not, List, length, chars, IsTrue, ⊤, if◌then◌else◌}
+use Rattle.std.specs.Prelude.{◌≡◌, ◌≢◌, ℕ, ◌+◌, ◌-◌, ◌^◌, ◌≤◌, ◌<◌, ℤ, pos, negsuc, Bool, true, false, ◌&&◌, ◌⊎◌, ◌==◌}
+use Rattle.std.specs.Prelude.{nat_lt, nat_le, not, List, [], ◌∷◌, length, chars, IsTrue, ⊤, if◌then◌else◌}
+use Rattle.picky_der_core.specs.declared.asn1.tag.TagClass.TheVariants.{ContextSpecific}
+use Rattle.picky_der_core.specs.Tag.{class_of, number_of}
 use Rattle.picky_der_core.specs.Integer.{integer_content, integer_value, integer_tree, fits_signed}
 use Rattle.picky_der_core.specs.Primitive.{Primitive, primitive_content}
 use Rattle.picky_der_core.specs.Readable.{IsReadable}
@@ -48,6 +50,18 @@ content_tree tag s = Tree.primitive (Primitive.bytes tag s)
 abbrev pub HasContent : ℕ → (List ℕ → Bool) → Tree → Type 0
 HasContent tag test = IsMade (content_tree tag) (λ s. test s ≡ true)
 
+-- the bytes begin with the context tag of this number, on an encoding of either form (X.690, 8.1.2)
+abbrev pub HasContextTag : ℕ → List ℕ → Type 0
+HasContextTag number [] = ⊥
+HasContextTag number (b ∷ bs) = (class_of b ≡ ContextSpecific) × (number_of b ≡ number)
+
+-- elements with context tags whose numbers ascend from this one on, as automatic tags do (25.7)
+abbrev pub AreNumberedFrom : ℕ → Trees → Type 0
+AreNumberedFrom least Trees.none = ⊤
+AreNumberedFrom least (Trees.more (Tree.raw s) ts) =
+    (number : ℕ) × (least ≤ number) × HasContextTag number s × AreNumberedFrom (number + 1) ts
+AreNumberedFrom least (Trees.more _ ts) = ⊥
+
 -- A readable tree that is denoted is a value's.
 abbrev mutual
   pub Denotes : Notation → Tree → Type 0
@@ -88,7 +102,8 @@ abbrev mutual
   pub DenoteMembers : Members → Trees → Type 0
   DenoteMembers Members.end = IsEmpty
   DenoteMembers (Members.member m ms) = DenoteFirst m (DenoteMembers ms)
-  DenoteMembers (Members.others known) = AreOthers known
+  DenoteMembers (Members.others excluded) = AreOthers excluded
+  DenoteMembers (Members.others-from least) = AreNumberedFrom least
 
   pub DenoteOneOf : Alternatives → Tree → Type 0
   DenoteOneOf Alternatives.none = λ t. ⊥

@@ -35,6 +35,7 @@ pub mod Names
 pub mod Notation
 pub mod NotationForms
 pub mod NotationLaws
+pub mod NumberedLaws
 pub mod ObjectIdentifier
 pub mod ObjectIdentifierLaws
 pub mod PrimitiveForm

@@ -5,6 +5,7 @@ use Rattle.picky_der_core.specs.declared.asn1.wrapper.Wrapper.{Wrapper}
 use Rattle.picky_der_core.specs.Primitive.{PrimitiveShape}
 use Rattle.picky_der_core.specs.Tree.{ListKind, Tree}
 use Rattle.picky_der_core.specs.Shape.{Shape, Shapes, Layout}
+use Rattle.picky_asn1_der.specs.LaterTags.{numbered_below}
 use Rattle.der_types.specs.ContentTypes.{ContentType, tag_of}
 use Rattle.der_types.specs.PrimitiveForm.{primitive_form}
 
@@ -61,6 +62,8 @@ mutual
     member : Member → Members → Members
     -- the members of later versions, of which the first begins with none of these bytes
     others : List ℕ → Members
+    -- the same, of which each has an automatic tag whose number isn't below this one
+    others-from : ℕ → Members
 
   pub data Alternatives : Type 0 where
     none : Alternatives
@@ -102,6 +105,7 @@ abbrev mutual
   layout_of Members.end = Layout.empty
   layout_of (Members.member m ms) = member_then m (layout_of ms)
   layout_of (Members.others excluded) = Layout.others excluded
+  layout_of (Members.others-from least) = Layout.others (numbered_below least)
 
   pub shapes_of : Alternatives → Shapes
   shapes_of Alternatives.none = Shapes.none

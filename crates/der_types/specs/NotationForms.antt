@@ -10,6 +10,7 @@ use Rattle.picky_der_core.specs.Integer.{fits_signed, int_tree, unsigned_tree}
 use Rattle.picky_der_core.specs.Primitive.{Primitive}
 use Rattle.picky_der_core.specs.Tree.{ListKind, Tree}
 use Rattle.picky_der_core.specs.Shape.{firsts}
+use Rattle.picky_asn1_der.specs.LaterTags.{in_both_forms}
 use Rattle.der_types.specs.ContentForms.{INTEGER}
 use Rattle.der_types.specs.Notation.{Notation, Member, Members, Alternatives, shape_of}
 use Rattle.der_types.specs.TagOrder.{tag_place}
@@ -70,6 +71,10 @@ abbrev pub ◌⨾◌ : Member → Members → Members
 abbrev pub later-members : Members
 later-members = Members.others []
 
+-- the same, where the tags are automatic (25.7). `SEQUENCE` says from which number on.
+abbrev pub later-members-automatic : Members
+later-members-automatic = Members.others-from 0
+
 -- the same, where none of them may be there
 abbrev pub later-members-refused : Members
 later-members-refused = Members.end
@@ -113,22 +118,25 @@ default-as-optional = Member.optional
 abbrev pub added : Notation → Member
 added = Member.optional
 
--- The first member of a later version begins otherwise than each member directly before it that may be absent. These
--- are the bytes of those that came so far.
-abbrev excluding : List ℕ → Members → Members
-excluding before Members.end = Members.end
-excluding before (Members.member (Member.required t) ms) = Members.member (Member.required t) (excluding [] ms)
-excluding before (Members.member (Member.optional t) ms) =
-    Members.member (Member.optional t) (excluding (before ++ firsts (shape_of t)) ms)
-excluding before (Members.member (Member.defaulted value t) ms) =
-    Members.member (Member.defaulted value t) (excluding (before ++ firsts (shape_of t)) ms)
-excluding before (Members.others excluded) = Members.others before
+-- The first member of a later version has another tag than each member directly before it that may be absent (25.6),
+-- whether it is primitive or constructed. These are the bytes of those that came so far. An automatic tag has a number
+-- from that of the members on: so many came.
+abbrev excluding : ℕ → List ℕ → Members → Members
+excluding count before Members.end = Members.end
+excluding count before (Members.member (Member.required t) ms) =
+    Members.member (Member.required t) (excluding (count + 1) [] ms)
+excluding count before (Members.member (Member.optional t) ms) =
+    Members.member (Member.optional t) (excluding (count + 1) (before ++ firsts (shape_of t)) ms)
+excluding count before (Members.member (Member.defaulted value t) ms) =
+    Members.member (Member.defaulted value t) (excluding (count + 1) (before ++ firsts (shape_of t)) ms)
+excluding count before (Members.others excluded) = Members.others (in_both_forms before)
+excluding count before (Members.others-from least) = Members.others-from count
 
 -- 25: one without members is a list of none, and one with those of later versions alone a list of any elements
 abbrev pub SEQUENCE : Members → Notation
 SEQUENCE Members.end = Notation.sized 0 0 (Notation.list-of ListKind.sequence Notation.NULL)
 SEQUENCE (Members.others excluded) = Notation.list-of ListKind.sequence Notation.any-element
-SEQUENCE ms = Notation.sequence (excluding [] ms)
+SEQUENCE ms = Notation.sequence (excluding 0 [] ms)
 
 abbrev least_place : List ℕ → ℕ
 least_place [] = 128
@@ -143,11 +151,13 @@ place_of (Member.defaulted value t) = least_place (firsts (shape_of t))
 abbrev insert : Member → Members → Members
 insert m Members.end = m ⨾ Members.end
 insert m (Members.others excluded) = m ⨾ Members.others excluded
+insert m (Members.others-from least) = m ⨾ Members.others-from least
 insert m (Members.member n ns) = if nat_lt (place_of m) (place_of n) then m ⨾ n ⨾ ns else n ⨾ insert m ns
 
 abbrev in_tag_order : Members → Members
 in_tag_order Members.end = Members.end
 in_tag_order (Members.others excluded) = Members.others excluded
+in_tag_order (Members.others-from least) = Members.others-from least
 in_tag_order (Members.member m ms) = insert m (in_tag_order ms)
 
 -- 27, and X.690, 10.3: the members come in the order of their tags

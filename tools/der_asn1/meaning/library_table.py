@@ -76,8 +76,8 @@ _NAMES = {
     "picky_asn1_der::de": "Begins Faithful FaithfulAlternatives FaithfulDefault FaithfulMembers Inhabited deserialize_choice_as",
     "picky_asn1_der::misc": "ReadExt WriteExt",
     "picky_asn1_der::ser": "DefaultOf Defaulted DefaultedRef False Number Optional OptionalRef Sequence SignedNumber True",
-    _ROOT: """Via Alternatives Asn1RawDer Choice Deserialize DeserializeMembers Deserializer LaterMembers List NoneOf OneOf Choice4 Result
-        Serialize SerializeMembers Serializer Struct deserialize_as deserialize_struct_as""",
+    _ROOT: """Via Alternatives Asn1RawDer Choice Deserialize DeserializeMembers Deserializer LaterMembers LaterMembersFrom List NoneOf OneOf Choice4
+        Result Serialize SerializeMembers Serializer Struct deserialize_as deserialize_struct_as""",
 }
 _NUMBERED = re.compile(r"(ExplicitContextTag|ImplicitContextTag|ImplicitList)\d+$")
 _HOMES = {
@@ -95,7 +95,8 @@ _TERMS = {
     "Notation": "INTEGER-named ENUMERATED any-content content-under end none optional required",
     "NotationForms": """ANY APPLICATION AUTOMATIC BIT-STRING-CONTAINING CHOICE CONTEXT EXPLICIT FALSE IMPLICIT INTEGER-from-minus-to
         INTEGER-from-to MAX Mode OCTET-STRING-CONTAINING PRIVATE SEQUENCE SEQUENCE-OF SET SET-OF SIZE TRUE UNIVERSAL added default
-        default-as-optional default-of wider later-alternatives-refused later-members later-members-refused minus number ◌⨾◌ ◌∣◌""",
+        default-as-optional default-of wider later-alternatives-refused later-members later-members-automatic later-members-refused minus
+        number ◌⨾◌ ◌∣◌""",
 }
 _OWN_TERMS = {
     "ContentForms": [it.term for it in TYPES if it.is_checked],

@@ -11,7 +11,7 @@ from .intervals import Intervals
 from .library import ANY_FIRST, DEFAULT_SIGNED, DEFAULT_UNSIGNED, MOST_MEMBERS, ONE_BYTE, U64_MAX, Core, Rust, any_element, parts_type, tagged_bytes
 from .library_table import UNIVERSAL_TAGS
 from .meaning import Meaning, lacks
-from .members import ResolvedMember, is_extensible, members_of
+from .members import ResolvedMember, is_automatic, is_extensible, members_of
 from .rust_types import UNIT, RustType, of
 from .scopes import Program, Scope, resolve
 from .terms import Item as TermItem, Term, number_list
@@ -24,7 +24,7 @@ if TYPE_CHECKING:
 
 # the words of a term after the last member of an extensible type
 _OF_CHOICE = "X.680, 29.3"
-LATER, NO_LATER = "later-members", "later-members-refused"
+LATER, LATER_AUTOMATIC, NO_LATER = "later-members", "later-members-automatic", "later-members-refused"
 
 
 @dataclass(frozen=True)
@@ -68,7 +68,7 @@ def structure(meanings: "Meanings", type_: tree.StructureType, scope: Scope, hin
     except NotationError as error:
         meanings.program.problems.add(error.problem)
         return Meaning(tagged_bytes(first), Level.RAW).lacking(Feature.UNDEFINED)
-    if not parts:
+    if not parts and last_word(type_, scope, parts) != LATER_AUTOMATIC:
         return empty(type_, scope, first)
     if any(it.meaning.rust is None for it in parts):
         return _raw(tagged_bytes(first), parts)
@@ -115,7 +115,7 @@ def declared_struct(meanings: "Meanings", type_: tree.StructureType, scope: Scop
         found = found.lacking(*default.features).noting(*default.notes).placed(of_part(hint, it))
         fields.append(field_of(it, default))
     end = last_word(type_, scope, parts)
-    later = later_field(parts, fields) if end == LATER else None
+    later = later_field(parts, fields, end) if end in (LATER, LATER_AUTOMATIC) else None
     if end == NO_LATER:
         found = found.lacking(Feature.EXTENSION)
     fields = unique(fields if later is None else [*fields, later])
@@ -141,7 +141,9 @@ def last_word(type_: tree.StructureType, scope: Scope, parts: list[Part]) -> str
     if not is_extensible(type_, scope):
         return "end"
     is_any = any(it.firsts >= ANY_FIRST for it in before_later(parts))
-    return NO_LATER if type_.form is tree.Form.SET or type_.continues or is_any else LATER
+    if type_.form is tree.Form.SET or type_.continues or is_any:
+        return NO_LATER
+    return LATER_AUTOMATIC if is_automatic(type_, scope) else LATER
 
 
 def before_later(parts: list[Part]) -> list[Part]:
@@ -150,11 +152,16 @@ def before_later(parts: list[Part]) -> list[Part]:
     return parts[last:]
 
 
-def later_field(parts: list[Part], fields: list[Field]) -> Field:
-    """The field of the members of later versions. Its type has those of the members directly before that may be absent."""
-    before = fields[len(parts) - len(before_later(parts)) :]
-    types = parts_type([it.type for it in before])
-    return Field("later_members", of("LaterMembers", types), notation="...", comment="The members of later versions, in their order.")
+def later_field(parts: list[Part], fields: list[Field], end: str) -> Field:
+    """The field of the members of later versions.
+
+    Its type has the number of all members if the tags are automatic, and else the types of the members directly before that may be absent.
+    """
+    type_ = of("LaterMembersFrom", str(len(parts)))
+    if end == LATER:
+        before = fields[len(parts) - len(before_later(parts)) :]
+        type_ = of("LaterMembers", parts_type([it.type for it in before]))
+    return Field("later_members", type_, notation="...", comment="The members of later versions, in their order.")
 
 
 def item_text(part: Part) -> str:

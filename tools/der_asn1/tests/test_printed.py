@@ -39,7 +39,7 @@ PRINTED = [
 ]
 
 # the types with additions in brackets, which are there together or not at all: the first member of which terms don't say that
-GROUPED = {("Lease", "Lease"): "garden"}
+GROUPED = {("Lease", "Lease"): "garden", ("Leases", "Lease-2"): "garden", ("Leases", "Lease-3"): "garden", ("Parcels", "Parcel-2"): "sender"}
 
 # a module's type, and another one in place of a part of its term
 ALTERED = [
