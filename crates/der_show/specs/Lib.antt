@@ -14,3 +14,5 @@ pub mod Lines
 pub mod Json
 pub mod Shown
 pub mod Reasons
+pub mod FurtherNames
+pub mod ObjectIdentifiers
