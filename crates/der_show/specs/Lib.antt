@@ -16,3 +16,4 @@ pub mod Shown
 pub mod Reasons
 pub mod FurtherNames
 pub mod ObjectIdentifiers
+pub mod Rules
