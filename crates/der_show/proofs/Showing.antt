@@ -68,7 +68,8 @@ module _ (o : ShowOptions) (bytes ends : List ℕ) (at : ℕ) (es : List Entry) 
   step_reached (step.Element h (Some skipped)) on is low r =
       closed o bytes _ _ _ (IsReached.opened ends at es h skipped r is.0 is.1)
   step_reached (step.Broken rule h) on is low r = IsReached.broken ends at es rule h is.0 r is.1 is.2
-  step_reached (step.Skipped rule) on is low r = closed o bytes _ _ _ (IsReached.skipped ends at es rule is.0 r low is.1)
+  step_reached (step.Skipped rule) on is low r =
+      closed o bytes _ _ _ (IsReached.skipped ends at es rule is.0 r low is.1)
   step_reached (step.Stopped rule) on is low r = cc
 
   step_plain : (t : Step) → GoesOn t → IsPlain o → IsStep o (length ends) (ahead bytes ends at) t → at < length bytes
@@ -248,7 +249,8 @@ module _ {W : Type 0} (g : Ghosts W) (form : LineForm) (o : ShowOptions) (bytes 
   stops_in_step more t new is s = record {
     failure = failure_since g old mid new e same s.failure;
     entries = c.entries ++ s.front;
-    so_far = so_far_by o bytes ends at c.entries t s.front is (place_open bytes ends at c.place more).0 c.reached s.begins;
+    so_far = so_far_by o bytes ends at c.entries t s.front is (place_open bytes ends at c.place more).0 c.reached
+        s.begins;
     text = c.text ++ s.text;
     is_text = joined form c.entries s.front c.text s.text c.is_text s.is_text;
     written = beginning_after (g.written old) (g.written mid) (g.written new) c.text s.text c.written s.written;
