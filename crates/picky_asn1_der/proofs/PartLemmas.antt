@@ -87,7 +87,7 @@ unfolding tlv
 has_header bytes n left some read enough h len content_len =
     let size : length (take n left) ≡ n = length-take-le n left enough in
     let octets : length_octets n ≡ length_octets (length (take n left)) = ap length_octets (sym size) in
-    let all : bytes ≡ get_or bytes 0 0 ∷ slice_range bytes 1 (length bytes) = sym (first_rest bytes 0 some) in
+    let all : bytes ≡ get_or bytes 0 0 ∷ slice_range bytes 1 (length bytes) = first_rest bytes 0 some in
     let split : slice_range bytes 1 (length bytes)
     ≡ (length_octets (length (take n left)) ++ take n left) ++ drop n left =
     read ∙ ap (λ l. length_octets n ++ l) (sym (take-append-drop n left))

@@ -18,7 +18,8 @@ loop-init c = none_skipped c.args.element.now c.args.index c.in-Some.header c.in
 
 pub returns-in_default-split_element-clause-found : goal.returns-in_default-split_element-clause-found
 returns-in_default-split_element-clause-found c =
-    some_more c.args.element.now c.args.index c.in-Some.header.len c.loop.counter c.loop.rest.now c.loop.invariant (omega arith)
+    some_more c.args.element.now c.args.index c.in-Some.header.len c.loop.counter c.loop.rest.now c.loop.invariant
+    (omega arith)
     c.in_default-split_element.ensures.found
 
 pub loop-preserved : goal.loop-preserved
@@ -31,13 +32,15 @@ loop-preserved c =
 
 pub returns-in_default-split_element-2-clause-found : goal.returns-in_default-split_element-2-clause-found
 returns-in_default-split_element-2-clause-found c =
-    member_there c.args.element.now c.args.index c.in-Some.header.len c.loop.counter c.loop.rest.now c.loop.invariant (omega arith)
+    member_there c.args.element.now c.args.index c.in-Some.header.len c.loop.counter c.loop.rest.now c.loop.invariant
+    (omega arith)
     c.in_default-split_element-2.ensures.found
 
 pub returns-clause-found : goal.returns-clause-found
 returns-clause-found c =
     let found = c.in-Some-split_element-2 in
-    member_is c.args.element.now c.args.index c.in-Some.header.len c.loop.counter c.loop.rest.now c.loop.invariant (omega arith)
+    member_is c.args.element.now c.args.index c.in-Some.header.len c.loop.counter c.loop.rest.now c.loop.invariant
+    (omega arith)
     (found.member.now, found.field-0-1.now) found.ensures.found
 
 pub returns-clause-is : goal.returns-clause-is
