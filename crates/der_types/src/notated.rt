@@ -9,8 +9,8 @@ ghost use Rattle.der_types.specs.Notation.{Notation, Member, Members, Alternativ
 ghost use Rattle.der_types.specs.NotationLaws.{IsMember, one_or_other};
 
 use crate::{
-    CharacterSet, Contents, ImplicitPrimitive, ImplicitSet, InRange, NotatedDefault, OtherThan,
-    RestrictedString, Size, TagOrdered, WholeNumber, WithSize,
+    Contents, ImplicitPrimitive, ImplicitSet, NotatedDefault, NotatedSet, RestrictedString,
+    TagOrdered,
 };
 use picky_asn1_der::application_tag::ApplicationTag;
 use picky_asn1_der::{Asn1RawDer, LaterMembers, LaterMembersFrom};
@@ -64,10 +64,10 @@ pub trait NotatedAlternatives: Alternatives {
     ghost denoted_shapes: { Self.shapes ≡ shapes_of alternatives_notation };
 }
 
-impl<S: CharacterSet> Notated for RestrictedString<S> {
-    ghost notation = { Notation.restricted-string S.TAG };
+impl<S: NotatedSet> Notated for RestrictedString<S> {
+    ghost notation = { S.string };
 
-    ghost denoted = { refl };
+    ghost denoted = { S.is_set.shape };
 }
 
 impl<const TAG: u8> Notated for TaggedBytes<TAG> {
