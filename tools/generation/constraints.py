@@ -6,14 +6,14 @@ from generation.table import Constraint, constraints
 
 TYPE = """
 ghost use Rattle.std.proofs.Common.{ap};
-ghost use Rattle.std.specs.Prelude.{◌≡◌, true, false, not, refl, IfSome, IfNone, IfOk, IfErr};
+ghost use Rattle.std.specs.Prelude.{◌≡◌, ${order}true, false, not, refl, IfSome, IfNone, IfOk, IfErr};
 ghost use Rattle.picky_der_core.specs.Equality.{IsThatOf};
 ghost use Rattle.picky_der_de.specs.Reading.{Reads, Refuses};
 ghost use Rattle.picky_der_de.specs.Facts.{tested_part_facts};
 ghost use Rattle.picky_der_de.specs.RefusesBy.{RefusesBy};
 ghost use Rattle.picky_der_de.specs.Rules.{tested_rule};
-ghost use Rattle.der_types.specs.Constraints.{$test_name, RefusesConstrained};
-ghost use Rattle.der_types.specs.ExactConstraints.{$exact_values};
+ghost use Rattle.der_types.specs.Constraints.{$test_imports};
+ghost use Rattle.der_types.specs.ExactConstraints.{$lemmas};
 ghost use Rattle.der_types.specs.Notation.{Notation};
 ghost use Rattle.der_types.specs.Sameness.{newtype_sameness};
 
@@ -124,17 +124,18 @@ impl<T: $of + Begins, $parameters> Begins for $type {
 }
 
 impl<T: Notated + $of, $parameters> Notated for $type {
-    ghost notation = { Notation.$notation $names T.notation };
+    ghost notation = { Notation.$notation $bounds T.notation };
 
     ghost denoted = { T.denoted };
 }
 
 impl<T: $exact, $parameters> Exact for $type {
-    ghost values = { $exact_values T.values T.notation T.meaning (λ it. it.value) $names T.$stated T.$measure (λ it. it.allowed) (λ x e. (record { value = x; allowed = e }, refl)) };
+    ghost values = { $exact_values T.values T.notation T.meaning (λ it. it.value) $bounds T.$stated T.$measure (λ it. it.allowed) (λ x e. (record { value = x; allowed = e }, refl)) };
 
     ghost exact = { Prim.assumption };
 }
 
+$number
 impl<T: Faithful + $of, $parameters> Faithful for $type {
     ghost sameness = { newtype_sameness T.sameness T.eq T.meaning (λ it. it.value) };
 
@@ -144,6 +145,30 @@ impl<T: Faithful + $of, $parameters> Faithful for $type {
 
 # what a constraint measures: the trait that says it of exact types, what such a type states, and the measure
 MEASURES = {"Size": ("ExactSize", "sized", "size"), "WholeNumber": ("ExactNumber", "numbered", "number")}
+
+# the values of a type of numbers have a number, too
+NUMBER = """
+impl<T: WholeNumber, $parameters> WholeNumber for $type {
+    ghost number = { λ it. T.number it.value };
+
+    fn is_at_least(&self, least: i128) -> bool {
+        self.value.is_at_least(least)
+    }
+
+    fn is_at_most(&self, most: i128) -> bool {
+        self.value.is_at_most(most)
+    }
+
+    ghost determined = { λ x y e. T.determined x.value y.value e };
+}
+
+impl<T: ExactNumber, $parameters> ExactNumber for $type {
+    ghost numbered = { numbered_by T.numbered T.number T.meaning (λ it. it.value) };
+
+    ghost exact_number = { Prim.assumption };
+}
+
+"""
 
 LIST = """
 impl<T: $of + List, $parameters> List for $type {
@@ -176,10 +201,10 @@ def words_of(row: Constraint) -> dict[str, str]:
         "fails": word[not row.holds],
         "kept": "it.allowed" if row.holds else "ap not it.allowed",
         "compared": f"({row.compared})" if row.holds else f"(λ z. not ({row.compared} z))",
-        "test_name": row.test.split()[0],
+        "test_imports": ", ".join([*([test] if (test := row.test.split()[0]) != "int_le" else []), "RefusesConstrained"]),
         "list_use": "List," if row.is_list else "",
         "notation": row.notation,
-        "names": " ".join(names),
+        "bounds": row.bounds or " ".join(names),
         "exact": exact,
         "exact_values": row.exact_values,
         "stated": stated,
@@ -189,7 +214,18 @@ def words_of(row: Constraint) -> dict[str, str]:
         words[key] = Template(row.test).substitute(value=value)
     words["allows"] = words["test_value"] if row.holds else f"not ({words['test_value']})"
     words["list"] = Template(LIST.lstrip("\n")).substitute(words) if row.is_list else ""
+    words.update(number_words(row, words))
     return words
+
+
+def number_words(row: Constraint, words: dict[str, str]) -> dict[str, str]:
+    """What the template names for a type of numbers alone: that its values have numbers, and the names for that."""
+    is_number = row.of == "WholeNumber"
+    return {
+        "number": Template(NUMBER.lstrip("\n")).substitute(words) if is_number else "",
+        "lemmas": ", ".join([row.exact_values, *(["numbered_by"] if is_number else [])]),
+        "order": "int_le, pos, " if is_number else "",
+    }
 
 
 def constrained(row: Constraint) -> Lines:

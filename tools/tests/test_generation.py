@@ -46,4 +46,4 @@ class Rows(unittest.TestCase):
         words = {row.name: constraints.words_of(row) for row in table.constraints()}
         self.assertEqual(("None", "Some(OtherThan { value })"), (words["OtherThan"]["then"], words["OtherThan"]["else"]))
         self.assertEqual("not (is_between N N (T.number value))", words["OtherThan"]["allows"])
-        self.assertEqual("is_between MIN MAX (T.number value)", words["InRange"]["allows"])
+        self.assertEqual("is_between MIN (pos MAX) (T.number value)", words["InRange"]["allows"])

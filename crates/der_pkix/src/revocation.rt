@@ -21,8 +21,8 @@ ghost use Rattle.der_pkix.specs.Enumerations.{crl_reason_number, crl_reason_resp
 
 use crate::GeneralNames;
 use der_types::{
-    Contents, Exact, ExactAlternatives, ExactContents, ExactMembers, GeneralizedTime, Integer,
-    NamedBits, Notated, NotatedAlternatives, NotatedMembers, ObjectIdentifier, WithSize,
+    AtLeast, Contents, Exact, ExactAlternatives, ExactContents, ExactMembers, GeneralizedTime,
+    Integer, NamedBits, Notated, NotatedAlternatives, NotatedMembers, ObjectIdentifier, WithSize,
     deserialize_contents_as,
 };
 use der_x509::RelativeDistinguishedName;
@@ -252,13 +252,9 @@ pub type ReasonFlags = NamedBits;
 pub type FreshestCrl = CrlDistributionPoints;
 
 /// `CRLNumber` of PKIX1Implicit88: `INTEGER (0..MAX)`.
-///
-/// Its values differ from the notation's. The crate lacks: a type of its own with `Constrained`.
-pub type CrlNumber = Integer;
+pub type CrlNumber = AtLeast<Integer, 0>;
 
 /// `BaseCRLNumber` of PKIX1Implicit88: `CRLNumber`.
-///
-/// Its values differ from the notation's. The crate lacks: a type of its own with `Constrained`.
 pub type BaseCrlNumber = CrlNumber;
 
 /// `IssuingDistributionPoint` of PKIX1Implicit88, as a SEQUENCE.
