@@ -2,6 +2,7 @@
 import struct
 import sys
 import time
+import warnings
 from typing import Callable, List
 
 import picky_der
@@ -23,20 +24,21 @@ def certificates(path: str) -> List[bytes]:
 
 
 def timed(name: str, ders: List[bytes], call: Callable[[bytes], object]) -> None:
-    """Prints the least of seven rounds."""
+    """Prints the least of 300 rounds."""
     best = float("inf")
-    for _ in range(7):
+    for _ in range(300):
         start = time.perf_counter()
-        for _ in range(20):
-            for der in ders:
-                call(der)
-        best = min(best, (time.perf_counter() - start) * 1e6 / (20 * len(ders)))
+        for der in ders:
+            call(der)
+        best = min(best, (time.perf_counter() - start) * 1e6 / len(ders))
     print(f"{name:<34} {best:8.2f} us")
 
 
 def main() -> None:
     """Times each call."""
     ders = certificates(sys.argv[1])
+    # of serial numbers that aren't positive
+    warnings.simplefilter("ignore")
     timed("picky_der.check", ders, lambda der: picky_der.check("certificate", der))
     timed("load_der_x509_certificate", ders, x509.load_der_x509_certificate)
     timed("the same, public_bytes", ders, lambda der: x509.load_der_x509_certificate(der).public_bytes(Encoding.DER))

@@ -17,7 +17,7 @@
 #include <openssl/x509.h>
 #endif
 
-enum { THREADS = 4, DEEPEST = 64 };
+enum { THREADS = 4, DEEPEST = 64, ROUNDS = 300 };
 
 /* What is known of an input. */
 enum verdict { CERTIFICATE = 0, READ = 1, REFUSED = 2, UNKNOWN = 3 };
@@ -283,17 +283,16 @@ static double now(void) {
     do {                                                                                                                                   \
         double best = 1e9;                                                                                                                 \
         size_t certificates = 0;                                                                                                           \
-        for (int round = 0; round < 7; round++) {                                                                                          \
+        for (int round = 0; round < ROUNDS; round++) {                                                                                     \
             certificates = 0;                                                                                                              \
             double start = now();                                                                                                          \
-            for (int pass = 0; pass < 20; pass++)                                                                                          \
-                for (size_t i = 0; i < input_count; i++)                                                                                   \
-                    if (inputs[i].verdict == CERTIFICATE) {                                                                                \
-                        const uint8_t *bytes = inputs[i].bytes;                                                                            \
-                        size_t len = inputs[i].len;                                                                                        \
-                        certificates++;                                                                                                    \
-                        call;                                                                                                              \
-                    }                                                                                                                      \
+            for (size_t i = 0; i < input_count; i++)                                                                                       \
+                if (inputs[i].verdict == CERTIFICATE) {                                                                                    \
+                    const uint8_t *bytes = inputs[i].bytes;                                                                                \
+                    size_t len = inputs[i].len;                                                                                            \
+                    certificates++;                                                                                                        \
+                    call;                                                                                                                  \
+                }                                                                                                                          \
             double each = (now() - start) / (double)certificates * 1e6;                                                                    \
             best = each < best ? each : best;                                                                                              \
         }                                                                                                                                  \

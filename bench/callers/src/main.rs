@@ -20,12 +20,10 @@ fn certificates(path: &str) -> Vec<Vec<u8>> {
 fn time(name: &str, ders: &[Vec<u8>], call: impl Fn(&[u8])) {
     let round = || {
         let start = Instant::now();
-        for _ in 0..20 {
-            ders.iter().for_each(|der| call(der));
-        }
-        start.elapsed().as_secs_f64() * 1e6 / (20 * ders.len()) as f64
+        ders.iter().for_each(|der| call(der));
+        start.elapsed().as_secs_f64() * 1e6 / ders.len() as f64
     };
-    let best = (0..7).map(|_| round()).fold(f64::INFINITY, f64::min);
+    let best = (0..300).map(|_| round()).fold(f64::INFINITY, f64::min);
     println!("{name:<34} {best:8.2} us");
 }
 

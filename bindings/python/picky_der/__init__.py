@@ -9,7 +9,7 @@ import ctypes
 import os
 import threading
 from ctypes import POINTER, byref, c_bool, c_char_p, c_size_t, c_uint8, c_uint32
-from typing import Callable, Iterable, Iterator, NamedTuple, Optional, Tuple, Type, Union
+from typing import Any, Callable, Iterable, Iterator, NamedTuple, Optional, Tuple, Type, Union
 
 from . import _tables
 from ._tables import RULES, TEXTS, TYPES
@@ -120,7 +120,8 @@ def _element(view: memoryview, found: _Element) -> Element:
 def _rule_of(der: bytes) -> int:
     """The code of the first rule that the elements of the bytes break, or 0."""
     count, position = c_size_t(), c_size_t()
-    return _library.picky_der_elements(der, len(der), byref(_Element()), 0, byref(count), byref(position))
+    code: int = _library.picky_der_elements(der, len(der), byref(_Element()), 0, byref(count), byref(position))
+    return code
 
 
 def check(name: str, data: Data) -> None:
@@ -213,11 +214,11 @@ class Writer:
     def _sort(self, start: int) -> None:
         self._call(lambda out, used: _library.picky_der_sort(out, len(out), self._used, start))
 
-    def _call(self, call: "Callable[[ctypes.Array[c_uint8], object], int]") -> None:
+    def _call(self, call: Callable[..., Any]) -> None:
         """Calls with the room that there is, and if that is too small, with what the first call counted at least."""
         with self._lock:
             used = c_size_t(self._used)
-            code = call(self._out, byref(used))
+            code: int = call(self._out, byref(used))
             if code == _tables.NO_ROOM:
                 larger = (c_uint8 * max(used.value, 2 * len(self._out)))()
                 ctypes.memmove(larger, self._out, self._used)

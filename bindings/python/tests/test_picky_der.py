@@ -5,7 +5,7 @@ import pickle
 import struct
 import threading
 import unittest
-from typing import Iterator, List, NamedTuple
+from typing import Iterator, List, NamedTuple, Optional
 
 import picky_der
 from picky_der import DecodeError
@@ -45,7 +45,8 @@ class Tests(unittest.TestCase):
 
     def one(self, it: Case) -> None:
         """A certificate, or a changed one, gets the verdict of `der read`, at its offset."""
-        listed, broken = [], None
+        listed: List[picky_der.Element] = []
+        broken: Optional[DecodeError] = None
         try:
             listed.extend(picky_der.elements(it.der))
         except DecodeError as error:
