@@ -188,8 +188,8 @@ content_is element content tag h is header =
 
 -- ---- members
 
--- what a loop knows that has skipped so many members, after a header of this size
-pub record Skips (element : List ℕ) (size index i : ℕ) (rest : List ℕ) : Type 0 where
+-- what a loop knows that has skipped so many members
+pub record Skips (element : List ℕ) (index i : ℕ) (rest : List ℕ) : Type 0 where
   pub found : (tag : ℕ) (content member : List ℕ) → element ≡ tlv tag content → HasMember index content member
       → HasMember (index - i) rest member
   pub front : List ℕ
@@ -198,7 +198,7 @@ pub record Skips (element : List ℕ) (size index i : ℕ) (rest : List ℕ) : T
   pub elements : AllByRecursion IsElement before
   pub count : length before ≡ i
   pub within : i ≤ index
-  pub front_is : front ≡ take size element ++ concat before
+  pub front_is : (h : Header) → HasHeader element h → front ≡ take h.len element ++ concat before
 
 all_and : (P : List ℕ → Type 0) (xs : List (List ℕ)) (x : List ℕ) → AllByRecursion P xs → P x
     → AllByRecursion P (xs ++ (x ∷ []))
@@ -247,8 +247,8 @@ at_member bytes member has = last_of bytes member has.before has refl
 
 module _ (element : List ℕ) (index : ℕ) where
   pub none_skipped : (h : Header) → ((tag : ℕ) (content rest : List ℕ) → element ≡ tlv tag content ++ rest
-      → IsHeaderOf content h) → Skips element h.len index 0 (slice_range element h.len (length element))
-  none_skipped h header = subst (Skips element h.len index 0) (sym (range_to_end element h.len)) (record {
+      → IsHeaderOf content h) → Skips element index 0 (slice_range element h.len (length element))
+  none_skipped h header = subst (Skips element index 0) (sym (range_to_end element h.len)) (record {
     found = λ tag content member is has.
         let same = content_is element content tag h is
         (header tag content [] (is ∙ sym (append-nil (tlv tag content)))) in
@@ -260,15 +260,17 @@ module _ (element : List ℕ) (index : ℕ) where
     elements = tt;
     count = refl;
     within = omega arith;
-    front_is = sym (append-nil (take h.len element));
+    front_is = λ k has.
+        let own : IsHeaderOf has.content h = header has.tag has.content has.rest has.is in
+        ap (λ n. take n element) (own.len ∙ sym has.header.len) ∙ sym (append-nil (take k.len element));
   })
 
-  module _ (size i : ℕ) (rest : List ℕ) (s : Skips element size index i rest) where
+  module _ (i : ℕ) (rest : List ℕ) (s : Skips element index i rest) where
     -- one that could be there is found
     pub one_more : (pair : List ℕ × List ℕ) → i < index
         → ((e more : List ℕ) → IsElement e → rest ≡ e ++ more → (pair.0 ≡ e) × (pair.1 ≡ more))
         → rest ≡ pair.0 ++ pair.1 → IsElement pair.0
-        → Skips element size index (i + 1) pair.1
+        → Skips element index (i + 1) pair.1
     one_more pair less splits all one = record {
       found = λ tag content member is has.
           let first = first_member (index - i) rest member (omega arith) (s.found tag content member is has) in
@@ -282,8 +284,9 @@ module _ (element : List ℕ) (index : ℕ) where
       elements = all_and IsElement s.before pair.0 s.elements one;
       count = omega (arith, length-append s.before (pair.0 ∷ []), s.count);
       within = omega arith;
-      front_is = ap (λ f. f ++ pair.0) s.front_is ∙ append_assoc (take size element) (concat s.before) pair.0
-          ∙ ap (λ c. take size element ++ c) (sym (concat_and s.before pair.0));
+      front_is = λ h has. ap (λ f. f ++ pair.0) (s.front_is h has)
+          ∙ append_assoc (take h.len element) (concat s.before) pair.0
+          ∙ ap (λ c. take h.len element ++ c) (sym (concat_and s.before pair.0));
     }
 
     pub some_more : i < index → ((e more : List ℕ) → IsElement e → rest ≡ e ++ more → ⊥)
@@ -326,27 +329,20 @@ module _ (element : List ℕ) (index : ℕ) where
     }
 
     -- one that is there is the member
-    pub member_at : (h : Header) → size ≡ h.len → (has : HasHeader element h)
-        → length element ≤ h.len + h.content_len → index ≤ i
+    pub member_at : (h : Header) → (has : HasHeader element h) → length element ≤ h.len + h.content_len → index ≤ i
         → (pair : List ℕ × List ℕ) → rest ≡ pair.0 ++ pair.1 → IsElement pair.0
         → IsMemberAt index element (length element - length rest) pair.0
-    member_at h same has whole here pair all one =
+    member_at h has whole here pair all one =
         let is : element ≡ tlv has.tag has.content = nothing_after element h has whole in
-        let head = take size element in
-        let low : size ≤ length element = omega (
-          arith,
-          same,
-          has.header.len,
-          ap length is,
-          length-element has.tag has.content,
-        ) in
-        let head_size : length head ≡ size = length-take-le size element low in
+        let head = take h.len element in
+        let low : h.len ≤ length element =
+        omega (arith, has.header.len, ap length is, length-element has.tag has.content) in
+        let head_size : length head ≡ h.len = length-take-le h.len element low in
         let split : element ≡ head ++ (concat s.before ++ rest) =
-        s.is ∙ ap (λ f. f ++ rest) s.front_is ∙ append_assoc head (concat s.before) rest in
-        let inside : drop size element ≡ concat s.before ++ rest =
-        back_is head (concat s.before ++ rest) element size split (sym head_size) in
-        let content : drop size element ≡ has.content =
-        ap (λ k. drop k element) same ∙ content_is element has.content has.tag h is has.header in
+        s.is ∙ ap (λ f. f ++ rest) (s.front_is h has) ∙ append_assoc head (concat s.before) rest in
+        let inside : drop h.len element ≡ concat s.before ++ rest =
+        back_is head (concat s.before ++ rest) element h.len split (sym head_size) in
+        let content : drop h.len element ≡ has.content = content_is element has.content has.tag h is has.header in
         record {
           tag = has.tag;
           content = has.content;
@@ -366,7 +362,6 @@ module _ (element : List ℕ) (index : ℕ) where
             length-append head (concat s.before ++ rest),
             length-append (concat s.before) rest,
             head_size,
-            same,
             has.header.len,
           );
         }
@@ -494,7 +489,9 @@ pub at_start : (encoding path : List ℕ) → Descends encoding path 0 0 encodin
 at_start encoding path = record {
   found = λ t u r is e. (t, r, is, e);
   piece = record { before = []; after = []; count = refl; is = sym (append-nil encoding) };
-  leads = λ inner p at. at;
+  leads = λ inner p at.
+      let same : inner ≡ 0 + inner = omega arith in
+      subst (λ n. IsPartAt path encoding n p) same at;
   alone = λ offset p at. (offset, at);
 }
 

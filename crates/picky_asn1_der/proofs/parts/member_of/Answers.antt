@@ -18,34 +18,34 @@ loop-init c = none_skipped c.args.element.now c.args.index c.in-Some.header c.in
 
 pub returns-in_default-split_element-clause-found : goal.returns-in_default-split_element-clause-found
 returns-in_default-split_element-clause-found c =
-    some_more c.args.element.now c.args.index c.in-Some.header.len c.loop.counter c.loop.rest.now c.loop.invariant
+    some_more c.args.element.now c.args.index c.loop.counter c.loop.rest.now c.loop.invariant
     (omega arith)
     c.in_default-split_element.ensures.found
 
 pub loop-preserved : goal.loop-preserved
 loop-preserved c =
     let found = c.in-Some-split_element in
-    one_more c.args.element.now c.args.index c.in-Some.header.len c.loop.counter c.loop.rest.now c.loop.invariant (
+    one_more c.args.element.now c.args.index c.loop.counter c.loop.rest.now c.loop.invariant (
       found.field-0-0.now,
       found.after.now,
     ) (omega arith) found.ensures.found found.ensures.all found.ensures.element
 
 pub returns-in_default-split_element-2-clause-found : goal.returns-in_default-split_element-2-clause-found
 returns-in_default-split_element-2-clause-found c =
-    member_there c.args.element.now c.args.index c.in-Some.header.len c.loop.counter c.loop.rest.now c.loop.invariant
+    member_there c.args.element.now c.args.index c.loop.counter c.loop.rest.now c.loop.invariant
     (omega arith)
     c.in_default-split_element-2.ensures.found
 
 pub returns-clause-found : goal.returns-clause-found
 returns-clause-found c =
     let found = c.in-Some-split_element-2 in
-    member_is c.args.element.now c.args.index c.in-Some.header.len c.loop.counter c.loop.rest.now c.loop.invariant
+    member_is c.args.element.now c.args.index c.loop.counter c.loop.rest.now c.loop.invariant
     (omega arith)
     (found.member.now, found.field-0-1.now) found.ensures.found
 
 pub returns-clause-is : goal.returns-clause-is
 returns-clause-is c =
     let found = c.in-Some-split_element-2 in
-    member_at c.args.element.now c.args.index c.in-Some.header.len c.loop.counter c.loop.rest.now c.loop.invariant
-    c.in-Some.header refl c.in-Some.ensures.is (omega arith) (omega arith) (found.member.now, found.field-0-1.now)
+    member_at c.args.element.now c.args.index c.loop.counter c.loop.rest.now c.loop.invariant
+    c.in-Some.header c.in-Some.ensures.is (omega arith) (omega arith) (found.member.now, found.field-0-1.now)
     found.ensures.all found.ensures.element

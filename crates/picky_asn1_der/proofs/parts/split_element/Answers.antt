@@ -1,4 +1,5 @@
-use Rattle.std.proofs.Common.{◌++◌, ap, ◌∙◌, sym, subst}
+use Rattle.std.proofs.Common.{◌++◌, ap, ◌∙◌, refl, sym, subst, rules, IsTrue}
+use borrow.Author.Tests.{tests}
 use Rattle.picky_der_core.specs.Element.{IsElement}
 use Rattle.picky_asn1_der.specs.Parts.{IsHeaderOf}
 use Rattle.picky_asn1_der.proofs.PartLemmas.{element_ends, front_is, back_is, front_cut, front_tagged, element_tagged}
@@ -14,8 +15,8 @@ returns-clause-found c = λ element rest one is.
       c.split_at.ensures.back ∙ back_is element rest c.args.bytes.now _ is size,
     )
 
-pub returns-then-not-clause-found : goal.returns-then-not-clause-found
-returns-then-not-clause-found c = λ element rest one is.
+pub returns-then-not-has_short_tag-clause-found : goal.returns-then-not-has_short_tag-clause-found
+returns-then-not-has_short_tag-clause-found c = λ element rest one is.
     let short = c.has_short_tag.ensures.1 (element_tagged element rest c.args.bytes.now one is) in
     cc
 
@@ -24,4 +25,5 @@ returns-clause-element c =
     let h = c.in-Some.header in
     let bytes = c.args.bytes.now in
     let front = c.split_at.ensures.front ∙ front_cut bytes h c.in-Some.ensures.is _ refl in
-    subst IsElement (sym front) (front_tagged bytes h c.in-Some.ensures.is (c.has_short_tag.ensures.0 _))
+    let short : IsTrue c.has_short_tag.result = search (rules, tests) in
+    subst IsElement (sym front) (front_tagged bytes h c.in-Some.ensures.is (c.has_short_tag.ensures.0 short))
