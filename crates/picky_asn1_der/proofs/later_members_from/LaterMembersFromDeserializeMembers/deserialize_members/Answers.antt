@@ -27,3 +27,14 @@ returns-in-None-clause-err g c =
     let same : true ≡ false = sym it.numbered ∙ numbered_alike (λ raw. raw.0.items) g.row.N it.elements.items es e
     ∙ c.in-None.ensures.none in
     cc) c.refuse.ensures.fails
+
+pub returns-in_err-elements-clause-refused_by : goal.returns-in_err-elements-clause-refused_by
+returns-in_err-elements-clause-refused_by g c =
+    let p = err_from_is_err_and c.from_residual.result c.from_residual.ensures.1 in
+    rw (p.1, p.2) (λ none j bs left k l. tt)
+
+pub returns-in-None-clause-refused_by : goal.returns-in-None-clause-refused_by
+returns-in-None-clause-refused_by g c = λ none j bs left k l. tt
+
+pub returns-in-Some-clause-leads : goal.returns-in-Some-clause-leads
+returns-in-Some-clause-leads g c = λ none last e by j bs left k l. tt
