@@ -17,18 +17,18 @@ ghost use Rattle.der_types.specs.ExactConstraints.{$lemmas};
 ghost use Rattle.der_types.specs.Notation.{Notation};
 ghost use Rattle.der_types.specs.Sameness.{newtype_sameness};
 
-use crate::{Constrained, Exact, $uses, deserialize_constrained_as};
+use crate::{${bound_use}Constrained, Exact, $uses, deserialize_constrained_as};
 use picky_der_core::Result;
 use picky_der_core::asn1::Tag;
 use picky_der_core::misc::{ReadExt, WriteExt};
 use picky_der_de::{Begins, Deserialize, Deserializer, Faithful};
 use picky_der_ser::{$list_use Serialize, Serializer};
-
+$phantom_use
 $doc
-#[derive(Debug, Drop, PartialEq, Eq)]
+$derives
 pub struct $name<T: $of, $parameters> {
     value: T,
-    ghost allowed: { $test_value ≡ $holds },
+$fields    ghost allowed: { $test_value ≡ $holds },
 }
 
 impl<T: $of, $parameters> $type {
@@ -59,7 +59,7 @@ $first        if $code {
         ensures value { result ≡ self.value }
         ensures allowed { $test_result ≡ $holds }
     {
-        let $name { value } = self;
+        let $taken = self;
         value
     }
 }
@@ -130,7 +130,7 @@ impl<T: Notated + $of, $parameters> Notated for $type {
 }
 
 impl<T: $exact, $parameters> Exact for $type {
-    ghost values = { $exact_values T.values T.notation T.meaning (λ it. it.value) $bounds T.$stated T.$measure (λ it. it.allowed) (λ x e. (record { value = x; allowed = e }, refl)) };
+    ghost values = { $exact_values T.values T.notation T.meaning (λ it. it.value) $bounds T.$stated T.$measure (λ it. it.allowed) (λ x e. (record { value = x; ${phantoms}allowed = e }, refl)) };
 
     ghost exact = { Prim.assumption };
 }
@@ -142,6 +142,10 @@ impl<T: Faithful + $of, $parameters> Faithful for $type {
     ghost respects = { Prim.assumption };
 }
 """
+
+# the kind of a parameter that is a type, and the fields of such parameters
+BOUND = "Bound"
+PHANTOMS = {"A": "least", "B": "most"}
 
 # what a constraint measures: the trait that says it of exact types, what such a type states, and the measure
 MEASURES = {"Size": ("ExactSize", "sized", "size"), "WholeNumber": ("ExactNumber", "numbered", "number")}
@@ -183,13 +187,14 @@ def words_of(row: Constraint) -> dict[str, str]:
     names = [name for name, _ in row.parameters]
     word = {True: "true", False: "false"}
     exact, stated, measure = MEASURES[row.of]
-    some, none = f"Some({row.name} {{ value }})", "None"
+    some, none = f"Some({made(row)})", "None"
     words = {
         "name": row.name,
         "type": f"{row.name}<{', '.join(['T', *names])}>",
         "of": row.of,
         "uses": ", ".join(sorted([exact, "Notated", row.of])),
-        "parameters": ", ".join(f"const {name}: {kind}" for name, kind in row.parameters),
+        **struct_words(row),
+        "parameters": ", ".join(f"{name}: {kind}" if kind == BOUND else f"const {name}: {kind}" for name, kind in row.parameters),
         "doc": "\n".join(f"/// {line}".rstrip() for line in row.doc.split("\n")),
         "value": row.value,
         "refused": row.refused,
@@ -216,6 +221,30 @@ def words_of(row: Constraint) -> dict[str, str]:
     words["list"] = Template(LIST.lstrip("\n")).substitute(words) if row.is_list else ""
     words.update(number_words(row, words))
     return words
+
+
+def phantoms_of(row: Constraint) -> list[tuple[str, str]]:
+    """The fields of the parameters that are types, with these."""
+    return [(PHANTOMS[name], name) for name, kind in row.parameters if kind == BOUND]
+
+
+def made(row: Constraint, phantom: str = "PhantomData") -> str:
+    """A value of the type in Rust, or a pattern of one, with this in its fields of types."""
+    return f"{row.name} {{ {', '.join(['value', *(f'{field}: {phantom}' for field, _ in phantoms_of(row))])} }}"
+
+
+def struct_words(row: Constraint) -> dict[str, str]:
+    """What the template names of the struct. One with fields of types has derives that ask nothing of these."""
+    found = phantoms_of(row)
+    derives = "#[derive(Drop)]\n#[derive_where(Debug, PartialEq, Eq; T)]" if found else "#[derive(Debug, Drop, PartialEq, Eq)]"
+    return {
+        "derives": derives,
+        "fields": "".join(f"    #[derive_where(skip)]\n    {field}: PhantomData<{name}>,\n" for field, name in found),
+        "phantoms": "".join(f"{field} = record {{}}; " for field, _ in found),
+        "bound_use": f"{BOUND}, " if found else "",
+        "phantom_use": "use std::marker::PhantomData;\n" if found else "",
+        "taken": made(row, "_"),
+    }
 
 
 def number_words(row: Constraint, words: dict[str, str]) -> dict[str, str]:

@@ -9,7 +9,7 @@ ghost use Rattle.der_types.specs.ExactMembers.{struct_values};
 ghost use Rattle.der_types.specs.SampleTrees.{exact_example};
 
 use der_types::{
-    Exact, ExactMembers, InRange, Notated, NotatedMembers, OtherThan, Outside, WithSize,
+    Exact, ExactMembers, InRange, Notated, NotatedMembers, OtherThan, Outside, Plus, WithSize,
 };
 use picky_asn1_der::asn1::{ByteBuf, Tag};
 use picky_asn1_der::de::{Begins, Faithful, FaithfulMembers, Inhabited};
@@ -188,10 +188,18 @@ impl Inhabited for CcmParameters {
 /// `AES-CCM-ICVlen` of CMS-AES-CCM-and-AES-GCM: `INTEGER (4 | 6 | 8 | 10 | 12 | 14 | 16)`.
 pub type AesCcmIcVlen = Outside<
     Outside<
-        Outside<Outside<Outside<Outside<InRange<u8, 4, 16>, 5, 5>, 7, 7>, 9, 9>, 11, 11>,
-        13,
-        13,
+        Outside<
+            Outside<
+                Outside<Outside<InRange<u8, 4, 16>, Plus<5>, Plus<5>>, Plus<7>, Plus<7>>,
+                Plus<9>,
+                Plus<9>,
+            >,
+            Plus<11>,
+            Plus<11>,
+        >,
+        Plus<13>,
+        Plus<13>,
     >,
-    15,
-    15,
+    Plus<15>,
+    Plus<15>,
 >;

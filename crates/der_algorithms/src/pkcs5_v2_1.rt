@@ -14,7 +14,7 @@ ghost use Rattle.der_types.specs.SampleTrees.{exact_example};
 
 use der_types::{
     AtLeast, Exact, ExactAlternatives, ExactMembers, Integer, Notated, NotatedAlternatives,
-    NotatedMembers, WithSize,
+    NotatedMembers, Plus, WithSize,
 };
 use der_x509::AlgorithmIdentifier;
 use picky_asn1_der::OneOf::{Other, This};
@@ -38,9 +38,9 @@ pub struct Pbkdf2Params {
     /// `PBKDF2-Salt`.
     pub salt: Pbkdf2Salt,
     /// `INTEGER (1..MAX)`.
-    pub iteration_count: AtLeast<Integer, 1>,
+    pub iteration_count: AtLeast<Integer, Plus<1>>,
     /// in bytes. `INTEGER (1..MAX) OPTIONAL`.
-    pub key_length: Option<AtLeast<Integer, 1>>,
+    pub key_length: Option<AtLeast<Integer, Plus<1>>>,
     /// `AlgorithmIdentifier DEFAULT algid-hmacWithSHA1`. A default that is written out is read,
     /// too.
     pub prf: Option<AlgorithmIdentifier>,
@@ -48,8 +48,8 @@ pub struct Pbkdf2Params {
 
 type Pbkdf2ParamsParts = (
     Pbkdf2Salt,
-    AtLeast<Integer, 1>,
-    Optional<AtLeast<Integer, 1>>,
+    AtLeast<Integer, Plus<1>>,
+    Optional<AtLeast<Integer, Plus<1>>>,
     Optional<AlgorithmIdentifier>,
     (),
 );

@@ -11,7 +11,7 @@ ghost use Rattle.der_types.specs.SampleTrees.{exact_example};
 use crate::{GeneralName, GeneralNames};
 use der_types::{
     AtLeast, Exact, ExactMembers, Integer, Notated, NotatedMembers, ObjectIdentifier, OtherThan,
-    WithSize,
+    Plus, WithSize,
 };
 use der_x509::CertificateSerialNumber;
 use picky_asn1_der::asn1::{
@@ -151,10 +151,14 @@ pub struct BasicConstraints {
     /// `BOOLEAN DEFAULT FALSE`.
     pub ca: bool,
     /// `INTEGER (0..MAX) OPTIONAL`.
-    pub path_len_constraint: Option<AtLeast<Integer, 0>>,
+    pub path_len_constraint: Option<AtLeast<Integer, Plus<0>>>,
 }
 
-type BasicConstraintsParts = (Defaulted<bool, False>, Optional<AtLeast<Integer, 0>>, ());
+type BasicConstraintsParts = (
+    Defaulted<bool, False>,
+    Optional<AtLeast<Integer, Plus<0>>>,
+    (),
+);
 
 impl Struct for BasicConstraints {
     type Members = BasicConstraintsParts;
@@ -414,7 +418,7 @@ impl Inhabited for GeneralSubtree {
 }
 
 /// `BaseDistance` of PKIX1Implicit88: `INTEGER (0..MAX)`.
-pub type BaseDistance = AtLeast<Integer, 0>;
+pub type BaseDistance = AtLeast<Integer, Plus<0>>;
 
 /// `ExtKeyUsageSyntax` of PKIX1Implicit88: `SEQUENCE SIZE (1..MAX) OF KeyPurposeId`.
 pub type ExtKeyUsageSyntax = WithSize<Vec<KeyPurposeId>, 1, { usize::MAX }>;

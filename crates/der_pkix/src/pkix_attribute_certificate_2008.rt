@@ -15,7 +15,7 @@ ghost use Rattle.der_types.specs.SampleTrees.{exact_example};
 use crate::{AttCertIssuer, Attribute, GeneralName, Holder, IssuerSerial, ObjectDigestInfo};
 use der_types::{
     AtLeast, BitString, Exact, ExactAlternatives, ExactMembers, GeneralizedTime, InRange, Integer,
-    Notated, NotatedAlternatives, NotatedMembers, ObjectIdentifier, WithSize,
+    Notated, NotatedAlternatives, NotatedMembers, ObjectIdentifier, Plus, WithSize,
 };
 use der_x509::{AlgorithmIdentifier, CertificateSerialNumber, Extensions, UniqueIdentifier};
 use picky_asn1_der::OneOf::{Other, This};
@@ -588,7 +588,7 @@ pub type ProxyInfo = Vec<Targets>;
 #[derive(Debug, Drop, PartialEq, Eq)]
 pub struct AaControls {
     /// `INTEGER (0..MAX) OPTIONAL`.
-    pub path_len_constraint: Option<AtLeast<Integer, 0>>,
+    pub path_len_constraint: Option<AtLeast<Integer, Plus<0>>>,
     /// `[0] AttrSpec OPTIONAL`.
     pub permitted_attrs: Option<ImplicitList0<AttrSpec>>,
     /// `[1] AttrSpec OPTIONAL`.
@@ -598,7 +598,7 @@ pub struct AaControls {
 }
 
 type AaControlsParts = (
-    Optional<AtLeast<Integer, 0>>,
+    Optional<AtLeast<Integer, Plus<0>>>,
     Optional<ImplicitList0<AttrSpec>>,
     Optional<ImplicitList1<AttrSpec>>,
     Defaulted<bool, True>,

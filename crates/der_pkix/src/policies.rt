@@ -14,7 +14,7 @@ ghost use Rattle.der_types.specs.SampleTrees.{exact_example};
 
 use der_types::{
     AtLeast, BmpString, Exact, ExactAlternatives, ExactMembers, Ia5String, Integer, Notated,
-    NotatedAlternatives, NotatedMembers, ObjectIdentifier, VisibleString, WithSize,
+    NotatedAlternatives, NotatedMembers, ObjectIdentifier, Plus, VisibleString, WithSize,
 };
 use picky_asn1_der::Choice4::{First, Fourth, Second, Third};
 use picky_asn1_der::asn1::{ImplicitContextTag0, ImplicitContextTag1, Tag};
@@ -660,7 +660,7 @@ impl Inhabited for PolicyConstraints {
 }
 
 /// `SkipCerts` of PKIX1Implicit88: `INTEGER (0..MAX)`.
-pub type SkipCerts = AtLeast<Integer, 0>;
+pub type SkipCerts = AtLeast<Integer, Plus<0>>;
 
 /// `InhibitAnyPolicy` of PKIX1Implicit88: `SkipCerts`.
 pub type InhibitAnyPolicy = SkipCerts;

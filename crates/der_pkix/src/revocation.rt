@@ -22,8 +22,8 @@ ghost use Rattle.der_pkix.specs.Enumerations.{crl_reason_number, crl_reason_resp
 use crate::GeneralNames;
 use der_types::{
     AtLeast, Contents, Exact, ExactAlternatives, ExactContents, ExactMembers, GeneralizedTime,
-    Integer, NamedBits, Notated, NotatedAlternatives, NotatedMembers, ObjectIdentifier, WithSize,
-    deserialize_contents_as,
+    Integer, NamedBits, Notated, NotatedAlternatives, NotatedMembers, ObjectIdentifier, Plus,
+    WithSize, deserialize_contents_as,
 };
 use der_x509::RelativeDistinguishedName;
 use picky_asn1_der::OneOf::{Other, This};
@@ -252,7 +252,7 @@ pub type ReasonFlags = NamedBits;
 pub type FreshestCrl = CrlDistributionPoints;
 
 /// `CRLNumber` of PKIX1Implicit88: `INTEGER (0..MAX)`.
-pub type CrlNumber = AtLeast<Integer, 0>;
+pub type CrlNumber = AtLeast<Integer, Plus<0>>;
 
 /// `BaseCRLNumber` of PKIX1Implicit88: `CRLNumber`.
 pub type BaseCrlNumber = CrlNumber;

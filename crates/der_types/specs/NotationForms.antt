@@ -65,8 +65,7 @@ abbrev signed-from-to : ℤ → ℤ → Notation
 signed-from-to least most =
     let bits : ℕ = bits_for (2 * (if nat_lt (bits_of least) (bits_of most) then bits_of most else bits_of least) + 1) in
     if int_le least (negsuc (2 ^ (bits - 1) - 1)) && int_le (pos (2 ^ (bits - 1) - 1)) most then Notation.signed bits
-    else (if int_le (pos 0) most then Notation.in-range least most (Notation.signed bits)
-    else Notation.at-most most (Notation.at-least least (Notation.signed bits)))
+    else Notation.at-most most (Notation.at-least least (Notation.signed bits))
 
 abbrev pub INTEGER-from-minus-to : ℕ → ℕ → Notation
 INTEGER-from-minus-to least most = signed-from-to (negsuc (least - 1)) (pos most)
@@ -290,10 +289,9 @@ under-tag tag Notation.NULL = Notation.sized 0 0 (Notation.any-content tag)
 under-tag tag (Notation.unsigned bits) =
     Notation.in-range (pos 0) (pos (2 ^ bits - 1)) (Notation.content-under tag INTEGER)
 under-tag tag (Notation.signed bits) =
-    Notation.in-range (negsuc (2 ^ (bits - 1) - 1)) (pos (2 ^ (bits - 1) - 1)) (Notation.content-under tag INTEGER)
+    Notation.at-most (pos (2 ^ (bits - 1) - 1))
+    (Notation.at-least (negsuc (2 ^ (bits - 1) - 1)) (Notation.content-under tag INTEGER))
 under-tag tag (Notation.in-range least most (Notation.unsigned bits)) =
-    Notation.in-range least most (Notation.content-under tag INTEGER)
-under-tag tag (Notation.in-range least most (Notation.signed bits)) =
     Notation.in-range least most (Notation.content-under tag INTEGER)
 under-tag tag (Notation.at-most most (Notation.at-least least (Notation.signed bits))) =
     Notation.at-most most (Notation.at-least least (Notation.content-under tag INTEGER))

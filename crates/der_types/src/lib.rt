@@ -5,6 +5,7 @@ mod arcs;
 mod arrays;
 mod bit_string;
 mod bits;
+mod bound;
 mod character_set;
 mod characters;
 mod constraint;
@@ -47,6 +48,7 @@ mod width;
 
 pub use arcs::Arcs;
 pub use bit_string::BitString;
+pub use bound::{Bound, Minus, Plus};
 pub use character_set::{Ascii, CharacterSet, Unicode};
 pub use constraint::{Constrained, deserialize_constrained_as};
 pub use contents::{Contents, deserialize_contents_as, deserialize_contents_under};

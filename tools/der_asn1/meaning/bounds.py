@@ -4,7 +4,7 @@ from typing import Callable, Optional
 
 from .features import Feature, Note
 from .intervals import ALL, INFINITY, NATURAL, Intervals
-from .library import Core, Rust, are_bounds, numbers_of, signed_for, unsigned_for
+from .library import Core, Rust, are_bounds, numbers_of, range_types, signed_for, unsigned_for, written
 from .library_table import BY_NAME, TYPES, UNIVERSAL_TAGS
 from .meaning import Meaning
 from .rust_types import of
@@ -43,21 +43,14 @@ def _within(numbers: Intervals, any_size: Rust) -> Optional[Rust]:
     width = unsigned_for(high) if low >= 0 else signed_for(low, high)
     gaps = [(before[1] + 1, after[0] - 1) for before, after in zip(numbers.pairs, numbers.pairs[1:])]
     is_whole = width is not None and (low, high) == numbers_of(width)
-    around = [] if is_whole else _ends(low, high)
-    if not all(map(are_bounds, [*around, *(("Outside", *gap) for gap in gaps)])):
+    around = [*([] if is_whole else range_types(low, high)), *(("Outside", *gap) for gap in gaps)]
+    if not all(map(are_bounds, around)):
         return None
     cores = {"u": Core.UNSIGNED, "i": Core.SIGNED}
     found = Rust(of(width), cores[width[0]], _INTEGER_FIRST, term=any_size.term) if width else any_size
-    for name, *bounds in (*around, *(("Outside", *gap) for gap in gaps)):
-        found = found.constrained(name, *map(str, bounds))
+    for name, arguments in map(written, around):
+        found = found.constrained(name, *arguments)
     return replace(found, term=_term(numbers))
-
-
-def _ends(low: float, high: float) -> list[tuple]:
-    """The types of constraints that a single interval is, with their bounds."""
-    if low != -INFINITY and 0 <= high != INFINITY:
-        return [("InRange", low, high)]
-    return [*([("AtLeast", low)] if low != -INFINITY else []), *([("AtMost", high)] if high != INFINITY else [])]
 
 
 def _term(numbers: Intervals) -> Term:

@@ -1,8 +1,9 @@
 """The types of the library, and what may be around each."""
 from dataclasses import dataclass, field, replace
 from enum import Enum, auto
-from typing import Optional
+from typing import Optional, Union
 
+from .intervals import INFINITY
 from .rust_types import RustType, of
 from .terms import Term, any_content
 
@@ -71,7 +72,7 @@ class Rust:
         """The type as it is written."""
         return str(self.type)
 
-    def constrained(self, name: str, *bounds: str) -> "Rust":
+    def constrained(self, name: str, *bounds: Union[RustType, str]) -> "Rust":
         """The same with the type of a constraint around it, and its term."""
         return replace(self, type=of(name, self.type, *bounds), bounded=True, inner=self, around=(*self.around, (name, bounds)))
 
@@ -129,9 +130,26 @@ def signed_for(low: float, high: float) -> Optional[str]:
 
 
 def are_bounds(around: tuple) -> bool:
-    """Whether the type of a constraint, by its name, may have these bounds, each of which is an `i64`, or a `u64` if it is the greatest of a range."""
+    """Whether the type of a constraint may have these bounds, of which none is beyond a `u64` on its side of zero."""
+    return all(abs(it) < 2**64 for it in around[1:])
+
+
+def bound(number: int) -> RustType:
+    """A bound as a type."""
+    return of("Plus", str(number)) if number >= 0 else of("Minus", str(-number))
+
+
+def range_types(low: float, high: float) -> list[tuple]:
+    """The types of constraints that a single interval is, with the numbers that are their bounds."""
+    if 0 <= low and high != INFINITY:
+        return [("InRange", low, high)]
+    return [*([("AtLeast", low)] if low != -INFINITY else []), *([("AtMost", high)] if high != INFINITY else [])]
+
+
+def written(around: tuple) -> tuple:
+    """A constraint as the name of its type and the arguments: numbers, or types of bounds, which have a sign."""
     name, *bounds = around
-    return all(-(2**63) <= it < 2 ** (64 if name == "InRange" and place else 63) for place, it in enumerate(bounds))
+    return name, tuple(str(it) if name in ("InRange", "OtherThan") else bound(it) for it in bounds)
 
 
 def numbers_of(width: str) -> tuple[int, int]:

@@ -8,7 +8,7 @@ from .causes import Where
 from .declarations import ChoiceDeclaration, Declaration, EnumDeclaration, Field, Hint, Item, StructDeclaration
 from .features import Feature, Level, Note
 from .intervals import Intervals
-from .library import ANY_FIRST, DEFAULT_SIGNED, DEFAULT_UNSIGNED, MOST_MEMBERS, ONE_BYTE, Core, Rust, any_element, are_bounds, parts_type, tagged_bytes
+from .library import ANY_FIRST, DEFAULT_SIGNED, DEFAULT_UNSIGNED, MOST_MEMBERS, ONE_BYTE, Core, Rust, any_element, are_bounds, parts_type, tagged_bytes, written
 from .library_table import UNIVERSAL_TAGS
 from .meaning import Meaning, lacks
 from .members import ResolvedMember, is_automatic, is_extensible, members_of
@@ -403,7 +403,8 @@ def number_default(outer: Rust, rust: Rust, number: int) -> Default:
 def other_than(rust: Rust, number: int) -> Optional[RustType]:
     """The type of the other numbers, below the tags. None if the type with its tags has another name."""
     if rust.core not in (Core.EXPLICIT, Core.IMPLICIT):
-        return of("OtherThan", rust.type, str(number))
+        name, arguments = written(("OtherThan", number) if number >= 0 else ("Outside", number, number))
+        return of(name, rust.type, *arguments)
     inner = other_than(rust.inner, number) if rust.inner.type in rust.type.arguments else None
     return inner and rust.type.replaced(rust.inner.type, inner)
 

@@ -5,7 +5,7 @@ from typing import Optional
 from ..parse import tree
 from ..parse.tree import TagClass, TagMode
 from .features import Feature, Level, Note
-from .library import MAX_TAG, Core, Rust, context_tag, are_bounds, numbers_of, retagged, tagged_bytes, without_values
+from .library import MAX_TAG, Core, Rust, context_tag, are_bounds, numbers_of, range_types, retagged, tagged_bytes, without_values, written
 from .library_table import UNIVERSAL_TAGS
 from .meaning import Meaning
 from .rust_types import RustType, of, tuple_of
@@ -109,8 +109,8 @@ def _around(inner: Rust) -> Optional[tuple]:
     width = inner
     while width.inner:
         width = width.inner
-    low, high = numbers_of(str(width.type))
-    return (("InRange", (str(low), str(high))), *inner.around) if are_bounds(("InRange", low, high)) else None
+    around = range_types(*numbers_of(str(width.type)))
+    return (*map(written, around), *inner.around) if all(map(are_bounds, around)) else None
 
 
 def kept(meaning: Meaning, tag: int, feature: Feature) -> Meaning:

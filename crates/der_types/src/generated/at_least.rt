@@ -12,30 +12,41 @@ ghost use Rattle.der_types.specs.ExactConstraints.{at_least_values, numbered_by}
 ghost use Rattle.der_types.specs.Notation.{Notation};
 ghost use Rattle.der_types.specs.Sameness.{newtype_sameness};
 
-use crate::{Constrained, Exact, ExactNumber, Notated, WholeNumber, deserialize_constrained_as};
+use crate::{
+    Bound, Constrained, Exact, ExactNumber, Notated, WholeNumber, deserialize_constrained_as,
+};
 use picky_der_core::Result;
 use picky_der_core::asn1::Tag;
 use picky_der_core::misc::{ReadExt, WriteExt};
 use picky_der_de::{Begins, Deserialize, Deserializer, Faithful};
-use picky_der_ser::{ Serialize, Serializer};
+use picky_der_ser::{Serialize, Serializer};
+use std::marker::PhantomData;
 
-/// A number of `MIN` or above, as in `INTEGER (0..MAX)`, where MAX says that there is no bound (X.680, 51.4). It is encoded as the number.
-#[derive(Debug, Drop, PartialEq, Eq)]
-pub struct AtLeast<T: WholeNumber, const MIN: i64> {
+/// A number of `A` or above. It is encoded as the number.
+///
+/// `INTEGER (0..MAX)` is `AtLeast<Integer, Plus<0>>`, where MAX says that there is no bound (X.680, 51.4).
+#[derive(Drop)]
+#[derive_where(Debug, PartialEq, Eq; T)]
+pub struct AtLeast<T: WholeNumber, A: Bound> {
     value: T,
-    ghost allowed: { int_le MIN (T.number value) ≡ true },
+    #[derive_where(skip)]
+    least: PhantomData<A>,
+    ghost allowed: { int_le A.bound (T.number value) ≡ true },
 }
 
-impl<T: WholeNumber, const MIN: i64> AtLeast<T, MIN> {
-    /// Returns the number, or `None` if it is below `MIN`.
-    pub fn new(value: T) -> Option<AtLeast<T, MIN>>
+impl<T: WholeNumber, A: Bound> AtLeast<T, A> {
+    /// Returns the number, or `None` if it is below `A`.
+    pub fn new(value: T) -> Option<AtLeast<T, A>>
     where
         T: Drop,
         ensures some { IfSome result (λ it. it.value ≡ value) }
-        ensures none { IfNone result (int_le MIN (T.number value) ≡ false) }
+        ensures none { IfNone result (int_le A.bound (T.number value) ≡ false) }
     {
-        if value.is_at_least(i128::from(MIN)) {
-            Some(AtLeast { value })
+        if value.is_at_least(A::bound()) {
+            Some(AtLeast {
+                value,
+                least: PhantomData,
+            })
         } else {
             None
         }
@@ -44,7 +55,7 @@ impl<T: WholeNumber, const MIN: i64> AtLeast<T, MIN> {
     /// Returns the number.
     pub fn get(&self) -> &T
         ensures value { result.now ≡ self.now.value }
-        ensures allowed { int_le MIN (T.number result.now) ≡ true }
+        ensures allowed { int_le A.bound (T.number result.now) ≡ true }
     {
         &self.value
     }
@@ -52,37 +63,37 @@ impl<T: WholeNumber, const MIN: i64> AtLeast<T, MIN> {
     /// Returns the number.
     pub fn into_inner(self) -> T
         ensures value { result ≡ self.value }
-        ensures allowed { int_le MIN (T.number result) ≡ true }
+        ensures allowed { int_le A.bound (T.number result) ≡ true }
     {
-        let AtLeast { value } = self;
+        let AtLeast { value, least: _ } = self;
         value
     }
 }
 
-impl<T: WholeNumber + PartialEq, const MIN: i64> AtLeast<T, MIN> {
+impl<T: WholeNumber + PartialEq, A: Bound> AtLeast<T, A> {
     /// Two are equal exactly if their numbers are.
     pub fn equality()
-        ensures { IsThatOf ⟦<AtLeast<T, MIN> as PartialEq>⟧.eq (λ it. it.value) T.eq }
+        ensures { IsThatOf ⟦<AtLeast<T, A> as PartialEq>⟧.eq (λ it. it.value) T.eq }
     {}
 }
 
-impl<T: WholeNumber + Deserialize, const MIN: i64> Constrained for AtLeast<T, MIN> {
+impl<T: WholeNumber + Deserialize, A: Bound> Constrained for AtLeast<T, A> {
     type Of = T;
 
     ghost unconstrained = { λ it. it.value };
 
-    ghost allows = { λ value. int_le MIN (T.number value) };
+    ghost allows = { λ value. int_le A.bound (T.number value) };
 
-    fn constrain(value: T) -> Option<AtLeast<T, MIN>> {
+    fn constrain(value: T) -> Option<AtLeast<T, A>> {
         AtLeast::new(value)
     }
 
     ghost kept = { λ it. it.allowed };
 
-    ghost determined = { λ x y e. ap (int_le MIN) (T.determined x y e) };
+    ghost determined = { λ x y e. ap (int_le A.bound) (T.determined x y e) };
 }
 
-impl<T: WholeNumber, const MIN: i64> Serialize for AtLeast<T, MIN> {
+impl<T: WholeNumber, A: Bound> Serialize for AtLeast<T, A> {
     ghost meaning = { λ it. T.meaning it.value };
 
     fn serialize<W: WriteExt>(&self, serializer: &mut Serializer<W>) -> Result<usize> {
@@ -90,47 +101,46 @@ impl<T: WholeNumber, const MIN: i64> Serialize for AtLeast<T, MIN> {
     }
 }
 
-
-impl<T: WholeNumber + Deserialize, const MIN: i64> Deserialize for AtLeast<T, MIN> {
+impl<T: WholeNumber + Deserialize, A: Bound> Deserialize for AtLeast<T, A> {
     ghost shape = { T.shape };
 
     ghost facts = { tested_part_facts T.facts T.meaning T.eq (λ it. it.value) };
 
     ghost proved = { Prim.assumption };
 
-    fn deserialize<R: ReadExt>(deserializer: &mut Deserializer<R>) -> Result<AtLeast<T, MIN>>
+    fn deserialize<R: ReadExt>(deserializer: &mut Deserializer<R>) -> Result<AtLeast<T, A>>
         ensures ok { IfOk result (λ it. Reads T.shape deserializer.old deserializer.new
             (T.meaning it.value)) }
-        ensures err { IfErr result (Refuses ⟦<AtLeast<T, MIN> as Serialize>⟧.meaning T.shape
+        ensures err { IfErr result (Refuses ⟦<AtLeast<T, A> as Serialize>⟧.meaning T.shape
             deserializer.old deserializer.new) }
         ensures refused { IfErr result (RefusesConstrained T.meaning T.shape
-            (λ value. int_le MIN (T.number value)) deserializer.old deserializer.new) }
+            (λ value. int_le A.bound (T.number value)) deserializer.old deserializer.new) }
         ensures refused_by { IfErr result (RefusesBy (tested_rule T.meaning T.shape
-            ⟦<AtLeast<T, MIN> as Constrained>⟧.unconstrained T.facts.rule) deserializer.old deserializer.new) }
+            ⟦<AtLeast<T, A> as Constrained>⟧.unconstrained T.facts.rule) deserializer.old deserializer.new) }
     {
         deserialize_constrained_as(deserializer)
     }
 }
 
-impl<T: WholeNumber + Begins, const MIN: i64> Begins for AtLeast<T, MIN> {
+impl<T: WholeNumber + Begins, A: Bound> Begins for AtLeast<T, A> {
     fn begins_with(tag: Tag) -> bool {
         T::begins_with(tag)
     }
 }
 
-impl<T: Notated + WholeNumber, const MIN: i64> Notated for AtLeast<T, MIN> {
-    ghost notation = { Notation.at-least MIN T.notation };
+impl<T: Notated + WholeNumber, A: Bound> Notated for AtLeast<T, A> {
+    ghost notation = { Notation.at-least A.bound T.notation };
 
     ghost denoted = { T.denoted };
 }
 
-impl<T: ExactNumber, const MIN: i64> Exact for AtLeast<T, MIN> {
-    ghost values = { at_least_values T.values T.notation T.meaning (λ it. it.value) MIN T.numbered T.number (λ it. it.allowed) (λ x e. (record { value = x; allowed = e }, refl)) };
+impl<T: ExactNumber, A: Bound> Exact for AtLeast<T, A> {
+    ghost values = { at_least_values T.values T.notation T.meaning (λ it. it.value) A.bound T.numbered T.number (λ it. it.allowed) (λ x e. (record { value = x; least = record {}; allowed = e }, refl)) };
 
     ghost exact = { Prim.assumption };
 }
 
-impl<T: WholeNumber, const MIN: i64> WholeNumber for AtLeast<T, MIN> {
+impl<T: WholeNumber, A: Bound> WholeNumber for AtLeast<T, A> {
     ghost number = { λ it. T.number it.value };
 
     fn is_at_least(&self, least: i128) -> bool {
@@ -144,14 +154,13 @@ impl<T: WholeNumber, const MIN: i64> WholeNumber for AtLeast<T, MIN> {
     ghost determined = { λ x y e. T.determined x.value y.value e };
 }
 
-impl<T: ExactNumber, const MIN: i64> ExactNumber for AtLeast<T, MIN> {
+impl<T: ExactNumber, A: Bound> ExactNumber for AtLeast<T, A> {
     ghost numbered = { numbered_by T.numbered T.number T.meaning (λ it. it.value) };
 
     ghost exact_number = { Prim.assumption };
 }
 
-
-impl<T: Faithful + WholeNumber, const MIN: i64> Faithful for AtLeast<T, MIN> {
+impl<T: Faithful + WholeNumber, A: Bound> Faithful for AtLeast<T, A> {
     ghost sameness = { newtype_sameness T.sameness T.eq T.meaning (λ it. it.value) };
 
     ghost respects = { Prim.assumption };

@@ -12,30 +12,41 @@ ghost use Rattle.der_types.specs.ExactConstraints.{at_most_values, numbered_by};
 ghost use Rattle.der_types.specs.Notation.{Notation};
 ghost use Rattle.der_types.specs.Sameness.{newtype_sameness};
 
-use crate::{Constrained, Exact, ExactNumber, Notated, WholeNumber, deserialize_constrained_as};
+use crate::{
+    Bound, Constrained, Exact, ExactNumber, Notated, WholeNumber, deserialize_constrained_as,
+};
 use picky_der_core::Result;
 use picky_der_core::asn1::Tag;
 use picky_der_core::misc::{ReadExt, WriteExt};
 use picky_der_de::{Begins, Deserialize, Deserializer, Faithful};
-use picky_der_ser::{ Serialize, Serializer};
+use picky_der_ser::{Serialize, Serializer};
+use std::marker::PhantomData;
 
-/// A number of `MAX` or below, as in `INTEGER (MIN..0)`, where MIN says that there is no bound (X.680, 51.4). It is encoded as the number.
-#[derive(Debug, Drop, PartialEq, Eq)]
-pub struct AtMost<T: WholeNumber, const MAX: i64> {
+/// A number of `B` or below. It is encoded as the number.
+///
+/// `INTEGER (MIN..-1)` is `AtMost<Integer, Minus<1>>`, where MIN says that there is no bound (X.680, 51.4).
+#[derive(Drop)]
+#[derive_where(Debug, PartialEq, Eq; T)]
+pub struct AtMost<T: WholeNumber, B: Bound> {
     value: T,
-    ghost allowed: { int_le (T.number value) MAX ≡ true },
+    #[derive_where(skip)]
+    most: PhantomData<B>,
+    ghost allowed: { int_le (T.number value) B.bound ≡ true },
 }
 
-impl<T: WholeNumber, const MAX: i64> AtMost<T, MAX> {
-    /// Returns the number, or `None` if it is above `MAX`.
-    pub fn new(value: T) -> Option<AtMost<T, MAX>>
+impl<T: WholeNumber, B: Bound> AtMost<T, B> {
+    /// Returns the number, or `None` if it is above `B`.
+    pub fn new(value: T) -> Option<AtMost<T, B>>
     where
         T: Drop,
         ensures some { IfSome result (λ it. it.value ≡ value) }
-        ensures none { IfNone result (int_le (T.number value) MAX ≡ false) }
+        ensures none { IfNone result (int_le (T.number value) B.bound ≡ false) }
     {
-        if value.is_at_most(i128::from(MAX)) {
-            Some(AtMost { value })
+        if value.is_at_most(B::bound()) {
+            Some(AtMost {
+                value,
+                most: PhantomData,
+            })
         } else {
             None
         }
@@ -44,7 +55,7 @@ impl<T: WholeNumber, const MAX: i64> AtMost<T, MAX> {
     /// Returns the number.
     pub fn get(&self) -> &T
         ensures value { result.now ≡ self.now.value }
-        ensures allowed { int_le (T.number result.now) MAX ≡ true }
+        ensures allowed { int_le (T.number result.now) B.bound ≡ true }
     {
         &self.value
     }
@@ -52,37 +63,37 @@ impl<T: WholeNumber, const MAX: i64> AtMost<T, MAX> {
     /// Returns the number.
     pub fn into_inner(self) -> T
         ensures value { result ≡ self.value }
-        ensures allowed { int_le (T.number result) MAX ≡ true }
+        ensures allowed { int_le (T.number result) B.bound ≡ true }
     {
-        let AtMost { value } = self;
+        let AtMost { value, most: _ } = self;
         value
     }
 }
 
-impl<T: WholeNumber + PartialEq, const MAX: i64> AtMost<T, MAX> {
+impl<T: WholeNumber + PartialEq, B: Bound> AtMost<T, B> {
     /// Two are equal exactly if their numbers are.
     pub fn equality()
-        ensures { IsThatOf ⟦<AtMost<T, MAX> as PartialEq>⟧.eq (λ it. it.value) T.eq }
+        ensures { IsThatOf ⟦<AtMost<T, B> as PartialEq>⟧.eq (λ it. it.value) T.eq }
     {}
 }
 
-impl<T: WholeNumber + Deserialize, const MAX: i64> Constrained for AtMost<T, MAX> {
+impl<T: WholeNumber + Deserialize, B: Bound> Constrained for AtMost<T, B> {
     type Of = T;
 
     ghost unconstrained = { λ it. it.value };
 
-    ghost allows = { λ value. int_le (T.number value) MAX };
+    ghost allows = { λ value. int_le (T.number value) B.bound };
 
-    fn constrain(value: T) -> Option<AtMost<T, MAX>> {
+    fn constrain(value: T) -> Option<AtMost<T, B>> {
         AtMost::new(value)
     }
 
     ghost kept = { λ it. it.allowed };
 
-    ghost determined = { λ x y e. ap ((λ z. int_le z MAX)) (T.determined x y e) };
+    ghost determined = { λ x y e. ap ((λ z. int_le z B.bound)) (T.determined x y e) };
 }
 
-impl<T: WholeNumber, const MAX: i64> Serialize for AtMost<T, MAX> {
+impl<T: WholeNumber, B: Bound> Serialize for AtMost<T, B> {
     ghost meaning = { λ it. T.meaning it.value };
 
     fn serialize<W: WriteExt>(&self, serializer: &mut Serializer<W>) -> Result<usize> {
@@ -90,47 +101,46 @@ impl<T: WholeNumber, const MAX: i64> Serialize for AtMost<T, MAX> {
     }
 }
 
-
-impl<T: WholeNumber + Deserialize, const MAX: i64> Deserialize for AtMost<T, MAX> {
+impl<T: WholeNumber + Deserialize, B: Bound> Deserialize for AtMost<T, B> {
     ghost shape = { T.shape };
 
     ghost facts = { tested_part_facts T.facts T.meaning T.eq (λ it. it.value) };
 
     ghost proved = { Prim.assumption };
 
-    fn deserialize<R: ReadExt>(deserializer: &mut Deserializer<R>) -> Result<AtMost<T, MAX>>
+    fn deserialize<R: ReadExt>(deserializer: &mut Deserializer<R>) -> Result<AtMost<T, B>>
         ensures ok { IfOk result (λ it. Reads T.shape deserializer.old deserializer.new
             (T.meaning it.value)) }
-        ensures err { IfErr result (Refuses ⟦<AtMost<T, MAX> as Serialize>⟧.meaning T.shape
+        ensures err { IfErr result (Refuses ⟦<AtMost<T, B> as Serialize>⟧.meaning T.shape
             deserializer.old deserializer.new) }
         ensures refused { IfErr result (RefusesConstrained T.meaning T.shape
-            (λ value. int_le (T.number value) MAX) deserializer.old deserializer.new) }
+            (λ value. int_le (T.number value) B.bound) deserializer.old deserializer.new) }
         ensures refused_by { IfErr result (RefusesBy (tested_rule T.meaning T.shape
-            ⟦<AtMost<T, MAX> as Constrained>⟧.unconstrained T.facts.rule) deserializer.old deserializer.new) }
+            ⟦<AtMost<T, B> as Constrained>⟧.unconstrained T.facts.rule) deserializer.old deserializer.new) }
     {
         deserialize_constrained_as(deserializer)
     }
 }
 
-impl<T: WholeNumber + Begins, const MAX: i64> Begins for AtMost<T, MAX> {
+impl<T: WholeNumber + Begins, B: Bound> Begins for AtMost<T, B> {
     fn begins_with(tag: Tag) -> bool {
         T::begins_with(tag)
     }
 }
 
-impl<T: Notated + WholeNumber, const MAX: i64> Notated for AtMost<T, MAX> {
-    ghost notation = { Notation.at-most MAX T.notation };
+impl<T: Notated + WholeNumber, B: Bound> Notated for AtMost<T, B> {
+    ghost notation = { Notation.at-most B.bound T.notation };
 
     ghost denoted = { T.denoted };
 }
 
-impl<T: ExactNumber, const MAX: i64> Exact for AtMost<T, MAX> {
-    ghost values = { at_most_values T.values T.notation T.meaning (λ it. it.value) MAX T.numbered T.number (λ it. it.allowed) (λ x e. (record { value = x; allowed = e }, refl)) };
+impl<T: ExactNumber, B: Bound> Exact for AtMost<T, B> {
+    ghost values = { at_most_values T.values T.notation T.meaning (λ it. it.value) B.bound T.numbered T.number (λ it. it.allowed) (λ x e. (record { value = x; most = record {}; allowed = e }, refl)) };
 
     ghost exact = { Prim.assumption };
 }
 
-impl<T: WholeNumber, const MAX: i64> WholeNumber for AtMost<T, MAX> {
+impl<T: WholeNumber, B: Bound> WholeNumber for AtMost<T, B> {
     ghost number = { λ it. T.number it.value };
 
     fn is_at_least(&self, least: i128) -> bool {
@@ -144,14 +154,13 @@ impl<T: WholeNumber, const MAX: i64> WholeNumber for AtMost<T, MAX> {
     ghost determined = { λ x y e. T.determined x.value y.value e };
 }
 
-impl<T: ExactNumber, const MAX: i64> ExactNumber for AtMost<T, MAX> {
+impl<T: ExactNumber, B: Bound> ExactNumber for AtMost<T, B> {
     ghost numbered = { numbered_by T.numbered T.number T.meaning (λ it. it.value) };
 
     ghost exact_number = { Prim.assumption };
 }
 
-
-impl<T: Faithful + WholeNumber, const MAX: i64> Faithful for AtMost<T, MAX> {
+impl<T: Faithful + WholeNumber, B: Bound> Faithful for AtMost<T, B> {
     ghost sameness = { newtype_sameness T.sameness T.eq T.meaning (λ it. it.value) };
 
     ghost respects = { Prim.assumption };

@@ -17,23 +17,23 @@ use picky_der_core::Result;
 use picky_der_core::asn1::Tag;
 use picky_der_core::misc::{ReadExt, WriteExt};
 use picky_der_de::{Begins, Deserialize, Deserializer, Faithful};
-use picky_der_ser::{ Serialize, Serializer};
+use picky_der_ser::{Serialize, Serializer};
 
-/// A number from `MIN` to `MAX`, as in `INTEGER (MIN..MAX)` (X.680, 51.4). It is encoded as the number. For a range that ends below zero
-/// use `AtMost<AtLeast<T, MIN>, MAX>`.
+/// A number from `MIN` to `MAX`, as in `INTEGER (MIN..MAX)` (X.680, 51.4). It is encoded as the number. For a range that begins below zero
+/// use `AtMost<AtLeast<T, Minus<60>>, Plus<60>>`.
 #[derive(Debug, Drop, PartialEq, Eq)]
-pub struct InRange<T: WholeNumber, const MIN: i64, const MAX: u64> {
+pub struct InRange<T: WholeNumber, const MIN: u64, const MAX: u64> {
     value: T,
-    ghost allowed: { is_between MIN (pos MAX) (T.number value) ≡ true },
+    ghost allowed: { is_between (pos MIN) (pos MAX) (T.number value) ≡ true },
 }
 
-impl<T: WholeNumber, const MIN: i64, const MAX: u64> InRange<T, MIN, MAX> {
+impl<T: WholeNumber, const MIN: u64, const MAX: u64> InRange<T, MIN, MAX> {
     /// Returns the number, or `None` if it isn't from `MIN` to `MAX`.
     pub fn new(value: T) -> Option<InRange<T, MIN, MAX>>
     where
         T: Drop,
         ensures some { IfSome result (λ it. it.value ≡ value) }
-        ensures none { IfNone result (is_between MIN (pos MAX) (T.number value) ≡ false) }
+        ensures none { IfNone result (is_between (pos MIN) (pos MAX) (T.number value) ≡ false) }
     {
         if value.is_between(i128::from(MIN), i128::from(MAX)) {
             Some(InRange { value })
@@ -45,7 +45,7 @@ impl<T: WholeNumber, const MIN: i64, const MAX: u64> InRange<T, MIN, MAX> {
     /// Returns the number.
     pub fn get(&self) -> &T
         ensures value { result.now ≡ self.now.value }
-        ensures allowed { is_between MIN (pos MAX) (T.number result.now) ≡ true }
+        ensures allowed { is_between (pos MIN) (pos MAX) (T.number result.now) ≡ true }
     {
         &self.value
     }
@@ -53,26 +53,27 @@ impl<T: WholeNumber, const MIN: i64, const MAX: u64> InRange<T, MIN, MAX> {
     /// Returns the number.
     pub fn into_inner(self) -> T
         ensures value { result ≡ self.value }
-        ensures allowed { is_between MIN (pos MAX) (T.number result) ≡ true }
+        ensures allowed { is_between (pos MIN) (pos MAX) (T.number result) ≡ true }
     {
         let InRange { value } = self;
         value
     }
 }
 
-impl<T: WholeNumber + PartialEq, const MIN: i64, const MAX: u64> InRange<T, MIN, MAX> {
+impl<T: WholeNumber + PartialEq, const MIN: u64, const MAX: u64> InRange<T, MIN, MAX> {
     /// Two are equal exactly if their numbers are.
     pub fn equality()
         ensures { IsThatOf ⟦<InRange<T, MIN, MAX> as PartialEq>⟧.eq (λ it. it.value) T.eq }
     {}
 }
 
-impl<T: WholeNumber + Deserialize, const MIN: i64, const MAX: u64> Constrained for InRange<T, MIN, MAX> {
+impl<T: WholeNumber + Deserialize, const MIN: u64, const MAX: u64> Constrained
+    for InRange<T, MIN, MAX> {
     type Of = T;
 
     ghost unconstrained = { λ it. it.value };
 
-    ghost allows = { λ value. is_between MIN (pos MAX) (T.number value) };
+    ghost allows = { λ value. is_between (pos MIN) (pos MAX) (T.number value) };
 
     fn constrain(value: T) -> Option<InRange<T, MIN, MAX>> {
         InRange::new(value)
@@ -80,10 +81,10 @@ impl<T: WholeNumber + Deserialize, const MIN: i64, const MAX: u64> Constrained f
 
     ghost kept = { λ it. it.allowed };
 
-    ghost determined = { λ x y e. ap (is_between MIN (pos MAX)) (T.determined x y e) };
+    ghost determined = { λ x y e. ap (is_between (pos MIN) (pos MAX)) (T.determined x y e) };
 }
 
-impl<T: WholeNumber, const MIN: i64, const MAX: u64> Serialize for InRange<T, MIN, MAX> {
+impl<T: WholeNumber, const MIN: u64, const MAX: u64> Serialize for InRange<T, MIN, MAX> {
     ghost meaning = { λ it. T.meaning it.value };
 
     fn serialize<W: WriteExt>(&self, serializer: &mut Serializer<W>) -> Result<usize> {
@@ -91,8 +92,8 @@ impl<T: WholeNumber, const MIN: i64, const MAX: u64> Serialize for InRange<T, MI
     }
 }
 
-
-impl<T: WholeNumber + Deserialize, const MIN: i64, const MAX: u64> Deserialize for InRange<T, MIN, MAX> {
+impl<T: WholeNumber + Deserialize, const MIN: u64, const MAX: u64> Deserialize
+    for InRange<T, MIN, MAX> {
     ghost shape = { T.shape };
 
     ghost facts = { tested_part_facts T.facts T.meaning T.eq (λ it. it.value) };
@@ -105,7 +106,7 @@ impl<T: WholeNumber + Deserialize, const MIN: i64, const MAX: u64> Deserialize f
         ensures err { IfErr result (Refuses ⟦<InRange<T, MIN, MAX> as Serialize>⟧.meaning T.shape
             deserializer.old deserializer.new) }
         ensures refused { IfErr result (RefusesConstrained T.meaning T.shape
-            (λ value. is_between MIN (pos MAX) (T.number value)) deserializer.old deserializer.new) }
+            (λ value. is_between (pos MIN) (pos MAX) (T.number value)) deserializer.old deserializer.new) }
         ensures refused_by { IfErr result (RefusesBy (tested_rule T.meaning T.shape
             ⟦<InRange<T, MIN, MAX> as Constrained>⟧.unconstrained T.facts.rule) deserializer.old deserializer.new) }
     {
@@ -113,25 +114,25 @@ impl<T: WholeNumber + Deserialize, const MIN: i64, const MAX: u64> Deserialize f
     }
 }
 
-impl<T: WholeNumber + Begins, const MIN: i64, const MAX: u64> Begins for InRange<T, MIN, MAX> {
+impl<T: WholeNumber + Begins, const MIN: u64, const MAX: u64> Begins for InRange<T, MIN, MAX> {
     fn begins_with(tag: Tag) -> bool {
         T::begins_with(tag)
     }
 }
 
-impl<T: Notated + WholeNumber, const MIN: i64, const MAX: u64> Notated for InRange<T, MIN, MAX> {
-    ghost notation = { Notation.in-range MIN (pos MAX) T.notation };
+impl<T: Notated + WholeNumber, const MIN: u64, const MAX: u64> Notated for InRange<T, MIN, MAX> {
+    ghost notation = { Notation.in-range (pos MIN) (pos MAX) T.notation };
 
     ghost denoted = { T.denoted };
 }
 
-impl<T: ExactNumber, const MIN: i64, const MAX: u64> Exact for InRange<T, MIN, MAX> {
-    ghost values = { in_range_values T.values T.notation T.meaning (λ it. it.value) MIN (pos MAX) T.numbered T.number (λ it. it.allowed) (λ x e. (record { value = x; allowed = e }, refl)) };
+impl<T: ExactNumber, const MIN: u64, const MAX: u64> Exact for InRange<T, MIN, MAX> {
+    ghost values = { in_range_values T.values T.notation T.meaning (λ it. it.value) (pos MIN) (pos MAX) T.numbered T.number (λ it. it.allowed) (λ x e. (record { value = x; allowed = e }, refl)) };
 
     ghost exact = { Prim.assumption };
 }
 
-impl<T: WholeNumber, const MIN: i64, const MAX: u64> WholeNumber for InRange<T, MIN, MAX> {
+impl<T: WholeNumber, const MIN: u64, const MAX: u64> WholeNumber for InRange<T, MIN, MAX> {
     ghost number = { λ it. T.number it.value };
 
     fn is_at_least(&self, least: i128) -> bool {
@@ -145,14 +146,13 @@ impl<T: WholeNumber, const MIN: i64, const MAX: u64> WholeNumber for InRange<T, 
     ghost determined = { λ x y e. T.determined x.value y.value e };
 }
 
-impl<T: ExactNumber, const MIN: i64, const MAX: u64> ExactNumber for InRange<T, MIN, MAX> {
+impl<T: ExactNumber, const MIN: u64, const MAX: u64> ExactNumber for InRange<T, MIN, MAX> {
     ghost numbered = { numbered_by T.numbered T.number T.meaning (λ it. it.value) };
 
     ghost exact_number = { Prim.assumption };
 }
 
-
-impl<T: Faithful + WholeNumber, const MIN: i64, const MAX: u64> Faithful for InRange<T, MIN, MAX> {
+impl<T: Faithful + WholeNumber, const MIN: u64, const MAX: u64> Faithful for InRange<T, MIN, MAX> {
     ghost sameness = { newtype_sameness T.sameness T.eq T.meaning (λ it. it.value) };
 
     ghost respects = { Prim.assumption };

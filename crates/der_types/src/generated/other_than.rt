@@ -17,25 +17,25 @@ use picky_der_core::Result;
 use picky_der_core::asn1::Tag;
 use picky_der_core::misc::{ReadExt, WriteExt};
 use picky_der_de::{Begins, Deserialize, Deserializer, Faithful};
-use picky_der_ser::{ Serialize, Serializer};
+use picky_der_ser::{Serialize, Serializer};
 
 /// A number other than `N`. It is encoded as the number.
 ///
 /// For a member `version INTEGER DEFAULT 0` use `Option<OtherThan<Integer, 0>>`. `None` is the default, which is never written (X.690,
 /// 11.5).
 #[derive(Debug, Drop, PartialEq, Eq)]
-pub struct OtherThan<T: WholeNumber, const N: i64> {
+pub struct OtherThan<T: WholeNumber, const N: u64> {
     value: T,
-    ghost allowed: { is_between N N (T.number value) ≡ false },
+    ghost allowed: { is_between (pos N) (pos N) (T.number value) ≡ false },
 }
 
-impl<T: WholeNumber, const N: i64> OtherThan<T, N> {
+impl<T: WholeNumber, const N: u64> OtherThan<T, N> {
     /// Returns the number, or `None` if it is `N`.
     pub fn new(value: T) -> Option<OtherThan<T, N>>
     where
         T: Drop,
         ensures some { IfSome result (λ it. it.value ≡ value) }
-        ensures none { IfNone result (is_between N N (T.number value) ≡ true) }
+        ensures none { IfNone result (is_between (pos N) (pos N) (T.number value) ≡ true) }
     {
         if value.is_between(i128::from(N), i128::from(N)) {
             None
@@ -47,7 +47,7 @@ impl<T: WholeNumber, const N: i64> OtherThan<T, N> {
     /// Returns the number.
     pub fn get(&self) -> &T
         ensures value { result.now ≡ self.now.value }
-        ensures allowed { is_between N N (T.number result.now) ≡ false }
+        ensures allowed { is_between (pos N) (pos N) (T.number result.now) ≡ false }
     {
         &self.value
     }
@@ -55,26 +55,26 @@ impl<T: WholeNumber, const N: i64> OtherThan<T, N> {
     /// Returns the number.
     pub fn into_inner(self) -> T
         ensures value { result ≡ self.value }
-        ensures allowed { is_between N N (T.number result) ≡ false }
+        ensures allowed { is_between (pos N) (pos N) (T.number result) ≡ false }
     {
         let OtherThan { value } = self;
         value
     }
 }
 
-impl<T: WholeNumber + PartialEq, const N: i64> OtherThan<T, N> {
+impl<T: WholeNumber + PartialEq, const N: u64> OtherThan<T, N> {
     /// Two are equal exactly if their numbers are.
     pub fn equality()
         ensures { IsThatOf ⟦<OtherThan<T, N> as PartialEq>⟧.eq (λ it. it.value) T.eq }
     {}
 }
 
-impl<T: WholeNumber + Deserialize, const N: i64> Constrained for OtherThan<T, N> {
+impl<T: WholeNumber + Deserialize, const N: u64> Constrained for OtherThan<T, N> {
     type Of = T;
 
     ghost unconstrained = { λ it. it.value };
 
-    ghost allows = { λ value. not (is_between N N (T.number value)) };
+    ghost allows = { λ value. not (is_between (pos N) (pos N) (T.number value)) };
 
     fn constrain(value: T) -> Option<OtherThan<T, N>> {
         OtherThan::new(value)
@@ -82,10 +82,10 @@ impl<T: WholeNumber + Deserialize, const N: i64> Constrained for OtherThan<T, N>
 
     ghost kept = { λ it. ap not it.allowed };
 
-    ghost determined = { λ x y e. ap (λ z. not (is_between N N z)) (T.determined x y e) };
+    ghost determined = { λ x y e. ap (λ z. not (is_between (pos N) (pos N) z)) (T.determined x y e) };
 }
 
-impl<T: WholeNumber, const N: i64> Serialize for OtherThan<T, N> {
+impl<T: WholeNumber, const N: u64> Serialize for OtherThan<T, N> {
     ghost meaning = { λ it. T.meaning it.value };
 
     fn serialize<W: WriteExt>(&self, serializer: &mut Serializer<W>) -> Result<usize> {
@@ -93,8 +93,7 @@ impl<T: WholeNumber, const N: i64> Serialize for OtherThan<T, N> {
     }
 }
 
-
-impl<T: WholeNumber + Deserialize, const N: i64> Deserialize for OtherThan<T, N> {
+impl<T: WholeNumber + Deserialize, const N: u64> Deserialize for OtherThan<T, N> {
     ghost shape = { T.shape };
 
     ghost facts = { tested_part_facts T.facts T.meaning T.eq (λ it. it.value) };
@@ -107,7 +106,7 @@ impl<T: WholeNumber + Deserialize, const N: i64> Deserialize for OtherThan<T, N>
         ensures err { IfErr result (Refuses ⟦<OtherThan<T, N> as Serialize>⟧.meaning T.shape
             deserializer.old deserializer.new) }
         ensures refused { IfErr result (RefusesConstrained T.meaning T.shape
-            (λ value. not (is_between N N (T.number value))) deserializer.old deserializer.new) }
+            (λ value. not (is_between (pos N) (pos N) (T.number value))) deserializer.old deserializer.new) }
         ensures refused_by { IfErr result (RefusesBy (tested_rule T.meaning T.shape
             ⟦<OtherThan<T, N> as Constrained>⟧.unconstrained T.facts.rule) deserializer.old deserializer.new) }
     {
@@ -115,25 +114,25 @@ impl<T: WholeNumber + Deserialize, const N: i64> Deserialize for OtherThan<T, N>
     }
 }
 
-impl<T: WholeNumber + Begins, const N: i64> Begins for OtherThan<T, N> {
+impl<T: WholeNumber + Begins, const N: u64> Begins for OtherThan<T, N> {
     fn begins_with(tag: Tag) -> bool {
         T::begins_with(tag)
     }
 }
 
-impl<T: Notated + WholeNumber, const N: i64> Notated for OtherThan<T, N> {
-    ghost notation = { Notation.outside N N T.notation };
+impl<T: Notated + WholeNumber, const N: u64> Notated for OtherThan<T, N> {
+    ghost notation = { Notation.outside (pos N) (pos N) T.notation };
 
     ghost denoted = { T.denoted };
 }
 
-impl<T: ExactNumber, const N: i64> Exact for OtherThan<T, N> {
-    ghost values = { outside_values T.values T.notation T.meaning (λ it. it.value) N N T.numbered T.number (λ it. it.allowed) (λ x e. (record { value = x; allowed = e }, refl)) };
+impl<T: ExactNumber, const N: u64> Exact for OtherThan<T, N> {
+    ghost values = { outside_values T.values T.notation T.meaning (λ it. it.value) (pos N) (pos N) T.numbered T.number (λ it. it.allowed) (λ x e. (record { value = x; allowed = e }, refl)) };
 
     ghost exact = { Prim.assumption };
 }
 
-impl<T: WholeNumber, const N: i64> WholeNumber for OtherThan<T, N> {
+impl<T: WholeNumber, const N: u64> WholeNumber for OtherThan<T, N> {
     ghost number = { λ it. T.number it.value };
 
     fn is_at_least(&self, least: i128) -> bool {
@@ -147,14 +146,13 @@ impl<T: WholeNumber, const N: i64> WholeNumber for OtherThan<T, N> {
     ghost determined = { λ x y e. T.determined x.value y.value e };
 }
 
-impl<T: ExactNumber, const N: i64> ExactNumber for OtherThan<T, N> {
+impl<T: ExactNumber, const N: u64> ExactNumber for OtherThan<T, N> {
     ghost numbered = { numbered_by T.numbered T.number T.meaning (λ it. it.value) };
 
     ghost exact_number = { Prim.assumption };
 }
 
-
-impl<T: Faithful + WholeNumber, const N: i64> Faithful for OtherThan<T, N> {
+impl<T: Faithful + WholeNumber, const N: u64> Faithful for OtherThan<T, N> {
     ghost sameness = { newtype_sameness T.sameness T.eq T.meaning (λ it. it.value) };
 
     ghost respects = { Prim.assumption };

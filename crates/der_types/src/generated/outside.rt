@@ -12,42 +12,54 @@ ghost use Rattle.der_types.specs.ExactConstraints.{outside_values, numbered_by};
 ghost use Rattle.der_types.specs.Notation.{Notation};
 ghost use Rattle.der_types.specs.Sameness.{newtype_sameness};
 
-use crate::{Constrained, Exact, ExactNumber, Notated, WholeNumber, deserialize_constrained_as};
+use crate::{
+    Bound, Constrained, Exact, ExactNumber, Notated, WholeNumber, deserialize_constrained_as,
+};
 use picky_der_core::Result;
 use picky_der_core::asn1::Tag;
 use picky_der_core::misc::{ReadExt, WriteExt};
 use picky_der_de::{Begins, Deserialize, Deserializer, Faithful};
-use picky_der_ser::{ Serialize, Serializer};
+use picky_der_ser::{Serialize, Serializer};
+use std::marker::PhantomData;
 
-/// A number below `MIN` or above `MAX`. It is encoded as the number.
+/// A number below `A` or above `B`. It is encoded as the number.
 ///
-/// `INTEGER (64 | 128)` is `Outside<InRange<u8, 64, 128>, 65, 127>`: the numbers of the range around all intervals, without the numbers between
-/// them (X.680, 50).
-#[derive(Debug, Drop, PartialEq, Eq)]
-pub struct Outside<T: WholeNumber, const MIN: i64, const MAX: i64> {
+/// `INTEGER (64 | 128)` is `Outside<InRange<u8, 64, 128>, Plus<65>, Plus<127>>`: the numbers of the range around all intervals, without the
+/// numbers between them (X.680, 50).
+#[derive(Drop)]
+#[derive_where(Debug, PartialEq, Eq; T)]
+pub struct Outside<T: WholeNumber, A: Bound, B: Bound> {
     value: T,
-    ghost allowed: { is_between MIN MAX (T.number value) ≡ false },
+    #[derive_where(skip)]
+    least: PhantomData<A>,
+    #[derive_where(skip)]
+    most: PhantomData<B>,
+    ghost allowed: { is_between A.bound B.bound (T.number value) ≡ false },
 }
 
-impl<T: WholeNumber, const MIN: i64, const MAX: i64> Outside<T, MIN, MAX> {
-    /// Returns the number, or `None` if it is from `MIN` to `MAX`.
-    pub fn new(value: T) -> Option<Outside<T, MIN, MAX>>
+impl<T: WholeNumber, A: Bound, B: Bound> Outside<T, A, B> {
+    /// Returns the number, or `None` if it is from `A` to `B`.
+    pub fn new(value: T) -> Option<Outside<T, A, B>>
     where
         T: Drop,
         ensures some { IfSome result (λ it. it.value ≡ value) }
-        ensures none { IfNone result (is_between MIN MAX (T.number value) ≡ true) }
+        ensures none { IfNone result (is_between A.bound B.bound (T.number value) ≡ true) }
     {
-        if value.is_between(i128::from(MIN), i128::from(MAX)) {
+        if value.is_between(A::bound(), B::bound()) {
             None
         } else {
-            Some(Outside { value })
+            Some(Outside {
+                value,
+                least: PhantomData,
+                most: PhantomData,
+            })
         }
     }
 
     /// Returns the number.
     pub fn get(&self) -> &T
         ensures value { result.now ≡ self.now.value }
-        ensures allowed { is_between MIN MAX (T.number result.now) ≡ false }
+        ensures allowed { is_between A.bound B.bound (T.number result.now) ≡ false }
     {
         &self.value
     }
@@ -55,37 +67,41 @@ impl<T: WholeNumber, const MIN: i64, const MAX: i64> Outside<T, MIN, MAX> {
     /// Returns the number.
     pub fn into_inner(self) -> T
         ensures value { result ≡ self.value }
-        ensures allowed { is_between MIN MAX (T.number result) ≡ false }
+        ensures allowed { is_between A.bound B.bound (T.number result) ≡ false }
     {
-        let Outside { value } = self;
+        let Outside {
+            value,
+            least: _,
+            most: _,
+        } = self;
         value
     }
 }
 
-impl<T: WholeNumber + PartialEq, const MIN: i64, const MAX: i64> Outside<T, MIN, MAX> {
+impl<T: WholeNumber + PartialEq, A: Bound, B: Bound> Outside<T, A, B> {
     /// Two are equal exactly if their numbers are.
     pub fn equality()
-        ensures { IsThatOf ⟦<Outside<T, MIN, MAX> as PartialEq>⟧.eq (λ it. it.value) T.eq }
+        ensures { IsThatOf ⟦<Outside<T, A, B> as PartialEq>⟧.eq (λ it. it.value) T.eq }
     {}
 }
 
-impl<T: WholeNumber + Deserialize, const MIN: i64, const MAX: i64> Constrained for Outside<T, MIN, MAX> {
+impl<T: WholeNumber + Deserialize, A: Bound, B: Bound> Constrained for Outside<T, A, B> {
     type Of = T;
 
     ghost unconstrained = { λ it. it.value };
 
-    ghost allows = { λ value. not (is_between MIN MAX (T.number value)) };
+    ghost allows = { λ value. not (is_between A.bound B.bound (T.number value)) };
 
-    fn constrain(value: T) -> Option<Outside<T, MIN, MAX>> {
+    fn constrain(value: T) -> Option<Outside<T, A, B>> {
         Outside::new(value)
     }
 
     ghost kept = { λ it. ap not it.allowed };
 
-    ghost determined = { λ x y e. ap (λ z. not (is_between MIN MAX z)) (T.determined x y e) };
+    ghost determined = { λ x y e. ap (λ z. not (is_between A.bound B.bound z)) (T.determined x y e) };
 }
 
-impl<T: WholeNumber, const MIN: i64, const MAX: i64> Serialize for Outside<T, MIN, MAX> {
+impl<T: WholeNumber, A: Bound, B: Bound> Serialize for Outside<T, A, B> {
     ghost meaning = { λ it. T.meaning it.value };
 
     fn serialize<W: WriteExt>(&self, serializer: &mut Serializer<W>) -> Result<usize> {
@@ -93,47 +109,46 @@ impl<T: WholeNumber, const MIN: i64, const MAX: i64> Serialize for Outside<T, MI
     }
 }
 
-
-impl<T: WholeNumber + Deserialize, const MIN: i64, const MAX: i64> Deserialize for Outside<T, MIN, MAX> {
+impl<T: WholeNumber + Deserialize, A: Bound, B: Bound> Deserialize for Outside<T, A, B> {
     ghost shape = { T.shape };
 
     ghost facts = { tested_part_facts T.facts T.meaning T.eq (λ it. it.value) };
 
     ghost proved = { Prim.assumption };
 
-    fn deserialize<R: ReadExt>(deserializer: &mut Deserializer<R>) -> Result<Outside<T, MIN, MAX>>
+    fn deserialize<R: ReadExt>(deserializer: &mut Deserializer<R>) -> Result<Outside<T, A, B>>
         ensures ok { IfOk result (λ it. Reads T.shape deserializer.old deserializer.new
             (T.meaning it.value)) }
-        ensures err { IfErr result (Refuses ⟦<Outside<T, MIN, MAX> as Serialize>⟧.meaning T.shape
+        ensures err { IfErr result (Refuses ⟦<Outside<T, A, B> as Serialize>⟧.meaning T.shape
             deserializer.old deserializer.new) }
         ensures refused { IfErr result (RefusesConstrained T.meaning T.shape
-            (λ value. not (is_between MIN MAX (T.number value))) deserializer.old deserializer.new) }
+            (λ value. not (is_between A.bound B.bound (T.number value))) deserializer.old deserializer.new) }
         ensures refused_by { IfErr result (RefusesBy (tested_rule T.meaning T.shape
-            ⟦<Outside<T, MIN, MAX> as Constrained>⟧.unconstrained T.facts.rule) deserializer.old deserializer.new) }
+            ⟦<Outside<T, A, B> as Constrained>⟧.unconstrained T.facts.rule) deserializer.old deserializer.new) }
     {
         deserialize_constrained_as(deserializer)
     }
 }
 
-impl<T: WholeNumber + Begins, const MIN: i64, const MAX: i64> Begins for Outside<T, MIN, MAX> {
+impl<T: WholeNumber + Begins, A: Bound, B: Bound> Begins for Outside<T, A, B> {
     fn begins_with(tag: Tag) -> bool {
         T::begins_with(tag)
     }
 }
 
-impl<T: Notated + WholeNumber, const MIN: i64, const MAX: i64> Notated for Outside<T, MIN, MAX> {
-    ghost notation = { Notation.outside MIN MAX T.notation };
+impl<T: Notated + WholeNumber, A: Bound, B: Bound> Notated for Outside<T, A, B> {
+    ghost notation = { Notation.outside A.bound B.bound T.notation };
 
     ghost denoted = { T.denoted };
 }
 
-impl<T: ExactNumber, const MIN: i64, const MAX: i64> Exact for Outside<T, MIN, MAX> {
-    ghost values = { outside_values T.values T.notation T.meaning (λ it. it.value) MIN MAX T.numbered T.number (λ it. it.allowed) (λ x e. (record { value = x; allowed = e }, refl)) };
+impl<T: ExactNumber, A: Bound, B: Bound> Exact for Outside<T, A, B> {
+    ghost values = { outside_values T.values T.notation T.meaning (λ it. it.value) A.bound B.bound T.numbered T.number (λ it. it.allowed) (λ x e. (record { value = x; least = record {}; most = record {}; allowed = e }, refl)) };
 
     ghost exact = { Prim.assumption };
 }
 
-impl<T: WholeNumber, const MIN: i64, const MAX: i64> WholeNumber for Outside<T, MIN, MAX> {
+impl<T: WholeNumber, A: Bound, B: Bound> WholeNumber for Outside<T, A, B> {
     ghost number = { λ it. T.number it.value };
 
     fn is_at_least(&self, least: i128) -> bool {
@@ -147,14 +162,13 @@ impl<T: WholeNumber, const MIN: i64, const MAX: i64> WholeNumber for Outside<T, 
     ghost determined = { λ x y e. T.determined x.value y.value e };
 }
 
-impl<T: ExactNumber, const MIN: i64, const MAX: i64> ExactNumber for Outside<T, MIN, MAX> {
+impl<T: ExactNumber, A: Bound, B: Bound> ExactNumber for Outside<T, A, B> {
     ghost numbered = { numbered_by T.numbered T.number T.meaning (λ it. it.value) };
 
     ghost exact_number = { Prim.assumption };
 }
 
-
-impl<T: Faithful + WholeNumber, const MIN: i64, const MAX: i64> Faithful for Outside<T, MIN, MAX> {
+impl<T: Faithful + WholeNumber, A: Bound, B: Bound> Faithful for Outside<T, A, B> {
     ghost sameness = { newtype_sameness T.sameness T.eq T.meaning (λ it. it.value) };
 
     ghost respects = { Prim.assumption };

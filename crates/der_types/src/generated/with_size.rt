@@ -67,7 +67,8 @@ impl<T: Size + PartialEq, const MIN: usize, const MAX: usize> WithSize<T, MIN, M
     {}
 }
 
-impl<T: Size + Deserialize, const MIN: usize, const MAX: usize> Constrained for WithSize<T, MIN, MAX> {
+impl<T: Size + Deserialize, const MIN: usize, const MAX: usize> Constrained
+    for WithSize<T, MIN, MAX> {
     type Of = T;
 
     ghost unconstrained = { λ it. it.value };
@@ -95,8 +96,8 @@ impl<T: Size + List, const MIN: usize, const MAX: usize> List for WithSize<T, MI
     ghost is_list = { λ it. T.is_list it.value };
 }
 
-
-impl<T: Size + Deserialize, const MIN: usize, const MAX: usize> Deserialize for WithSize<T, MIN, MAX> {
+impl<T: Size + Deserialize, const MIN: usize, const MAX: usize> Deserialize
+    for WithSize<T, MIN, MAX> {
     ghost shape = { T.shape };
 
     ghost facts = { tested_part_facts T.facts T.meaning T.eq (λ it. it.value) };
