@@ -30,6 +30,8 @@ pub mod ExactMembers
 pub mod ExactTimes
 pub mod GeneralizedTimeLaws
 pub mod GeneralizedTimes
+pub mod IntegerOrder
+pub mod IntegerOrderLaws
 pub mod MadeValues
 pub mod Names
 pub mod Notation

@@ -4,6 +4,7 @@
 mod arcs;
 mod arrays;
 mod bit_string;
+mod bit_texts;
 mod bits;
 mod character_set;
 mod characters;
@@ -41,6 +42,9 @@ mod size;
 mod subidentifiers;
 mod time;
 mod time_contents;
+mod time_conversions;
+mod time_error;
+mod time_texts;
 mod utc_time;
 mod whole_number;
 mod width;
@@ -80,10 +84,11 @@ pub use restricted_string::{
     TeletexString, UniversalString, VisibleString,
 };
 pub use set::{Asn1Set, ImplicitSet, TagOrdered};
-pub use size::Size;
+pub use size::{CopiedSize, Size};
 pub use subidentifiers::is_subidentifiers;
 pub use time::Time;
 pub use time_contents::{is_generalized_time, is_utc_time};
+pub use time_error::TimeError;
 pub use utc_time::UtcTime;
-pub use whole_number::WholeNumber;
+pub use whole_number::{CopiedNumber, WholeNumber};
 pub use width::Width;

@@ -10,16 +10,20 @@ ghost use Rattle.der_types.specs.ExactConstraints.{in_range_values};
 ghost use Rattle.der_types.specs.Notation.{Notation};
 ghost use Rattle.der_types.specs.Sameness.{newtype_sameness};
 
-use crate::{Constrained, Exact, ExactNumber, Notated, WholeNumber, deserialize_constrained_as};
+use crate::{
+    Constrained, CopiedNumber, Exact, ExactNumber, Notated, WholeNumber, deserialize_constrained_as,
+};
 use picky_der_core::Result;
 use picky_der_core::asn1::Tag;
 use picky_der_core::misc::{ReadExt, WriteExt};
 use picky_der_de::{Begins, Deserialize, Deserializer, Faithful};
 use picky_der_ser::{Serialize, Serializer};
+use std::alloc::AllocError;
+use std::fmt;
 
 /// A number from `MIN` to `MAX`, as in `INTEGER (MIN..MAX)` (X.680, 51.4). It is encoded as the number. For a range that begins below zero,
 /// implement `Constrained`.
-#[derive(Debug, Drop, PartialEq, Eq)]
+#[derive(Drop, PartialEq, Eq, PartialOrd, Ord, Hash)]
 pub struct InRange<T: WholeNumber, const MIN: u64, const MAX: u64> {
     value: T,
     ghost allowed: { is_between MIN MAX (T.number value) ≡ true },
@@ -55,6 +59,51 @@ impl<T: WholeNumber, const MIN: u64, const MAX: u64> InRange<T, MIN, MAX> {
     {
         let InRange { value } = self;
         value
+    }
+}
+
+/// Gives the number back if it isn't from `MIN` to `MAX`.
+impl<T: WholeNumber, const MIN: u64, const MAX: u64> TryFrom<T> for InRange<T, MIN, MAX> {
+    type Error = T;
+
+    ghost try_from_gives = { λ value made. IfOk made (λ it. it.value ≡ value)
+        × IfErr made (λ back. (back ≡ value) × (is_between MIN MAX (T.number value) ≡ false)) };
+
+    fn try_from(value: T) -> std::result::Result<InRange<T, MIN, MAX>, T> {
+        if value.is_between(MIN, MAX) {
+            Ok(InRange { value })
+        } else {
+            Err(value)
+        }
+    }
+}
+
+impl<T: CopiedNumber, const MIN: u64, const MAX: u64> Clone for InRange<T, MIN, MAX> {
+    ghost is_clone = { λ x y. T.is_clone x.value y.value };
+
+    fn clone(&self) -> std::result::Result<InRange<T, MIN, MAX>, AllocError> {
+        let value = self.value.clone()?;
+        Ok(InRange { value })
+    }
+}
+
+/// It prints as the number.
+impl<T: WholeNumber + fmt::Debug, const MIN: u64, const MAX: u64> fmt::Debug
+    for InRange<T, MIN, MAX> {
+    ghost debug_output = { λ it. T.debug_output it.value };
+
+    fn fmt<W: fmt::Write>(&self, f: &mut fmt::Formatter<W>) -> fmt::Result {
+        self.value.fmt(f)
+    }
+}
+
+/// It prints as the number.
+impl<T: WholeNumber + fmt::Display, const MIN: u64, const MAX: u64> fmt::Display
+    for InRange<T, MIN, MAX> {
+    ghost output = { λ it. T.output it.value };
+
+    fn fmt<W: fmt::Write>(&self, f: &mut fmt::Formatter<W>) -> fmt::Result {
+        self.value.fmt(f)
     }
 }
 

@@ -10,18 +10,22 @@ ghost use Rattle.der_types.specs.ExactConstraints.{other_than_values};
 ghost use Rattle.der_types.specs.Notation.{Notation};
 ghost use Rattle.der_types.specs.Sameness.{newtype_sameness};
 
-use crate::{Constrained, Exact, ExactNumber, Notated, WholeNumber, deserialize_constrained_as};
+use crate::{
+    Constrained, CopiedNumber, Exact, ExactNumber, Notated, WholeNumber, deserialize_constrained_as,
+};
 use picky_der_core::Result;
 use picky_der_core::asn1::Tag;
 use picky_der_core::misc::{ReadExt, WriteExt};
 use picky_der_de::{Begins, Deserialize, Deserializer, Faithful};
 use picky_der_ser::{Serialize, Serializer};
+use std::alloc::AllocError;
+use std::fmt;
 
 /// A number other than `N`. It is encoded as the number.
 ///
 /// For a member `version INTEGER DEFAULT 0` use `Option<OtherThan<Integer, 0>>`. `None` is the default, which is never written (X.690,
 /// 11.5).
-#[derive(Debug, Drop, PartialEq, Eq)]
+#[derive(Drop, PartialEq, Eq, PartialOrd, Ord, Hash)]
 pub struct OtherThan<T: WholeNumber, const N: u64> {
     value: T,
     ghost allowed: { is_between N N (T.number value) ≡ false },
@@ -57,6 +61,49 @@ impl<T: WholeNumber, const N: u64> OtherThan<T, N> {
     {
         let OtherThan { value } = self;
         value
+    }
+}
+
+/// Gives the number back if it is `N`.
+impl<T: WholeNumber, const N: u64> TryFrom<T> for OtherThan<T, N> {
+    type Error = T;
+
+    ghost try_from_gives = { λ value made. IfOk made (λ it. it.value ≡ value)
+        × IfErr made (λ back. (back ≡ value) × (is_between N N (T.number value) ≡ true)) };
+
+    fn try_from(value: T) -> std::result::Result<OtherThan<T, N>, T> {
+        if value.is_between(N, N) {
+            Err(value)
+        } else {
+            Ok(OtherThan { value })
+        }
+    }
+}
+
+impl<T: CopiedNumber, const N: u64> Clone for OtherThan<T, N> {
+    ghost is_clone = { λ x y. T.is_clone x.value y.value };
+
+    fn clone(&self) -> std::result::Result<OtherThan<T, N>, AllocError> {
+        let value = self.value.clone()?;
+        Ok(OtherThan { value })
+    }
+}
+
+/// It prints as the number.
+impl<T: WholeNumber + fmt::Debug, const N: u64> fmt::Debug for OtherThan<T, N> {
+    ghost debug_output = { λ it. T.debug_output it.value };
+
+    fn fmt<W: fmt::Write>(&self, f: &mut fmt::Formatter<W>) -> fmt::Result {
+        self.value.fmt(f)
+    }
+}
+
+/// It prints as the number.
+impl<T: WholeNumber + fmt::Display, const N: u64> fmt::Display for OtherThan<T, N> {
+    ghost output = { λ it. T.output it.value };
+
+    fn fmt<W: fmt::Write>(&self, f: &mut fmt::Formatter<W>) -> fmt::Result {
+        self.value.fmt(f)
     }
 }
 

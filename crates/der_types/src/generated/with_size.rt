@@ -10,15 +10,17 @@ ghost use Rattle.der_types.specs.ExactConstraints.{sized_values};
 ghost use Rattle.der_types.specs.Notation.{Notation};
 ghost use Rattle.der_types.specs.Sameness.{newtype_sameness};
 
-use crate::{Constrained, Exact, ExactSize, Notated, Size, deserialize_constrained_as};
+use crate::{Constrained, CopiedSize, Exact, ExactSize, Notated, Size, deserialize_constrained_as};
 use picky_der_core::Result;
 use picky_der_core::asn1::Tag;
 use picky_der_core::misc::{ReadExt, WriteExt};
 use picky_der_de::{Begins, Deserialize, Deserializer, Faithful};
 use picky_der_ser::{List, Serialize, Serializer};
+use std::alloc::AllocError;
+use std::fmt;
 
 /// A value whose size is from `MIN` to `MAX`, as in `SIZE (MIN..MAX)` (X.680, 51.5). It is encoded as the value.
-#[derive(Debug, Drop, PartialEq, Eq)]
+#[derive(Drop, PartialEq, Eq, PartialOrd, Ord, Hash)]
 pub struct WithSize<T: Size, const MIN: usize, const MAX: usize> {
     value: T,
     ghost allowed: { is_size MIN MAX (T.size value) ≡ true },
@@ -55,6 +57,52 @@ impl<T: Size, const MIN: usize, const MAX: usize> WithSize<T, MIN, MAX> {
     {
         let WithSize { value } = self;
         value
+    }
+}
+
+/// Gives the value back if its size isn't from `MIN` to `MAX`.
+impl<T: Size, const MIN: usize, const MAX: usize> TryFrom<T> for WithSize<T, MIN, MAX> {
+    type Error = T;
+
+    ghost try_from_gives = { λ value made. IfOk made (λ it. it.value ≡ value)
+        × IfErr made (λ back. (back ≡ value) × (is_size MIN MAX (T.size value) ≡ false)) };
+
+    fn try_from(value: T) -> std::result::Result<WithSize<T, MIN, MAX>, T> {
+        let size = value.size();
+        if MIN as u128 <= size && size <= MAX as u128 {
+            Ok(WithSize { value })
+        } else {
+            Err(value)
+        }
+    }
+}
+
+impl<T: CopiedSize, const MIN: usize, const MAX: usize> Clone for WithSize<T, MIN, MAX> {
+    ghost is_clone = { λ x y. T.is_clone x.value y.value };
+
+    fn clone(&self) -> std::result::Result<WithSize<T, MIN, MAX>, AllocError> {
+        let value = self.value.clone()?;
+        Ok(WithSize { value })
+    }
+}
+
+/// It prints as the value.
+impl<T: Size + fmt::Debug, const MIN: usize, const MAX: usize> fmt::Debug
+    for WithSize<T, MIN, MAX> {
+    ghost debug_output = { λ it. T.debug_output it.value };
+
+    fn fmt<W: fmt::Write>(&self, f: &mut fmt::Formatter<W>) -> fmt::Result {
+        self.value.fmt(f)
+    }
+}
+
+/// It prints as the value.
+impl<T: Size + fmt::Display, const MIN: usize, const MAX: usize> fmt::Display
+    for WithSize<T, MIN, MAX> {
+    ghost output = { λ it. T.output it.value };
+
+    fn fmt<W: fmt::Write>(&self, f: &mut fmt::Formatter<W>) -> fmt::Result {
+        self.value.fmt(f)
     }
 }
 
