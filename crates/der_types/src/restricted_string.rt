@@ -115,7 +115,9 @@ impl<S: CharacterSet> fmt::Debug for RestrictedString<S> {
         let mut rest = self.content.as_slice();
         while let Some((code, after)) = split_character(width, rest) {
             match char::from_u32(code) {
-                Some(shown @ (' ' | '!' | '#'..='[' | ']'..='~')) => f.write_char(shown)?,
+                Some(shown) if matches!(shown, ' ' | '!' | '#'..='[' | ']'..='~') => {
+                    f.write_char(shown)?
+                }
                 _ => write!(f, "\\u{{{code:x}}}")?,
             }
             rest = after;

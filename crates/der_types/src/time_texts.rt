@@ -17,7 +17,7 @@ fn write_characters<W: fmt::Write>(bytes: &[u8], f: &mut fmt::Formatter<W>) -> f
 /// It prints as its date and time with its fraction, as `2026-11-27T23:12:00.5Z`.
 impl fmt::Display for GeneralizedTime {
     fn fmt<W: fmt::Write>(&self, f: &mut fmt::Formatter<W>) -> fmt::Result {
-        let content = self.content.as_slice();
+        let content = self.content();
         write_characters(&content[..4], f)?;
         f.write_char('-')?;
         write_characters(&content[4..6], f)?;
