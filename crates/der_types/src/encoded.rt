@@ -82,8 +82,10 @@ impl<T: Deserialize> Clone for Encoded<T> {
     ghost is_clone = { λ x y. y.encoding.0.items ≡ x.encoding.0.items };
 
     fn clone(&self) -> std::result::Result<Encoded<T>, AllocError> {
-        let bytes = self.encoding.0.clone()?;
-        match Encoded::from_encoding(Asn1RawDer(bytes)) {
+        let Ok(encoding) = self.encoding.clone() else {
+            return Err(AllocError);
+        };
+        match Encoded::from_encoding(encoding) {
             Ok(copy) => Ok(copy),
             Err(_) => Err(AllocError),
         }
