@@ -15,7 +15,7 @@ ghost use Rattle.der_types.specs.ExactConstraints.{$exact_values};
 ghost use Rattle.der_types.specs.Notation.{Notation};
 ghost use Rattle.der_types.specs.Sameness.{newtype_sameness};
 
-use crate::{Constrained, $copied, Exact, $uses, deserialize_constrained_as};
+use crate::{Constrained, Exact, $uses, deserialize_constrained_as};
 use picky_der_core::Result;
 use picky_der_core::asn1::Tag;
 use picky_der_core::misc::{ReadExt, WriteExt};
@@ -80,12 +80,16 @@ $first        if $code {
     }
 }
 
-impl<T: $copied, $parameters> Clone for $type {
+/// It has a copy of the $value. A copy that the bounds don't allow, which no type of this library makes, counts as a failed
+/// allocation.
+impl<T: $of + Clone, $parameters> Clone for $type {
     ghost is_clone = { λ x y. T.is_clone x.value y.value };
 
     fn clone(&self) -> std::result::Result<$type, AllocError> {
-        let value = self.value.clone()?;
-        Ok($name { value })
+        match Self::new(self.value.clone()?) {
+            Some(copy) => Ok(copy),
+            None => Err(AllocError),
+        }
     }
 }
 
@@ -183,9 +187,8 @@ impl<T: Faithful + $of, $parameters> Faithful for $type {
 }
 """
 
-# what a constraint measures: the trait that says it of exact types, what such a type states, the measure, and the trait of types
-# whose copies keep it
-MEASURES = {"Size": ("ExactSize", "sized", "size", "CopiedSize"), "WholeNumber": ("ExactNumber", "numbered", "number", "CopiedNumber")}
+# what a constraint measures: the trait that says it of exact types, what such a type states, and the measure
+MEASURES = {"Size": ("ExactSize", "sized", "size"), "WholeNumber": ("ExactNumber", "numbered", "number")}
 
 LIST = """
 impl<T: $of + List, $parameters> List for $type {
@@ -206,7 +209,7 @@ def words_of(row: Constraint) -> dict[str, str]:
         "name": row.name,
         "type": f"{row.name}<{', '.join(['T', *names])}>",
         "of": row.of,
-        **dict(zip(("exact", "stated", "measure", "copied"), MEASURES[row.of])),
+        **dict(zip(("exact", "stated", "measure"), MEASURES[row.of])),
         "uses": ", ".join(sorted([MEASURES[row.of][0], "Notated", row.of])),
         "parameters": ", ".join(f"const {name}: {kind}" for name, kind in row.parameters),
         "doc": "\n".join(f"/// {line}".rstrip() for line in row.doc.split("\n")),

@@ -70,10 +70,6 @@ impl WholeNumber for $name {
 
     ghost determined = { λ x y e. ap pos (unsigned_tree-same (2 ^ $bits - 1) x y e) };
 }
-
-impl CopiedNumber for $name {
-    ghost copied = { λ x y same. ap pos same };
-}
 """
 
 # a number is compared with the bounds in the wider one of its type and `u64`, that of the bounds
@@ -108,7 +104,7 @@ def notated_numbers() -> Lines:
         "ghost use Rattle.der_types.specs.ExactDefaults.{number_default, signed_default};",
         "ghost use Rattle.der_types.specs.Notation.{Notation};",
         "",
-        "use crate::{CopiedNumber, Exact, ExactDefault, ExactNumber, Notated, NotatedDefault, WholeNumber};",
+        "use crate::{Exact, ExactDefault, ExactNumber, Notated, NotatedDefault, WholeNumber};",
         "use picky_der_ser::{Number, SignedNumber};",
         "",
         *each(UNSIGNED_TYPE, [*UNSIGNED, USIZE]),

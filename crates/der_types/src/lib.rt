@@ -84,11 +84,11 @@ pub use restricted_string::{
     TeletexString, UniversalString, VisibleString,
 };
 pub use set::{Asn1Set, ImplicitSet, TagOrdered};
-pub use size::{CopiedSize, Size};
+pub use size::Size;
 pub use subidentifiers::is_subidentifiers;
 pub use time::Time;
 pub use time_contents::{is_generalized_time, is_utc_time};
 pub use time_error::TimeError;
 pub use utc_time::UtcTime;
-pub use whole_number::{CopiedNumber, WholeNumber};
+pub use whole_number::WholeNumber;
 pub use width::Width;

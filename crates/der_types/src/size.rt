@@ -1,8 +1,6 @@
 //! The sizes of values.
-ghost use Rattle.std.proofs.Common.{ap, rules};
-ghost use Rattle.std.proofs.lemmas.Slice.Zip.{AllZip-long};
+ghost use Rattle.std.proofs.Common.{ap};
 ghost use Rattle.std.specs.Prelude.{◌≡◌, ℕ, length, chars, string_bytes};
-ghost use Rattle.std.specs.List.{AllZip};
 ghost use Rattle.picky_der_core.specs.Tree.{ListKind};
 ghost use Rattle.der_types.specs.BitString.{bits_of};
 ghost use Rattle.der_types.specs.CharacterStrings.{characters};
@@ -27,12 +25,6 @@ pub trait Size: Serialize {
     ghost determined: { (x y : Self) → Self.meaning x ≡ Self.meaning y → size x ≡ size y };
 }
 
-/// A type whose copies have the size of the value, so that a copy keeps a bound on it.
-pub trait CopiedSize: Size + Clone {
-    // A copy has the same size.
-    ghost copied: { (x y : Self) → Self.is_clone x y → Self.size y ≡ Self.size x };
-}
-
 // How many characters a text has.
 fn char_count(text: &str) -> usize
     ensures { result ≡ length (chars text.now) }
@@ -50,10 +42,6 @@ impl Size for BitString {
     ghost determined = { λ x y e. ap (λ t. length (bits_of (tree_bytes t))) e };
 }
 
-impl CopiedSize for BitString {
-    ghost copied = { λ x y same. ap (λ bs. length (bits_of bs)) same };
-}
-
 impl Size for ByteBuf {
     ghost size = { λ it. length it.0.items };
 
@@ -62,10 +50,6 @@ impl Size for ByteBuf {
     }
 
     ghost determined = { λ x y e. ap (λ t. length (tree_bytes t)) e };
-}
-
-impl CopiedSize for ByteBuf {
-    ghost copied = { λ x y same. let copy : y.0.items ≡ x.0.items = Prim.search rules in ap length copy };
 }
 
 impl Size for String {
@@ -78,10 +62,6 @@ impl Size for String {
     ghost determined = { λ x y e. ap (λ t. length (chars (tree_bytes t))) e };
 }
 
-impl CopiedSize for String {
-    ghost copied = { λ x y same. ap (λ bs. length (chars bs)) same };
-}
-
 impl<S: CharacterSet> Size for RestrictedString<S> {
     ghost size = { λ it. length (characters S.WIDTH it.content.items) };
 
@@ -90,10 +70,6 @@ impl<S: CharacterSet> Size for RestrictedString<S> {
     }
 
     ghost determined = { λ x y e. ap (λ t. length (characters S.WIDTH (tree_bytes t))) e };
-}
-
-impl<S: CharacterSet> CopiedSize for RestrictedString<S> {
-    ghost copied = { λ x y same. ap (λ bs. length (characters S.WIDTH bs)) same };
 }
 
 // It is a string of characters of one byte each (X.680, 46.3).
@@ -107,10 +83,6 @@ impl Size for GeneralizedTime {
     ghost determined = { λ x y e. ap (λ t. length (tree_bytes t)) e };
 }
 
-impl CopiedSize for GeneralizedTime {
-    ghost copied = { λ x y same. ap length same };
-}
-
 impl<T: Serialize> Size for Vec<T> {
     ghost size = { λ it. length it.items };
 
@@ -119,10 +91,6 @@ impl<T: Serialize> Size for Vec<T> {
     }
 
     ghost determined = { λ x y e. same_length ListKind.sequence T.meaning x.items y.items e };
-}
-
-impl<T: Serialize + Clone> CopiedSize for Vec<T> {
-    ghost copied = { λ x y same. AllZip-long T.is_clone x.items y.items same.0 };
 }
 
 impl<T: Serialize> Size for Asn1SequenceOf<T> {
@@ -135,10 +103,6 @@ impl<T: Serialize> Size for Asn1SequenceOf<T> {
     ghost determined = { λ x y e. same_length ListKind.sequence T.meaning x.0.items y.0.items e };
 }
 
-impl<T: Serialize + Clone> CopiedSize for Asn1SequenceOf<T> {
-    ghost copied = { λ x y same. let copies : AllZip T.is_clone x.0.items y.0.items = Prim.search rules in AllZip-long T.is_clone x.0.items y.0.items copies };
-}
-
 impl<T: Serialize> Size for Asn1SetOf<T> {
     ghost size = { λ it. length it.0.items };
 
@@ -147,8 +111,4 @@ impl<T: Serialize> Size for Asn1SetOf<T> {
     }
 
     ghost determined = { λ x y e. same_length ListKind.set T.meaning x.0.items y.0.items e };
-}
-
-impl<T: Serialize + Clone> CopiedSize for Asn1SetOf<T> {
-    ghost copied = { λ x y same. let copies : AllZip T.is_clone x.0.items y.0.items = Prim.search rules in AllZip-long T.is_clone x.0.items y.0.items copies };
 }

@@ -10,9 +10,7 @@ ghost use Rattle.der_types.specs.ExactConstraints.{in_range_values};
 ghost use Rattle.der_types.specs.Notation.{Notation};
 ghost use Rattle.der_types.specs.Sameness.{newtype_sameness};
 
-use crate::{
-    Constrained, CopiedNumber, Exact, ExactNumber, Notated, WholeNumber, deserialize_constrained_as,
-};
+use crate::{Constrained, Exact, ExactNumber, Notated, WholeNumber, deserialize_constrained_as};
 use picky_der_core::Result;
 use picky_der_core::asn1::Tag;
 use picky_der_core::misc::{ReadExt, WriteExt};
@@ -78,12 +76,16 @@ impl<T: WholeNumber, const MIN: u64, const MAX: u64> TryFrom<T> for InRange<T, M
     }
 }
 
-impl<T: CopiedNumber, const MIN: u64, const MAX: u64> Clone for InRange<T, MIN, MAX> {
+/// It has a copy of the number. A copy that the bounds don't allow, which no type of this library makes, counts as a failed
+/// allocation.
+impl<T: WholeNumber + Clone, const MIN: u64, const MAX: u64> Clone for InRange<T, MIN, MAX> {
     ghost is_clone = { λ x y. T.is_clone x.value y.value };
 
     fn clone(&self) -> std::result::Result<InRange<T, MIN, MAX>, AllocError> {
-        let value = self.value.clone()?;
-        Ok(InRange { value })
+        match Self::new(self.value.clone()?) {
+            Some(copy) => Ok(copy),
+            None => Err(AllocError),
+        }
     }
 }
 

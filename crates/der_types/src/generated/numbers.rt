@@ -11,7 +11,7 @@ ghost use Rattle.der_types.specs.ExactContents.{signed_values, unsigned_values};
 ghost use Rattle.der_types.specs.ExactDefaults.{number_default, signed_default};
 ghost use Rattle.der_types.specs.Notation.{Notation};
 
-use crate::{CopiedNumber, Exact, ExactDefault, ExactNumber, Notated, NotatedDefault, WholeNumber};
+use crate::{Exact, ExactDefault, ExactNumber, Notated, NotatedDefault, WholeNumber};
 use picky_der_ser::{Number, SignedNumber};
 
 impl Notated for u8 {
@@ -325,10 +325,6 @@ impl WholeNumber for u8 {
     ghost determined = { λ x y e. ap pos (unsigned_tree-same (2 ^ 8 - 1) x y e) };
 }
 
-impl CopiedNumber for u8 {
-    ghost copied = { λ x y same. ap pos same };
-}
-
 impl WholeNumber for u16 {
     ghost number = { pos };
 
@@ -338,10 +334,6 @@ impl WholeNumber for u16 {
     }
 
     ghost determined = { λ x y e. ap pos (unsigned_tree-same (2 ^ 16 - 1) x y e) };
-}
-
-impl CopiedNumber for u16 {
-    ghost copied = { λ x y same. ap pos same };
 }
 
 impl WholeNumber for u32 {
@@ -355,10 +347,6 @@ impl WholeNumber for u32 {
     ghost determined = { λ x y e. ap pos (unsigned_tree-same (2 ^ 32 - 1) x y e) };
 }
 
-impl CopiedNumber for u32 {
-    ghost copied = { λ x y same. ap pos same };
-}
-
 impl WholeNumber for u64 {
     ghost number = { pos };
 
@@ -367,10 +355,6 @@ impl WholeNumber for u64 {
     }
 
     ghost determined = { λ x y e. ap pos (unsigned_tree-same (2 ^ 64 - 1) x y e) };
-}
-
-impl CopiedNumber for u64 {
-    ghost copied = { λ x y same. ap pos same };
 }
 
 impl WholeNumber for u128 {
@@ -383,10 +367,6 @@ impl WholeNumber for u128 {
     ghost determined = { λ x y e. ap pos (unsigned_tree-same (2 ^ 128 - 1) x y e) };
 }
 
-impl CopiedNumber for u128 {
-    ghost copied = { λ x y same. ap pos same };
-}
-
 impl WholeNumber for usize {
     ghost number = { pos };
 
@@ -396,8 +376,4 @@ impl WholeNumber for usize {
     }
 
     ghost determined = { λ x y e. ap pos (unsigned_tree-same (2 ^ 64 - 1) x y e) };
-}
-
-impl CopiedNumber for usize {
-    ghost copied = { λ x y same. ap pos same };
 }

@@ -10,9 +10,7 @@ ghost use Rattle.der_types.specs.ExactConstraints.{other_than_values};
 ghost use Rattle.der_types.specs.Notation.{Notation};
 ghost use Rattle.der_types.specs.Sameness.{newtype_sameness};
 
-use crate::{
-    Constrained, CopiedNumber, Exact, ExactNumber, Notated, WholeNumber, deserialize_constrained_as,
-};
+use crate::{Constrained, Exact, ExactNumber, Notated, WholeNumber, deserialize_constrained_as};
 use picky_der_core::Result;
 use picky_der_core::asn1::Tag;
 use picky_der_core::misc::{ReadExt, WriteExt};
@@ -80,12 +78,16 @@ impl<T: WholeNumber, const N: u64> TryFrom<T> for OtherThan<T, N> {
     }
 }
 
-impl<T: CopiedNumber, const N: u64> Clone for OtherThan<T, N> {
+/// It has a copy of the number. A copy that the bounds don't allow, which no type of this library makes, counts as a failed
+/// allocation.
+impl<T: WholeNumber + Clone, const N: u64> Clone for OtherThan<T, N> {
     ghost is_clone = { λ x y. T.is_clone x.value y.value };
 
     fn clone(&self) -> std::result::Result<OtherThan<T, N>, AllocError> {
-        let value = self.value.clone()?;
-        Ok(OtherThan { value })
+        match Self::new(self.value.clone()?) {
+            Some(copy) => Ok(copy),
+            None => Err(AllocError),
+        }
     }
 }
 

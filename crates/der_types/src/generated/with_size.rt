@@ -10,7 +10,7 @@ ghost use Rattle.der_types.specs.ExactConstraints.{sized_values};
 ghost use Rattle.der_types.specs.Notation.{Notation};
 ghost use Rattle.der_types.specs.Sameness.{newtype_sameness};
 
-use crate::{Constrained, CopiedSize, Exact, ExactSize, Notated, Size, deserialize_constrained_as};
+use crate::{Constrained, Exact, ExactSize, Notated, Size, deserialize_constrained_as};
 use picky_der_core::Result;
 use picky_der_core::asn1::Tag;
 use picky_der_core::misc::{ReadExt, WriteExt};
@@ -77,12 +77,16 @@ impl<T: Size, const MIN: usize, const MAX: usize> TryFrom<T> for WithSize<T, MIN
     }
 }
 
-impl<T: CopiedSize, const MIN: usize, const MAX: usize> Clone for WithSize<T, MIN, MAX> {
+/// It has a copy of the value. A copy that the bounds don't allow, which no type of this library makes, counts as a failed
+/// allocation.
+impl<T: Size + Clone, const MIN: usize, const MAX: usize> Clone for WithSize<T, MIN, MAX> {
     ghost is_clone = { λ x y. T.is_clone x.value y.value };
 
     fn clone(&self) -> std::result::Result<WithSize<T, MIN, MAX>, AllocError> {
-        let value = self.value.clone()?;
-        Ok(WithSize { value })
+        match Self::new(self.value.clone()?) {
+            Some(copy) => Ok(copy),
+            None => Err(AllocError),
+        }
     }
 }
 
