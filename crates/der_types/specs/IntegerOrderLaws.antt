@@ -21,8 +21,11 @@ pub integer_ties : (xs ys : List ℕ) → pointwise ◌==◌ xs ys ≡ is_eq (or
     (signed_length ys)) (slice_cmp nat_cmp xs ys))
 integer_ties xs ys =
     let ties : pointwise ◌==◌ xs ys ≡ is_eq (slice_cmp nat_cmp xs ys) = texts_ties xs ys in
-    let first : is_eq (slice_cmp nat_cmp xs ys) ≡ true → int_cmp (signed_length xs) (signed_length ys) ≡ Equal =
-    λ e. let same : xs ≡ ys = (bytes_decides xs ys).0 (ties ∙ e) in
-    ap (λ zs. int_cmp (signed_length xs) (signed_length zs)) (sym same) ∙ tied_itself int_cmp_total (signed_length xs)
-    in
-    ties ∙ sym (last_decides _ _ first)
+    ties ∙ sym (last_decides (int_cmp (signed_length xs) (signed_length ys)) (slice_cmp nat_cmp xs ys)
+    (λ e. same_lengths xs ys (ties ∙ e)))
+  where
+    same_lengths : (xs ys : List ℕ) → pointwise ◌==◌ xs ys ≡ true
+        → int_cmp (signed_length xs) (signed_length ys) ≡ Equal
+    same_lengths xs ys e =
+        ap (λ zs. int_cmp (signed_length xs) (signed_length zs)) (sym ((bytes_decides xs ys).0 e))
+        ∙ tied_itself int_cmp_total (signed_length xs)
