@@ -23,9 +23,11 @@ use picky_der_core::asn1::Tag;
 use picky_der_core::misc::{ReadExt, WriteExt};
 use picky_der_de::{Begins, Deserialize, Deserializer, Faithful};
 use picky_der_ser::{$list_use Serialize, Serializer};
+use std::alloc::AllocError;
+use std::fmt;
 
 $doc
-#[derive(Debug, Drop, PartialEq, Eq)]
+#[derive(Drop, PartialEq, Eq, PartialOrd, Ord, Hash)]
 pub struct $name<T: $of, $parameters> {
     value: T,
     ghost allowed: { $test_value ≡ $holds },
@@ -61,6 +63,53 @@ $first        if $code {
     {
         let $name { value } = self;
         value
+    }
+}
+
+/// Gives the $value back if $refused.
+impl<T: $of, $parameters> TryFrom<T> for $type {
+    type Error = T;
+
+    ghost try_from_gives = { λ value made. IfOk made (λ it. it.value ≡ value)
+        × IfErr made (λ back. (back ≡ value) × ($test_value ≡ $fails)) };
+
+    fn try_from(value: T) -> std::result::Result<$type, T> {
+$first        if $code {
+            $ok
+        } else {
+            $err
+        }
+    }
+}
+
+/// It has a copy of the $value. A copy that the bounds don't allow, which no type of this library makes, counts as a failed
+/// allocation.
+impl<T: $of + Clone, $parameters> Clone for $type {
+    ghost is_clone = { λ x y. T.is_clone x.value y.value };
+
+    fn clone(&self) -> std::result::Result<$type, AllocError> {
+        match Self::new(self.value.clone()?) {
+            Some(copy) => Ok(copy),
+            None => Err(AllocError),
+        }
+    }
+}
+
+/// It prints as the $value.
+impl<T: $of + fmt::Debug, $parameters> fmt::Debug for $type {
+    ghost debug_output = { λ it. T.debug_output it.value };
+
+    fn fmt<W: fmt::Write>(&self, f: &mut fmt::Formatter<W>) -> fmt::Result {
+        self.value.fmt(f)
+    }
+}
+
+/// It prints as the $value.
+impl<T: $of + fmt::Display, $parameters> fmt::Display for $type {
+    ghost output = { λ it. T.output it.value };
+
+    fn fmt<W: fmt::Write>(&self, f: &mut fmt::Formatter<W>) -> fmt::Result {
+        self.value.fmt(f)
     }
 }
 
@@ -182,21 +231,23 @@ def words_of(row: Constraint) -> dict[str, str]:
     """What the template names of a row. A test that has to fail is denied."""
     names = [name for name, _ in row.parameters]
     word = {True: "true", False: "false"}
-    exact, stated, measure = MEASURES[row.of]
-    some, none = f"Some({row.name} {{ value }})", "None"
+    # what `new` and `try_from` return, where the test in code holds and where it doesn't
+    returned = [(f"Some({row.name} {{ value }})", f"Ok({row.name} {{ value }})"), ("None", "Err(value)")]
+    then, other = returned if row.holds else returned[::-1]
     words = {
         "name": row.name,
         "type": f"{row.name}<{', '.join(['T', *names])}>",
         "of": row.of,
-        "uses": ", ".join(sorted([exact, "Notated", row.of])),
+        **dict(zip(("exact", "stated", "measure"), MEASURES[row.of])),
+        "uses": ", ".join(sorted([MEASURES[row.of][0], "Notated", row.of])),
         "parameters": ", ".join(f"const {name}: {kind}" for name, kind in row.parameters),
         "doc": "\n".join(f"/// {line}".rstrip() for line in row.doc.split("\n")),
         "value": row.value,
         "refused": row.refused,
         "code": row.code,
         "first": f"        {row.first}\n" if row.first else "",
-        "then": some if row.holds else none,
-        "else": none if row.holds else some,
+        **dict(zip(("then", "ok"), then)),
+        **dict(zip(("else", "err"), other)),
         "holds": word[row.holds],
         "fails": word[not row.holds],
         "kept": "it.allowed" if row.holds else "ap not it.allowed",
@@ -205,10 +256,7 @@ def words_of(row: Constraint) -> dict[str, str]:
         "list_use": "List," if row.is_list else "",
         "notation": row.notation,
         "bounds": row.bounds or " ".join(names),
-        "exact": exact,
         "exact_values": row.exact_values,
-        "stated": stated,
-        "measure": measure,
     }
     for key, value in (("test_value", "value"), ("test_now", "result.now"), ("test_result", "result")):
         words[key] = Template(row.test).substitute(value=value)

@@ -4,7 +4,7 @@ use crate::bits::{bits_of, octets};
 use crate::integers::Way;
 use crate::messages::trials::Task;
 use crate::outcomes::{made, read};
-use crate::{bounds, integers, messages, strings, times, usages};
+use crate::{bounds, integers, messages, strings, texts, times, usages};
 use der_types::{
     BitString, GeneralizedTime, NamedBits, ObjectIdentifier, RelativeOid, Time, UtcTime,
 };
@@ -25,6 +25,8 @@ use std::alloc::{AllocError, Global};
 /// | `usage NAMES`, `read-usage BYTES`, `usage-in BYTES` | key usages, the last one of a certificate |
 /// | `text TYPE NUMBERS`, `string TYPE BYTES`, `characters TYPE` | character strings |
 /// | `bounded TYPE BYTES` | a value within bounds |
+/// | `print TYPE BYTES` | what a copy prints as, what the value prints as for debugging, and whether both are equal |
+/// | `compare BYTES, BYTES` | how two INTEGERs are ordered |
 /// | `message TYPE BYTES` | how a message is read and written back |
 /// | `try TYPE BYTES` | the same with all prefixes and changes |
 /// | `signed TYPE BYTES` | the bytes that are signed |
@@ -54,6 +56,8 @@ fn of_content(alloc: Global, word: &str, rest: &str) -> Result<String, AllocErro
         "text" => strings::text(alloc, rest),
         "string" => strings::string(alloc, rest),
         "characters" => strings::characters(alloc, rest),
+        "print" => texts::print(alloc, rest),
+        "compare" => texts::compare(alloc, rest),
         "bounded" => bounds::bounded(alloc, rest),
         _ => of_bits(alloc, word, rest),
     }

@@ -32,6 +32,8 @@ pub mod ExactStrings
 pub mod ExactTimes
 pub mod GeneralizedTimeLaws
 pub mod GeneralizedTimes
+pub mod IntegerOrder
+pub mod IntegerOrderLaws
 pub mod MadeValues
 pub mod Names
 pub mod Notation

@@ -46,7 +46,7 @@ pub(crate) fn is_named_bits(bytes: &[u8]) -> bool
 }
 
 // The bit at this place of a byte. Place 0 is the highest bit.
-fn byte_bit(byte: u8, place: u8) -> bool
+pub(crate) fn byte_bit(byte: u8, place: u8) -> bool
     requires { place < 8 }
     ensures { result ≡ byte_bit byte place }
 {

@@ -15,7 +15,7 @@ use std::alloc::Global;
 
 /// A GeneralizedTime of RFC 5280 (4.1.2.5.2) where a UTCTime can't be: `YYYYMMDDHHMMSSZ`, a second of the years 2050 to
 /// 9999, without a fraction. Its order is that of time.
-#[derive(Debug, Clone, Copy, PartialEq, Eq, PartialOrd, Ord, Hash)]
+#[derive(Clone, Copy, PartialEq, Eq, PartialOrd, Ord, Hash)]
 pub struct LaterTime {
     at: DateTime,
     ghost later: { 2050 ≤ at.year },

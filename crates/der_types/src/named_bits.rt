@@ -11,7 +11,9 @@ use std::alloc::Global;
 ///
 /// Give the names as an enum of your own with the numbers of the bits, as `KeyCertSign = 5`. Then
 /// `bits.bit(Usage::KeyCertSign as usize)` is that flag.
-#[derive(Debug, Drop, PartialEq, Eq, Hash)]
+///
+/// It prints as its bits, as `'1011'B` (X.680, 12.10). Its order is that of the bytes of its content.
+#[derive(Drop, PartialEq, Eq, PartialOrd, Ord, Hash)]
 pub struct NamedBits {
     pub(crate) content: Vec<u8>,
     ghost canonical: { is_named_bits content.items ≡ true },

@@ -19,7 +19,8 @@ pub(crate) const INLINE: usize = 16;
 /// ends.
 ///
 /// It prints as its arcs with points between them, as `2.5.4.3`; an arc above `u64::MAX` prints as `(above 64 bits)`.
-#[derive(Debug, Drop, PartialEq, Eq, Hash)]
+/// Its order is that of the bytes of its content.
+#[derive(Drop, PartialEq, Eq, PartialOrd, Ord, Hash)]
 pub struct ObjectIdentifier {
     pub(crate) content: SmallVec<u8, INLINE>,
     ghost canonical: { is_object_identifier content.items ≡ true },

@@ -17,10 +17,12 @@ use picky_der_core::Result;
 use picky_der_core::asn1::Tag;
 use picky_der_core::misc::{ReadExt, WriteExt};
 use picky_der_de::{Begins, Deserialize, Deserializer, Faithful};
-use picky_der_ser::{ Serialize, Serializer};
+use picky_der_ser::{Serialize, Serializer};
+use std::alloc::AllocError;
+use std::fmt;
 
 /// A number of `MIN` or above, as in `INTEGER (0..MAX)`, where MAX says that there is no bound (X.680, 51.4). It is encoded as the number.
-#[derive(Debug, Drop, PartialEq, Eq)]
+#[derive(Drop, PartialEq, Eq, PartialOrd, Ord, Hash)]
 pub struct AtLeast<T: WholeNumber, const MIN: i64> {
     value: T,
     ghost allowed: { int_le MIN (T.number value) ≡ true },
@@ -59,6 +61,53 @@ impl<T: WholeNumber, const MIN: i64> AtLeast<T, MIN> {
     }
 }
 
+/// Gives the number back if it is below `MIN`.
+impl<T: WholeNumber, const MIN: i64> TryFrom<T> for AtLeast<T, MIN> {
+    type Error = T;
+
+    ghost try_from_gives = { λ value made. IfOk made (λ it. it.value ≡ value)
+        × IfErr made (λ back. (back ≡ value) × (int_le MIN (T.number value) ≡ false)) };
+
+    fn try_from(value: T) -> std::result::Result<AtLeast<T, MIN>, T> {
+        if value.is_at_least(i128::from(MIN)) {
+            Ok(AtLeast { value })
+        } else {
+            Err(value)
+        }
+    }
+}
+
+/// It has a copy of the number. A copy that the bounds don't allow, which no type of this library makes, counts as a failed
+/// allocation.
+impl<T: WholeNumber + Clone, const MIN: i64> Clone for AtLeast<T, MIN> {
+    ghost is_clone = { λ x y. T.is_clone x.value y.value };
+
+    fn clone(&self) -> std::result::Result<AtLeast<T, MIN>, AllocError> {
+        match Self::new(self.value.clone()?) {
+            Some(copy) => Ok(copy),
+            None => Err(AllocError),
+        }
+    }
+}
+
+/// It prints as the number.
+impl<T: WholeNumber + fmt::Debug, const MIN: i64> fmt::Debug for AtLeast<T, MIN> {
+    ghost debug_output = { λ it. T.debug_output it.value };
+
+    fn fmt<W: fmt::Write>(&self, f: &mut fmt::Formatter<W>) -> fmt::Result {
+        self.value.fmt(f)
+    }
+}
+
+/// It prints as the number.
+impl<T: WholeNumber + fmt::Display, const MIN: i64> fmt::Display for AtLeast<T, MIN> {
+    ghost output = { λ it. T.output it.value };
+
+    fn fmt<W: fmt::Write>(&self, f: &mut fmt::Formatter<W>) -> fmt::Result {
+        self.value.fmt(f)
+    }
+}
+
 impl<T: WholeNumber + PartialEq, const MIN: i64> AtLeast<T, MIN> {
     /// Two are equal exactly if their numbers are.
     pub fn equality()
@@ -89,7 +138,6 @@ impl<T: WholeNumber, const MIN: i64> Serialize for AtLeast<T, MIN> {
         self.value.serialize(serializer)
     }
 }
-
 
 impl<T: WholeNumber + Deserialize, const MIN: i64> Deserialize for AtLeast<T, MIN> {
     ghost shape = { T.shape };
@@ -149,7 +197,6 @@ impl<T: ExactNumber, const MIN: i64> ExactNumber for AtLeast<T, MIN> {
 
     ghost exact_number = { Prim.assumption };
 }
-
 
 impl<T: Faithful + WholeNumber, const MIN: i64> Faithful for AtLeast<T, MIN> {
     ghost sameness = { newtype_sameness T.sameness T.eq T.meaning (λ it. it.value) };

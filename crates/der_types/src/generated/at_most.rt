@@ -17,10 +17,12 @@ use picky_der_core::Result;
 use picky_der_core::asn1::Tag;
 use picky_der_core::misc::{ReadExt, WriteExt};
 use picky_der_de::{Begins, Deserialize, Deserializer, Faithful};
-use picky_der_ser::{ Serialize, Serializer};
+use picky_der_ser::{Serialize, Serializer};
+use std::alloc::AllocError;
+use std::fmt;
 
 /// A number of `MAX` or below, as in `INTEGER (MIN..0)`, where MIN says that there is no bound (X.680, 51.4). It is encoded as the number.
-#[derive(Debug, Drop, PartialEq, Eq)]
+#[derive(Drop, PartialEq, Eq, PartialOrd, Ord, Hash)]
 pub struct AtMost<T: WholeNumber, const MAX: i64> {
     value: T,
     ghost allowed: { int_le (T.number value) MAX ≡ true },
@@ -59,6 +61,53 @@ impl<T: WholeNumber, const MAX: i64> AtMost<T, MAX> {
     }
 }
 
+/// Gives the number back if it is above `MAX`.
+impl<T: WholeNumber, const MAX: i64> TryFrom<T> for AtMost<T, MAX> {
+    type Error = T;
+
+    ghost try_from_gives = { λ value made. IfOk made (λ it. it.value ≡ value)
+        × IfErr made (λ back. (back ≡ value) × (int_le (T.number value) MAX ≡ false)) };
+
+    fn try_from(value: T) -> std::result::Result<AtMost<T, MAX>, T> {
+        if value.is_at_most(i128::from(MAX)) {
+            Ok(AtMost { value })
+        } else {
+            Err(value)
+        }
+    }
+}
+
+/// It has a copy of the number. A copy that the bounds don't allow, which no type of this library makes, counts as a failed
+/// allocation.
+impl<T: WholeNumber + Clone, const MAX: i64> Clone for AtMost<T, MAX> {
+    ghost is_clone = { λ x y. T.is_clone x.value y.value };
+
+    fn clone(&self) -> std::result::Result<AtMost<T, MAX>, AllocError> {
+        match Self::new(self.value.clone()?) {
+            Some(copy) => Ok(copy),
+            None => Err(AllocError),
+        }
+    }
+}
+
+/// It prints as the number.
+impl<T: WholeNumber + fmt::Debug, const MAX: i64> fmt::Debug for AtMost<T, MAX> {
+    ghost debug_output = { λ it. T.debug_output it.value };
+
+    fn fmt<W: fmt::Write>(&self, f: &mut fmt::Formatter<W>) -> fmt::Result {
+        self.value.fmt(f)
+    }
+}
+
+/// It prints as the number.
+impl<T: WholeNumber + fmt::Display, const MAX: i64> fmt::Display for AtMost<T, MAX> {
+    ghost output = { λ it. T.output it.value };
+
+    fn fmt<W: fmt::Write>(&self, f: &mut fmt::Formatter<W>) -> fmt::Result {
+        self.value.fmt(f)
+    }
+}
+
 impl<T: WholeNumber + PartialEq, const MAX: i64> AtMost<T, MAX> {
     /// Two are equal exactly if their numbers are.
     pub fn equality()
@@ -89,7 +138,6 @@ impl<T: WholeNumber, const MAX: i64> Serialize for AtMost<T, MAX> {
         self.value.serialize(serializer)
     }
 }
-
 
 impl<T: WholeNumber + Deserialize, const MAX: i64> Deserialize for AtMost<T, MAX> {
     ghost shape = { T.shape };
@@ -149,7 +197,6 @@ impl<T: ExactNumber, const MAX: i64> ExactNumber for AtMost<T, MAX> {
 
     ghost exact_number = { Prim.assumption };
 }
-
 
 impl<T: Faithful + WholeNumber, const MAX: i64> Faithful for AtMost<T, MAX> {
     ghost sameness = { newtype_sameness T.sameness T.eq T.meaning (λ it. it.value) };

@@ -17,11 +17,13 @@ use picky_der_core::Result;
 use picky_der_core::asn1::Tag;
 use picky_der_core::misc::{ReadExt, WriteExt};
 use picky_der_de::{Begins, Deserialize, Deserializer, Faithful};
-use picky_der_ser::{ Serialize, Serializer};
+use picky_der_ser::{Serialize, Serializer};
+use std::alloc::AllocError;
+use std::fmt;
 
 /// A number from `MIN` to `MAX`, as in `INTEGER (MIN..MAX)` (X.680, 51.4). It is encoded as the number. For a range that ends below zero
 /// use `AtMost<AtLeast<T, MIN>, MAX>`.
-#[derive(Debug, Drop, PartialEq, Eq)]
+#[derive(Drop, PartialEq, Eq, PartialOrd, Ord, Hash)]
 pub struct InRange<T: WholeNumber, const MIN: i64, const MAX: u64> {
     value: T,
     ghost allowed: { is_between MIN (pos MAX) (T.number value) ≡ true },
@@ -60,6 +62,55 @@ impl<T: WholeNumber, const MIN: i64, const MAX: u64> InRange<T, MIN, MAX> {
     }
 }
 
+/// Gives the number back if it isn't from `MIN` to `MAX`.
+impl<T: WholeNumber, const MIN: i64, const MAX: u64> TryFrom<T> for InRange<T, MIN, MAX> {
+    type Error = T;
+
+    ghost try_from_gives = { λ value made. IfOk made (λ it. it.value ≡ value)
+        × IfErr made (λ back. (back ≡ value) × (is_between MIN (pos MAX) (T.number value) ≡ false)) };
+
+    fn try_from(value: T) -> std::result::Result<InRange<T, MIN, MAX>, T> {
+        if value.is_between(i128::from(MIN), i128::from(MAX)) {
+            Ok(InRange { value })
+        } else {
+            Err(value)
+        }
+    }
+}
+
+/// It has a copy of the number. A copy that the bounds don't allow, which no type of this library makes, counts as a failed
+/// allocation.
+impl<T: WholeNumber + Clone, const MIN: i64, const MAX: u64> Clone for InRange<T, MIN, MAX> {
+    ghost is_clone = { λ x y. T.is_clone x.value y.value };
+
+    fn clone(&self) -> std::result::Result<InRange<T, MIN, MAX>, AllocError> {
+        match Self::new(self.value.clone()?) {
+            Some(copy) => Ok(copy),
+            None => Err(AllocError),
+        }
+    }
+}
+
+/// It prints as the number.
+impl<T: WholeNumber + fmt::Debug, const MIN: i64, const MAX: u64> fmt::Debug
+    for InRange<T, MIN, MAX> {
+    ghost debug_output = { λ it. T.debug_output it.value };
+
+    fn fmt<W: fmt::Write>(&self, f: &mut fmt::Formatter<W>) -> fmt::Result {
+        self.value.fmt(f)
+    }
+}
+
+/// It prints as the number.
+impl<T: WholeNumber + fmt::Display, const MIN: i64, const MAX: u64> fmt::Display
+    for InRange<T, MIN, MAX> {
+    ghost output = { λ it. T.output it.value };
+
+    fn fmt<W: fmt::Write>(&self, f: &mut fmt::Formatter<W>) -> fmt::Result {
+        self.value.fmt(f)
+    }
+}
+
 impl<T: WholeNumber + PartialEq, const MIN: i64, const MAX: u64> InRange<T, MIN, MAX> {
     /// Two are equal exactly if their numbers are.
     pub fn equality()
@@ -67,7 +118,8 @@ impl<T: WholeNumber + PartialEq, const MIN: i64, const MAX: u64> InRange<T, MIN,
     {}
 }
 
-impl<T: WholeNumber + Deserialize, const MIN: i64, const MAX: u64> Constrained for InRange<T, MIN, MAX> {
+impl<T: WholeNumber + Deserialize, const MIN: i64, const MAX: u64> Constrained
+    for InRange<T, MIN, MAX> {
     type Of = T;
 
     ghost unconstrained = { λ it. it.value };
@@ -91,8 +143,8 @@ impl<T: WholeNumber, const MIN: i64, const MAX: u64> Serialize for InRange<T, MI
     }
 }
 
-
-impl<T: WholeNumber + Deserialize, const MIN: i64, const MAX: u64> Deserialize for InRange<T, MIN, MAX> {
+impl<T: WholeNumber + Deserialize, const MIN: i64, const MAX: u64> Deserialize
+    for InRange<T, MIN, MAX> {
     ghost shape = { T.shape };
 
     ghost facts = { tested_part_facts T.facts T.meaning T.eq (λ it. it.value) };
@@ -150,7 +202,6 @@ impl<T: ExactNumber, const MIN: i64, const MAX: u64> ExactNumber for InRange<T, 
 
     ghost exact_number = { Prim.assumption };
 }
-
 
 impl<T: Faithful + WholeNumber, const MIN: i64, const MAX: u64> Faithful for InRange<T, MIN, MAX> {
     ghost sameness = { newtype_sameness T.sameness T.eq T.meaning (λ it. it.value) };

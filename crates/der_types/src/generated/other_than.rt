@@ -17,13 +17,15 @@ use picky_der_core::Result;
 use picky_der_core::asn1::Tag;
 use picky_der_core::misc::{ReadExt, WriteExt};
 use picky_der_de::{Begins, Deserialize, Deserializer, Faithful};
-use picky_der_ser::{ Serialize, Serializer};
+use picky_der_ser::{Serialize, Serializer};
+use std::alloc::AllocError;
+use std::fmt;
 
 /// A number other than `N`. It is encoded as the number.
 ///
 /// For a member `version INTEGER DEFAULT 0` use `Option<OtherThan<Integer, 0>>`. `None` is the default, which is never written (X.690,
 /// 11.5).
-#[derive(Debug, Drop, PartialEq, Eq)]
+#[derive(Drop, PartialEq, Eq, PartialOrd, Ord, Hash)]
 pub struct OtherThan<T: WholeNumber, const N: i64> {
     value: T,
     ghost allowed: { is_between N N (T.number value) ≡ false },
@@ -62,6 +64,53 @@ impl<T: WholeNumber, const N: i64> OtherThan<T, N> {
     }
 }
 
+/// Gives the number back if it is `N`.
+impl<T: WholeNumber, const N: i64> TryFrom<T> for OtherThan<T, N> {
+    type Error = T;
+
+    ghost try_from_gives = { λ value made. IfOk made (λ it. it.value ≡ value)
+        × IfErr made (λ back. (back ≡ value) × (is_between N N (T.number value) ≡ true)) };
+
+    fn try_from(value: T) -> std::result::Result<OtherThan<T, N>, T> {
+        if value.is_between(i128::from(N), i128::from(N)) {
+            Err(value)
+        } else {
+            Ok(OtherThan { value })
+        }
+    }
+}
+
+/// It has a copy of the number. A copy that the bounds don't allow, which no type of this library makes, counts as a failed
+/// allocation.
+impl<T: WholeNumber + Clone, const N: i64> Clone for OtherThan<T, N> {
+    ghost is_clone = { λ x y. T.is_clone x.value y.value };
+
+    fn clone(&self) -> std::result::Result<OtherThan<T, N>, AllocError> {
+        match Self::new(self.value.clone()?) {
+            Some(copy) => Ok(copy),
+            None => Err(AllocError),
+        }
+    }
+}
+
+/// It prints as the number.
+impl<T: WholeNumber + fmt::Debug, const N: i64> fmt::Debug for OtherThan<T, N> {
+    ghost debug_output = { λ it. T.debug_output it.value };
+
+    fn fmt<W: fmt::Write>(&self, f: &mut fmt::Formatter<W>) -> fmt::Result {
+        self.value.fmt(f)
+    }
+}
+
+/// It prints as the number.
+impl<T: WholeNumber + fmt::Display, const N: i64> fmt::Display for OtherThan<T, N> {
+    ghost output = { λ it. T.output it.value };
+
+    fn fmt<W: fmt::Write>(&self, f: &mut fmt::Formatter<W>) -> fmt::Result {
+        self.value.fmt(f)
+    }
+}
+
 impl<T: WholeNumber + PartialEq, const N: i64> OtherThan<T, N> {
     /// Two are equal exactly if their numbers are.
     pub fn equality()
@@ -92,7 +141,6 @@ impl<T: WholeNumber, const N: i64> Serialize for OtherThan<T, N> {
         self.value.serialize(serializer)
     }
 }
-
 
 impl<T: WholeNumber + Deserialize, const N: i64> Deserialize for OtherThan<T, N> {
     ghost shape = { T.shape };
@@ -152,7 +200,6 @@ impl<T: ExactNumber, const N: i64> ExactNumber for OtherThan<T, N> {
 
     ghost exact_number = { Prim.assumption };
 }
-
 
 impl<T: Faithful + WholeNumber, const N: i64> Faithful for OtherThan<T, N> {
     ghost sameness = { newtype_sameness T.sameness T.eq T.meaning (λ it. it.value) };

@@ -17,13 +17,15 @@ use picky_der_core::Result;
 use picky_der_core::asn1::Tag;
 use picky_der_core::misc::{ReadExt, WriteExt};
 use picky_der_de::{Begins, Deserialize, Deserializer, Faithful};
-use picky_der_ser::{ Serialize, Serializer};
+use picky_der_ser::{Serialize, Serializer};
+use std::alloc::AllocError;
+use std::fmt;
 
 /// A number below `MIN` or above `MAX`. It is encoded as the number.
 ///
 /// `INTEGER (64 | 128)` is `Outside<InRange<u8, 64, 128>, 65, 127>`: the numbers of the range around all intervals, without the numbers between
 /// them (X.680, 50).
-#[derive(Debug, Drop, PartialEq, Eq)]
+#[derive(Drop, PartialEq, Eq, PartialOrd, Ord, Hash)]
 pub struct Outside<T: WholeNumber, const MIN: i64, const MAX: i64> {
     value: T,
     ghost allowed: { is_between MIN MAX (T.number value) ≡ false },
@@ -62,6 +64,55 @@ impl<T: WholeNumber, const MIN: i64, const MAX: i64> Outside<T, MIN, MAX> {
     }
 }
 
+/// Gives the number back if it is from `MIN` to `MAX`.
+impl<T: WholeNumber, const MIN: i64, const MAX: i64> TryFrom<T> for Outside<T, MIN, MAX> {
+    type Error = T;
+
+    ghost try_from_gives = { λ value made. IfOk made (λ it. it.value ≡ value)
+        × IfErr made (λ back. (back ≡ value) × (is_between MIN MAX (T.number value) ≡ true)) };
+
+    fn try_from(value: T) -> std::result::Result<Outside<T, MIN, MAX>, T> {
+        if value.is_between(i128::from(MIN), i128::from(MAX)) {
+            Err(value)
+        } else {
+            Ok(Outside { value })
+        }
+    }
+}
+
+/// It has a copy of the number. A copy that the bounds don't allow, which no type of this library makes, counts as a failed
+/// allocation.
+impl<T: WholeNumber + Clone, const MIN: i64, const MAX: i64> Clone for Outside<T, MIN, MAX> {
+    ghost is_clone = { λ x y. T.is_clone x.value y.value };
+
+    fn clone(&self) -> std::result::Result<Outside<T, MIN, MAX>, AllocError> {
+        match Self::new(self.value.clone()?) {
+            Some(copy) => Ok(copy),
+            None => Err(AllocError),
+        }
+    }
+}
+
+/// It prints as the number.
+impl<T: WholeNumber + fmt::Debug, const MIN: i64, const MAX: i64> fmt::Debug
+    for Outside<T, MIN, MAX> {
+    ghost debug_output = { λ it. T.debug_output it.value };
+
+    fn fmt<W: fmt::Write>(&self, f: &mut fmt::Formatter<W>) -> fmt::Result {
+        self.value.fmt(f)
+    }
+}
+
+/// It prints as the number.
+impl<T: WholeNumber + fmt::Display, const MIN: i64, const MAX: i64> fmt::Display
+    for Outside<T, MIN, MAX> {
+    ghost output = { λ it. T.output it.value };
+
+    fn fmt<W: fmt::Write>(&self, f: &mut fmt::Formatter<W>) -> fmt::Result {
+        self.value.fmt(f)
+    }
+}
+
 impl<T: WholeNumber + PartialEq, const MIN: i64, const MAX: i64> Outside<T, MIN, MAX> {
     /// Two are equal exactly if their numbers are.
     pub fn equality()
@@ -69,7 +120,8 @@ impl<T: WholeNumber + PartialEq, const MIN: i64, const MAX: i64> Outside<T, MIN,
     {}
 }
 
-impl<T: WholeNumber + Deserialize, const MIN: i64, const MAX: i64> Constrained for Outside<T, MIN, MAX> {
+impl<T: WholeNumber + Deserialize, const MIN: i64, const MAX: i64> Constrained
+    for Outside<T, MIN, MAX> {
     type Of = T;
 
     ghost unconstrained = { λ it. it.value };
@@ -93,8 +145,8 @@ impl<T: WholeNumber, const MIN: i64, const MAX: i64> Serialize for Outside<T, MI
     }
 }
 
-
-impl<T: WholeNumber + Deserialize, const MIN: i64, const MAX: i64> Deserialize for Outside<T, MIN, MAX> {
+impl<T: WholeNumber + Deserialize, const MIN: i64, const MAX: i64> Deserialize
+    for Outside<T, MIN, MAX> {
     ghost shape = { T.shape };
 
     ghost facts = { tested_part_facts T.facts T.meaning T.eq (λ it. it.value) };
@@ -152,7 +204,6 @@ impl<T: ExactNumber, const MIN: i64, const MAX: i64> ExactNumber for Outside<T, 
 
     ghost exact_number = { Prim.assumption };
 }
-
 
 impl<T: Faithful + WholeNumber, const MIN: i64, const MAX: i64> Faithful for Outside<T, MIN, MAX> {
     ghost sameness = { newtype_sameness T.sameness T.eq T.meaning (λ it. it.value) };
