@@ -3,7 +3,9 @@ use Rattle.std.proofs.Common.{refl, ap, sym, ◌∙◌}
 use Rattle.std.specs.Prelude.{◌≡◌, ℕ, List, Bool, true, false, ◌==◌}
 use Rattle.std.proofs.lemmas.Cmp.{int_cmp_total, tied_itself}
 use Rattle.std.specs.Cmp.Lexicographic.{pointwise, slice_cmp, bytes_decides, texts_ties}
-use Rattle.std.specs.Ordering.{Ordering, Less, Equal, Greater, nat_cmp, int_cmp, ordering_then, is_eq}
+use Rattle.std.specs.declared.cmp.Ordering.{Ordering}
+use Rattle.std.specs.declared.cmp.Ordering.TheVariants.{Less, Equal, Greater}
+use Rattle.std.specs.Ordering.{nat_cmp, int_cmp, ordering_then, is_eq}
 use Rattle.der_types.specs.IntegerOrder.{signed_length}
 
 -- the second of two orders decides which values tie, where the first ties the same
