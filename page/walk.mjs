@@ -1,16 +1,24 @@
 // The elements of DER, found by picky_der_next in WebAssembly. Its memory has addresses of 64 bits, so pointers are BigInts.
 import { END, NO_ROOM, OK } from "./tables.mjs";
 
-// At most this many elements are listed around one.
-const ENDS = 4096;
-const PLACE = 16, ELEMENT = 40;
+const PLACE = 16, ELEMENT = 40, END_SIZE = 8;
 // Strings at a depth below this one are opened, as by `der show`.
 const DEEPEST = 64;
 
+// The functions of a module, over its memory: first a place and an element, then the bytes, then the ends of elements.
 export function load(wasm) {
   const { exports } = new WebAssembly.Instance(new WebAssembly.Module(wasm), {});
-  const base = Number(exports.__heap_base.value);
-  const place = base, element = place + PLACE, ends = element + ELEMENT, start = ends + 8 * ENDS;
+  const place = Number(exports.__heap_base.value), element = place + PLACE, start = element + ELEMENT;
+  let ends = 0, room = 0;
+
+  // Puts bytes into memory. An element around another takes two bytes, so no more ends than half as many are needed.
+  function put(bytes) {
+    ends = Math.ceil((start + bytes.length) / END_SIZE) * END_SIZE;
+    room = Math.ceil(bytes.length / 2);
+    const missing = ends + END_SIZE * room - exports.memory.buffer.byteLength;
+    if (missing > 0) exports.memory.grow(BigInt(Math.ceil(missing / 65536)));
+    new Uint8Array(exports.memory.buffer).set(bytes, start);
+  }
 
   // Goes over the elements of bytes that are in memory at this index. Calls back with each, and returns the place and the code at the end.
   function walk(at, len, found) {
@@ -18,7 +26,7 @@ export function load(wasm) {
     view().setBigUint64(place, 0n, true);
     view().setBigUint64(place + 8, 0n, true);
     for (;;) {
-      const code = exports.picky_der_next(BigInt(at), BigInt(len), BigInt(place), BigInt(ends), BigInt(ENDS), BigInt(element));
+      const code = exports.picky_der_next(BigInt(at), BigInt(len), BigInt(place), BigInt(ends), BigInt(room), BigInt(element));
       const memory = view();
       if (code !== OK) return { code, offset: Number(memory.getBigUint64(place, true)) };
       const [offset, headerLen, contentLen, depth] = [0, 8, 16, 24].map((field) => Number(memory.getBigUint64(element + field, true)));
@@ -61,11 +69,21 @@ export function load(wasm) {
     return found;
   }
 
-  // Lists bytes as `der show` does: elements, also those in strings, up to the first that breaks a rule.
-  return function list(bytes) {
-    const missing = start + bytes.length - exports.memory.buffer.byteLength;
-    if (missing > 0) exports.memory.grow(BigInt(Math.ceil(missing / 65536)));
-    new Uint8Array(exports.memory.buffer).set(bytes, start);
-    return entries(start, bytes.length, 0, 0);
+  return {
+    // Lists bytes as `der show` does: elements, also those in strings, up to the first that breaks a rule.
+    list(bytes) {
+      put(bytes);
+      return entries(start, bytes.length, 0, 0);
+    },
+    // Whether the bytes begin with the header of an element that takes all of them.
+    isElement(bytes) {
+      put(bytes);
+      let len = -1;
+      walk(start, bytes.length, (it) => {
+        len = it.headerLen + it.contentLen;
+        return false;
+      });
+      return len === bytes.length;
+    },
   };
 }

@@ -133,6 +133,7 @@ export function wordsOf(it, bytes, isKeyUsage) {
     const [words, clause] = RULES[it.rule] ?? [`code ${it.rule}`, "8"];
     return `${words} (X.690, ${clause})`;
   }
+  if (it.holdsDer) return typeOf(it);
   const start = it.offset + it.headerLen;
   const value = valueOf(it, bytes.slice(start, start + it.contentLen), isKeyUsage);
   return typeOf(it) + (value && ` ${value}`);

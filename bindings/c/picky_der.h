@@ -471,6 +471,13 @@ picky_der_code picky_der_put(uint8_t *out, size_t out_len, size_t *used, uint8_t
  * PICKY_DER_UNSUPPORTED if so many bytes can't be counted. Then nothing changes. */
 picky_der_code picky_der_wrap(uint8_t *out, size_t out_len, size_t *used, size_t start, uint8_t tag);
 
+/* Puts the elements from start to used in the order of their encodings, in which the members of a SET OF are.
+ * picky_der_wrap then makes them the content of an element with the tag 0x31.
+ * Returns PICKY_DER_OK. Else it returns the code of the rule that a header breaks, PICKY_DER_NO_PLACE if
+ * start is past used, PICKY_DER_NO_ROOM if out has fewer than used bytes, or PICKY_DER_NO_MEMORY if an
+ * allocation failed. Then nothing changes. */
+picky_der_code picky_der_sort(uint8_t *out, size_t out_len, size_t used, size_t start);
+
 /* What a code says, in words. For the code of a rule, also its clause of X.690; for others an empty text. */
 const char *picky_der_text(picky_der_code code);
 const char *picky_der_clause(picky_der_code code);
@@ -846,6 +853,12 @@ static inline picky_der_code picky_der_wrap_asserted(uint8_t *out, size_t out_le
     return picky_der_wrap(out, out_len, used, start, tag);
 }
 #define picky_der_wrap picky_der_wrap_asserted
+
+static inline picky_der_code picky_der_sort_asserted(uint8_t *out, size_t out_len, size_t used, size_t start) {
+    assert(out != NULL);
+    return picky_der_sort(out, out_len, used, start);
+}
+#define picky_der_sort picky_der_sort_asserted
 
 #endif
 

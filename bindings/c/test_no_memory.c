@@ -71,6 +71,14 @@ int main(int argc, char **argv) {
         need(code == PICKY_DER_OK || memcmp(&element, &before, sizeof element) == 0, "nothing is written then");
     } while (code != PICKY_DER_OK);
     need(failures > 1, "a listing takes memory");
+    failures = 0;
+    uint8_t sorted[] = {2, 1, 2, 2, 1, 1};
+    do {
+        left = failures++;
+        code = picky_der_sort(sorted, sizeof sorted, sizeof sorted, 0);
+        need(code == PICKY_DER_OK || (code == PICKY_DER_NO_MEMORY && sorted[2] == 2), "a sort without memory");
+    } while (code != PICKY_DER_OK);
+    need(failures > 1 && sorted[2] == 1, "a sort takes memory");
     left = -1;
 
     /* what takes none */

@@ -129,6 +129,19 @@ static void certificate(const struct input *it) {
     }
 }
 
+/* Where `der read` says that elements were refused at this position: at bytes after the first, or at the last one before it. */
+static size_t offset_of(const uint8_t *bytes, size_t len, size_t position) {
+    picky_der_place place = {0, 0};
+    size_t ends[DEEPEST], offset = 0;
+    picky_der_element element;
+    while (picky_der_next(bytes, len, &place, ends, DEEPEST, &element) == PICKY_DER_OK && element.offset < position) {
+        if (element.offset == 0 && element.header_len + element.content_len <= position && position < len)
+            return position;
+        offset = element.offset;
+    }
+    return offset;
+}
+
 /* What the check says of an input is what `der read` and `der show` say. */
 static void changed(const struct input *it) {
     size_t position = 99, broken = 99;
@@ -140,8 +153,8 @@ static void changed(const struct input *it) {
     if (it->verdict == UNKNOWN)
         return;
     need((it->verdict == READ) == (code == PICKY_DER_OK || code > 100), "the verdict of der read");
-    if (it->verdict == REFUSED && rule != PICKY_DER_OK)
-        need(it->offset == broken, "the offset of der read");
+    if (it->verdict == REFUSED)
+        need(it->offset == (rule != PICKY_DER_OK ? broken : offset_of(it->bytes, it->len, position)), "the offset of der read");
 }
 
 static void *run(void *unused) {
@@ -175,6 +188,15 @@ static void places(void) {
     size_t position = 99;
     need(picky_der_check_certificate(PICKY_DER_BYTES(NULL), 0, &position) == PICKY_DER_TRUNCATED && position == 0, "no bytes");
     need(picky_der_front(PICKY_DER_BYTES(NULL), 0, &element) == PICKY_DER_RULE_CUT_HEADER, "no element");
+    /* no byte is read where there is none */
+    const uint8_t *nowhere = (const uint8_t *)(uintptr_t)16;
+    need(picky_der_check_certificate(nowhere, 0, &position) == PICKY_DER_TRUNCATED && position == 0, "no bytes anywhere");
+    size_t count = 99;
+    need(picky_der_elements(nowhere, 0, (picky_der_element *)(uintptr_t)16, 0, &count, &position) == PICKY_DER_OK && count == 0, "no element anywhere");
+    place = (picky_der_place){0, 0};
+    need(picky_der_next(nowhere, 0, &place, (size_t *)(uintptr_t)16, 0, &element) == PICKY_DER_END, "no walk anywhere");
+    size_t used = 0;
+    need(picky_der_put((uint8_t *)(uintptr_t)16, 0, &used, 0x04, nowhere, 0) == PICKY_DER_NO_ROOM && used == 2, "no room anywhere");
     need(strcmp(picky_der_clause(PICKY_DER_RULE_LONG_LENGTH), "10.1") == 0 && *picky_der_text(PICKY_DER_END) != 0, "texts");
     need(*picky_der_text(77) == 0 && *picky_der_clause(PICKY_DER_OK) == 0, "no texts");
 }
@@ -234,9 +256,16 @@ static void writing(void) {
     picky_der_put(out, sizeof out, &used, 0x02, &two, 1);
     picky_der_put(out, sizeof out, &used, 0x02, &one, 1);
     need(picky_der_wrap(out, sizeof out, &used, 0, 0x31) == PICKY_DER_RULE_SET_ORDER && used == 6, "a set out of order");
+    need(picky_der_sort(out, sizeof out, used, 7) == PICKY_DER_NO_PLACE && picky_der_sort(out, sizeof out, 9, 0) == PICKY_DER_NO_ROOM, "no bytes to sort");
+    need(picky_der_sort(out, sizeof out, used, 1) > 100 && memcmp(out, "\x02\x01\x02\x02\x01\x01", 6) == 0, "bytes that aren't elements");
+    need(picky_der_sort(out, sizeof out, used, used) == PICKY_DER_OK && memcmp(out, "\x02\x01\x02\x02\x01\x01", 6) == 0, "none to sort");
     need(picky_der_wrap(out, sizeof out, &used, 7, 0x30) == PICKY_DER_NO_PLACE && used == 6, "a start past the end");
     need(picky_der_wrap(out, sizeof out, &used, 0, 0x30) == PICKY_DER_OK && used == 8, "the same as a sequence");
     need(memcmp(out, "\x30\x06\x02\x01\x02\x02\x01\x01", 8) == 0, "its bytes");
+    used = 6;
+    memmove(out, out + 2, 6);
+    need(picky_der_sort(out, sizeof out, used, 0) == PICKY_DER_OK && picky_der_wrap(out, sizeof out, &used, 0, 0x31) == PICKY_DER_OK, "a set in order");
+    need(memcmp(out, "\x31\x06\x02\x01\x01\x02\x01\x02", 8) == 0, "its bytes");
     used = SIZE_MAX - 1;
     need(picky_der_put(out, sizeof out, &used, 0x02, &one, 1) == PICKY_DER_UNSUPPORTED && used == SIZE_MAX - 1, "a size that isn't one");
     need(picky_der_wrap(out, sizeof out, &used, 0, 0x30) == PICKY_DER_UNSUPPORTED && used == SIZE_MAX - 1, "a size that isn't one");

@@ -64,6 +64,15 @@ func errorOf(code C.picky_der_code, position int) error {
 	return &Error{Code(code), position}
 }
 
+// The library writes to nothing else that it is given, so parts of a writer's buffer are copied first.
+func shares(buffer, part []byte) bool {
+	if len(buffer) == 0 || len(part) == 0 {
+		return false
+	}
+	start, at := uintptr(unsafe.Pointer(&buffer[0])), uintptr(unsafe.Pointer(&part[0]))
+	return at < start+uintptr(len(buffer)) && start < at+uintptr(len(part))
+}
+
 var none [1]byte
 
 // pointer is never nil, not even for no bytes.
@@ -130,7 +139,7 @@ func Elements(bytes []byte) ([]Element, error) {
 	return elements, errorOf(code, int(position))
 }
 
-// A Writer writes elements one after another. The zero value has written nothing.
+// A Writer writes elements one after another. The zero value has written nothing. It isn't for several goroutines at once.
 type Writer struct {
 	bytes []byte
 }
@@ -138,8 +147,11 @@ type Writer struct {
 // Bytes returns what was written.
 func (w *Writer) Bytes() []byte { return w.bytes }
 
-// Put appends an element with this tag and content.
+// Put appends an element with this tag and content, which may be a part of what was written.
 func (w *Writer) Put(tag byte, content []byte) error {
+	if shares(w.bytes[:cap(w.bytes)], content) {
+		content = append([]byte(nil), content...)
+	}
 	return w.grow(func(out []byte, used *C.size_t) C.picky_der_code {
 		return C.picky_der_put(pointer(out), C.size_t(len(out)), used, C.uint8_t(tag), pointer(content), C.size_t(len(content)))
 	})
@@ -151,6 +163,23 @@ func (w *Writer) Within(tag byte, write func() error) error {
 	if err := write(); err != nil {
 		return err
 	}
+	return w.wrap(tag, start)
+}
+
+// SetOf appends a SET OF, whose members are what the function writes, in the order of their encodings (X.690, 11.6).
+func (w *Writer) SetOf(write func() error) error {
+	start := len(w.bytes)
+	if err := write(); err != nil {
+		return err
+	}
+	used := C.size_t(len(w.bytes))
+	if err := errorOf(C.picky_der_sort(pointer(w.bytes), used, used, C.size_t(start)), start); err != nil {
+		return err
+	}
+	return w.wrap(0x31, start)
+}
+
+func (w *Writer) wrap(tag byte, start int) error {
 	return w.grow(func(out []byte, used *C.size_t) C.picky_der_code {
 		return C.picky_der_wrap(pointer(out), C.size_t(len(out)), used, C.size_t(start), C.uint8_t(tag))
 	})

@@ -2,6 +2,7 @@ package pickyder
 
 import (
 	"bytes"
+	"crypto/x509"
 	"encoding/binary"
 	"errors"
 	"os"
@@ -36,6 +37,23 @@ func inputs(t testing.TB) (all []input) {
 	return all
 }
 
+// offsetOf is where `der read` says that bytes were refused: at the broken rule, at bytes after the first element, or at the last element
+// before the position.
+func offsetOf(elements []Element, rule, why *Error, length int) (offset int) {
+	if rule != nil {
+		return rule.Position
+	}
+	if len(elements) > 0 && len(elements[0].Encoding) <= why.Position && why.Position < length {
+		return why.Position
+	}
+	for _, it := range elements {
+		if it.Offset < why.Position {
+			offset = it.Offset
+		}
+	}
+	return offset
+}
+
 func check(t *testing.T, it input) {
 	err := Check(Certificate, it.der)
 	elements, broken := Elements(it.der)
@@ -51,8 +69,8 @@ func check(t *testing.T, it input) {
 	if err == nil && broken != nil || it.verdict == certificate && err != nil {
 		t.Error("what is accepted is in DER", broken)
 	}
-	if it.verdict == refused && rule != nil && rule.Position != it.offset {
-		t.Error("the offset of der read", rule, it.offset)
+	if it.verdict == refused && offsetOf(elements, rule, why, len(it.der)) != it.offset {
+		t.Error("the offset of der read", rule, why, it.offset)
 	}
 	for _, element := range elements {
 		if front, err := Front(it.der[element.Offset:]); err != nil || !bytes.Equal(front.Content, element.Content) {
@@ -106,6 +124,15 @@ func writeAgain(t *testing.T, w *Writer, der []byte) error {
 	return err
 }
 
+func writeNumbers(w *Writer, numbers ...byte) (err error) {
+	for _, number := range numbers {
+		if err == nil {
+			err = w.Put(2, []byte{number})
+		}
+	}
+	return err
+}
+
 func TestWriting(t *testing.T) {
 	for _, it := range inputs(t) {
 		var w Writer
@@ -123,12 +150,78 @@ func TestWriting(t *testing.T) {
 		}
 		return w.Put(2, []byte{1})
 	})
+	if err == nil || len(w.Bytes()) != 6 {
+		t.Error("what was written stays", w.Bytes())
+	}
+	if err := w.SetOf(func() error { return nil }); err != nil || !bytes.Equal(w.Bytes()[6:], []byte{0x31, 0}) {
+		t.Error("an empty set", err)
+	}
+	var sorted Writer
+	for _, number := range []byte{2, 1} {
+		number := number
+		if err := sorted.SetOf(func() error { return writeNumbers(&sorted, number, 1, 2) }); err != nil {
+			t.Error("a set in order", err)
+		}
+	}
+	if !bytes.Equal(sorted.Bytes(), []byte{0x31, 9, 2, 1, 1, 2, 1, 2, 2, 1, 2, 0x31, 9, 2, 1, 1, 2, 1, 1, 2, 1, 2}) {
+		t.Error("the order of sets", sorted.Bytes())
+	}
 	if err == nil || !strings.Contains(err.Error(), "X.690, 10.3, 11.6") {
 		t.Error("a set out of order", err)
 	}
 }
 
-func BenchmarkCheck(b *testing.B) {
+func TestSmallOnes(t *testing.T) {
+	for _, empty := range [][]byte{nil, {}, make([]byte, 8)[4:4]} {
+		var why *Error
+		if !errors.As(Check(Certificate, empty), &why) || why.Code != Truncated || why.Position != 0 {
+			t.Error("no bytes", why)
+		}
+		if elements, err := Elements(empty); len(elements) != 0 || err != nil {
+			t.Error("no elements", elements, err)
+		}
+		var w Writer
+		if err := w.Put(4, empty); err != nil || !bytes.Equal(w.Bytes(), []byte{4, 0}) {
+			t.Error("an empty content", err, w.Bytes())
+		}
+		if _, err := Front(empty); err == nil {
+			t.Error("no element at the front")
+		}
+	}
+}
+
+func TestOwnBytes(t *testing.T) {
+	var w Writer
+	want := []byte{}
+	for i := 0; i < 12; i++ {
+		part := w.Bytes()[len(w.Bytes())/2:]
+		want = append(append(want, 4, byte(len(part))), part...)
+		if len(part) > 127 {
+			break
+		}
+		if err := w.Put(4, part); err != nil || !bytes.Equal(w.Bytes(), want) {
+			t.Fatal("a part of what was written", err)
+		}
+	}
+}
+
+func TestNoMemory(t *testing.T) {
+	if os.Getenv("NO_MEMORY") == "" {
+		t.Skip("there is memory")
+	}
+	der := inputs(t)[0].der
+	if err := Check(Certificate, der); !errors.Is(err, ErrNoMemory) {
+		t.Error("a check without memory", err)
+	}
+	if elements, err := Elements(der); !errors.Is(err, ErrNoMemory) || len(elements) != 0 {
+		t.Error("elements without memory", err)
+	}
+	if first, err := Front(der); err != nil || first.Offset != 0 {
+		t.Error("the front takes no memory", err)
+	}
+}
+
+func bench(b *testing.B, call func(der []byte)) {
 	var certificates [][]byte
 	for _, it := range inputs(b) {
 		if it.verdict == certificate {
@@ -137,6 +230,14 @@ func BenchmarkCheck(b *testing.B) {
 	}
 	b.ResetTimer()
 	for i := 0; i < b.N; i++ {
-		_ = Check(Certificate, certificates[i%len(certificates)])
+		call(certificates[i%len(certificates)])
 	}
+}
+
+func BenchmarkCheck(b *testing.B) {
+	bench(b, func(der []byte) { _ = Check(Certificate, der) })
+}
+
+func BenchmarkParseCertificate(b *testing.B) {
+	bench(b, func(der []byte) { _, _ = x509.ParseCertificate(der) })
 }

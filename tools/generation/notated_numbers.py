@@ -84,18 +84,16 @@ impl WholeNumber for $name {
 }
 """
 
-# a number as one of the type of the bounds. A `u128` may be above all of these.
+# a number as one of the type of the bounds
 WIDENED = {"usize": "i128::from(*self as u64)", "i128": "*self"}
-AT_LEAST = {"u128": "least < 0 || least as u128 <= *self"}
-AT_MOST = {"u128": "0 <= most && *self <= most as u128"}
 
 
 def whole_number(number: Number, shown: str, determined: str) -> Lines:
     """A type as one of whole numbers: what its number is, and why its encoding decides that."""
     wide = WIDENED.get(number.name, "i128::from(*self)")
     words = {
-        "at_least": AT_LEAST.get(number.name, f"least <= {wide}"),
-        "at_most": AT_MOST.get(number.name, f"{wide} <= most"),
+        "at_least": f"least <= {wide}",
+        "at_most": f"{wide} <= most",
         "shown": shown,
         "determined": Template(determined).substitute(bits=number.bits),
     }
@@ -103,11 +101,11 @@ def whole_number(number: Number, shown: str, determined: str) -> Lines:
 
 
 def whole_numbers() -> Lines:
-    """All types as whole numbers."""
+    """All types as whole numbers, but for `u128`, which may be above all bounds."""
     unsigned = "ap pos (unsigned_tree-same (2 ^ $bits - 1) x y e)"
     signed = "(Decides-int_eq x y).0 (int_injective (fits_signed $bits) x y e)"
     return [
-        *(line for it in [*UNSIGNED, USIZE] for line in whole_number(it, "pos", unsigned)),
+        *(line for it in [*UNSIGNED, USIZE] if it.bits < 128 for line in whole_number(it, "pos", unsigned)),
         *(line for it in SIGNED for line in whole_number(it, "λ z. z", signed)),
     ]
 

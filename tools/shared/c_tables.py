@@ -154,7 +154,7 @@ def names() -> dict[str, str]:
     known = (folder_of("der_types") / "src/names.rt").read_text(encoding="utf-8")
     further = (folder_of("der_show") / "src/names.rt").read_text(encoding="utf-8")
     contents = dict(re.findall(r"^pub const (\w+): &\[u8\] = &\[(.*?)\];", known, re.M | re.S))
-    found = {contents[constant]: name for constant, name in re.findall(r"\(\s*(\w+),\s*\"(\w+)\"", known)}
+    found = {contents[constant]: name for constant, name in re.findall(r"\(\s*(\w+),\s*\"([^\"]+)\"", known)}
     found |= dict(re.findall(r"&\[([^\]]*)\],\s*\"([^\"]*)\"", further))
     return {"".join(re.findall(r"0x(..)", content)): name for content, name in found.items()}
 

@@ -3,12 +3,13 @@
 ``check("certificate", data)`` returns if the bytes are exactly one message of a type, in DER throughout, and raises `DecodeError` if they
 aren't. ``elements(data)`` goes over elements, and ``encode(tag, content)`` writes one.
 
-Data is any object with the buffer protocol. Other threads run during a call, so data that can change must not be changed then.
+Data is any object with the buffer protocol. What can change is copied first, so that other threads can run during a call.
 """
 import ctypes
 import os
+import threading
 from ctypes import POINTER, byref, c_bool, c_char_p, c_size_t, c_uint8, c_uint32
-from typing import Iterable, Iterator, List, NamedTuple, Optional, Union
+from typing import Callable, Iterable, Iterator, NamedTuple, Optional, Tuple, Type, Union
 
 from . import _tables
 from ._tables import RULES, TEXTS, TYPES
@@ -18,6 +19,7 @@ __all__ = ["DecodeError", "Element", "TYPES", "Writer", "check", "elements", "en
 Data = Union[bytes, bytearray, memoryview]
 
 _SHORTEST_ENDS = 32
+_SET = 0x31
 
 
 class _Element(ctypes.Structure):
@@ -49,7 +51,8 @@ def _load() -> ctypes.CDLL:
     library.picky_der_next.argtypes = [c_char_p, c_size_t, POINTER(_Place), sizes, c_size_t, POINTER(_Element)]
     library.picky_der_put.argtypes = [POINTER(c_uint8), c_size_t, sizes, c_uint8, c_char_p, c_size_t]
     library.picky_der_wrap.argtypes = [POINTER(c_uint8), c_size_t, sizes, c_size_t, c_uint8]
-    for name in ("check", "front", "elements", "next", "put", "wrap"):
+    library.picky_der_sort.argtypes = [POINTER(c_uint8), c_size_t, c_size_t, c_size_t]
+    for name in ("check", "front", "elements", "next", "put", "wrap", "sort"):
         getattr(library, f"picky_der_{name}").restype = c_uint32
     return library
 
@@ -74,6 +77,10 @@ class DecodeError(ValueError):
         broken = RULES.get(code) or RULES.get(rule)
         self.rule, words, self.clause = broken or (None, TEXTS.get(code, f"code {code}"), None)
         super().__init__(f"at {position}: {words}" + (f" (X.690, {self.clause})" if broken else ""))
+        self._given = code, position, rule
+
+    def __reduce__(self) -> Tuple[Type["DecodeError"], Tuple[int, int, int]]:
+        return type(self), self._given
 
 
 class Element(NamedTuple):
@@ -98,7 +105,8 @@ class Element(NamedTuple):
 
 
 def _bytes(data: Data) -> bytes:
-    return data if isinstance(data, bytes) else bytes(data)
+    # bytes(5) would be five zeros, and a class derived from bytes may have another length than its bytes
+    return data if type(data) is bytes else bytes(memoryview(data))
 
 
 def _element(view: memoryview, found: _Element) -> Element:
@@ -175,59 +183,64 @@ class Writer:
     """Writes elements one after another. Elements that are written within ``with writer.within(tag):`` are the content of one with this tag."""
 
     def __init__(self) -> None:
-        self._room = 256
-        self._out = (c_uint8 * self._room)()
-        self._used = c_size_t()
-
-    def _grown(self, needed: int) -> None:
-        self._room = max(needed, 2 * self._room)
-        out = (c_uint8 * self._room)()
-        ctypes.memmove(out, self._out, len(self._out))
-        self._out = out
+        self._out = (c_uint8 * 256)()
+        self._used = 0
+        # threads run during a call, and two calls may not write to one buffer
+        self._lock = threading.Lock()
 
     def put(self, tag: int, content: Data = b"") -> "Writer":
         """Appends an element with this tag, a byte, and this content."""
-        der, before = _bytes(content), self._used.value
-        while True:
-            code = _library.picky_der_put(self._out, self._room, byref(self._used), _byte(tag), der, len(der))
-            if code != _tables.NO_ROOM:
-                return self._done(code, before)
-            needed, self._used.value = self._used.value, before
-            self._grown(needed)
+        der = _bytes(content)
+        self._call(lambda out, used: _library.picky_der_put(out, len(out), used, _byte(tag), der, len(der)))
+        return self
 
     def within(self, tag: int) -> "_Within":
         """What is written in this block is the content of an element with this tag."""
         return _Within(self, _byte(tag))
 
-    def _wrap(self, start: int, tag: int) -> None:
-        before = self._used.value
-        while True:
-            code = _library.picky_der_wrap(self._out, self._room, byref(self._used), start, tag)
-            if code != _tables.NO_ROOM:
-                self._done(code, start)
-                return
-            needed, self._used.value = self._used.value, before
-            self._grown(needed)
-
-    def _done(self, code: int, position: int) -> "Writer":
-        if code != _tables.OK:
-            raise DecodeError(code, position)
-        return self
+    def set_of(self) -> "_Within":
+        """What is written in this block are the members of a SET OF, which are put in the order of X.690, 11.6."""
+        return _Within(self, _SET, sorts=True)
 
     def bytes(self) -> bytes:
         """What was written."""
-        return bytes(memoryview(self._out)[: self._used.value])
+        with self._lock:
+            return bytes(memoryview(self._out)[: self._used])
+
+    def _wrap(self, start: int, tag: int) -> None:
+        self._call(lambda out, used: _library.picky_der_wrap(out, len(out), used, start, tag))
+
+    def _sort(self, start: int) -> None:
+        self._call(lambda out, used: _library.picky_der_sort(out, len(out), self._used, start))
+
+    def _call(self, call: "Callable[[ctypes.Array[c_uint8], object], int]") -> None:
+        """Calls with the room that there is, and if that is too small, with what the first call counted at least."""
+        with self._lock:
+            used = c_size_t(self._used)
+            code = call(self._out, byref(used))
+            if code == _tables.NO_ROOM:
+                larger = (c_uint8 * max(used.value, 2 * len(self._out)))()
+                ctypes.memmove(larger, self._out, self._used)
+                self._out, used.value = larger, self._used
+                code = call(self._out, byref(used))
+            if code == _tables.NO_MEMORY:
+                raise MemoryError
+            if code != _tables.OK:
+                raise DecodeError(code, self._used)
+            self._used = used.value
 
 
 class _Within:
-    def __init__(self, writer: Writer, tag: int) -> None:
-        self._writer, self._tag, self._start = writer, tag, 0
+    def __init__(self, writer: Writer, tag: int, sorts: bool = False) -> None:
+        self._writer, self._tag, self._sorts, self._start = writer, tag, sorts, 0
 
     def __enter__(self) -> Writer:
-        self._start = self._writer._used.value
+        self._start = self._writer._used
         return self._writer
 
     def __exit__(self, kind: object, value: object, trace: object) -> None:
+        if kind is None and self._sorts:
+            self._writer._sort(self._start)
         if kind is None:
             self._writer._wrap(self._start, self._tag)
 
@@ -244,19 +257,24 @@ def encode(tag: int, *contents: Data) -> bytes:
     It raises DecodeError for the tag of a SET, 0x31, if the members are in neither of the orders of a SET; `encode_set` sorts them.
     """
     content = b"".join(map(_bytes, contents))
-    if tag != 0x31:
-        return Writer().put(tag, content).bytes()
     writer = Writer()
+    if tag != _SET:
+        return writer.put(tag, content).bytes()
     with writer.within(tag):
-        for member in _members(content):
-            writer.put(member.tag, member.content)
+        _put_all(writer, content)
     return writer.bytes()
-
-
-def _members(content: bytes) -> List[Element]:
-    return [it for it in elements(content) if it.depth == 0]
 
 
 def encode_set(members: Iterable[Data]) -> bytes:
     """Returns a SET OF with these members, encodings that are put in the order of X.690, 11.6."""
-    return encode(0x31, *sorted(map(_bytes, members)))
+    writer = Writer()
+    with writer.set_of():
+        _put_all(writer, b"".join(map(_bytes, members)))
+    return writer.bytes()
+
+
+def _put_all(writer: Writer, content: bytes) -> None:
+    """Writes the outermost elements of the content."""
+    for it in elements(content):
+        if it.depth == 0:
+            writer.put(it.tag, it.content)

@@ -1,5 +1,7 @@
-"""Tests of the Python package. CASES names the file that tools/bindings writes."""
+"""Tests of the Python package. CASES names the file that tools/bindings writes. With NO_MEMORY each allocation of the library fails."""
+import array
 import os
+import pickle
 import struct
 import threading
 import unittest
@@ -31,6 +33,7 @@ def cases() -> Iterator[Case]:
 CASES: List[Case] = list(cases())
 
 
+@unittest.skipIf("NO_MEMORY" in os.environ, "there is no memory")
 class Tests(unittest.TestCase):
     """What the package promises."""
 
@@ -41,27 +44,35 @@ class Tests(unittest.TestCase):
         return caught.exception
 
     def one(self, it: Case) -> None:
-        """A certificate, or a changed one."""
+        """A certificate, or a changed one, gets the verdict of `der read`, at its offset."""
+        listed, broken = [], None
+        try:
+            listed.extend(picky_der.elements(it.der))
+        except DecodeError as error:
+            broken = error
+        self.assertEqual(picky_der.is_der(it.der), broken is None)
+        for element in listed:
+            self.assertEqual(bytes(element.content), it.der[element.offset + element.header_len :][: len(element.content)])
         try:
             picky_der.check("certificate", it.der)
         except DecodeError as error:
             self.assertNotEqual(it.verdict, CERTIFICATE)
             self.assertLessEqual(error.position, len(it.der))
-            self.assertTrue(it.verdict in (REFUSED, UNKNOWN) or error.code > 100)
+            self.assertEqual(error.rule, broken and broken.rule)
+            if it.verdict != UNKNOWN:
+                self.assertEqual(it.verdict == READ, error.code > 100)
+            if it.verdict == REFUSED:
+                self.assertEqual(broken.position if broken else self.offset_of(listed, error.position, len(it.der)), it.offset)
         else:
             self.assertNotEqual(it.verdict, REFUSED)
-            self.assertTrue(picky_der.is_der(it.der))
-        listed = []
-        try:
-            listed.extend(picky_der.elements(it.der))
-        except DecodeError as error:
-            self.assertIsNotNone(error.rule)
-            self.assertFalse(picky_der.is_der(it.der))
-            if it.verdict == REFUSED:
-                self.assertEqual(error.position, it.offset)
-        for element in listed:
-            end = element.offset + element.header_len + len(element.content)
-            self.assertEqual(bytes(element.content), it.der[element.offset + element.header_len : end])
+            self.assertIsNone(broken)
+
+    @staticmethod
+    def offset_of(listed: List[picky_der.Element], position: int, length: int) -> int:
+        """Where `der read` says that elements were refused at this position: the last one before it, or the bytes after the first."""
+        if listed and listed[0].header_len + len(listed[0].content) <= position < length:
+            return position
+        return max((it.offset for it in listed if it.offset < position), default=0)
 
     def test_cases(self) -> None:
         """The certificates are accepted, and the changed ones get the verdict of `der read`."""
@@ -117,8 +128,66 @@ class Tests(unittest.TestCase):
         for it in CASES[:20]:
             self.assertEqual(self.again(it.der), it.der)
         self.assertEqual(picky_der.encode_set([b"\x02\x01\x02", b"\x02\x01\x01"]).hex(), "3106020101020102")
+        self.assertEqual(picky_der.encode_set([]), b"\x31\x00")
+        self.assertRaises(DecodeError, picky_der.encode_set, [b"\x02\x01\x02", b"\x02\x01"])
+        writer = picky_der.Writer()
+        with writer.put(0x05).set_of():
+            for size in range(300, 0, -1):
+                writer.put(0x04, bytes(size))
+        members = [bytes(it.content) for it in picky_der.elements(writer.bytes()[2:]) if it.depth == 1]
+        self.assertEqual(members, [bytes(size) for size in range(1, 301)])
         self.assertRaises(DecodeError, picky_der.encode, 0x31, b"\x02\x01\x02", b"\x02\x01\x01")
         self.assertRaises(ValueError, picky_der.encode, 256)
+
+    def test_data(self) -> None:
+        """Data is bytes of any object that has some, and nothing else."""
+
+        class Longer(bytes):
+            """Says that it is longer than it is."""
+
+            def __len__(self) -> int:
+                return 1 << 20
+
+        der = CASES[0].der
+        apart = bytes(it for byte in der for it in (byte, 0))
+        for same in (bytearray(der), memoryview(der), memoryview(apart)[::2], Longer(der), array.array("B", der), memoryview(der[::-1])[::-1]):
+            picky_der.check("certificate", same)  # type: ignore[arg-type]
+            self.assertEqual(sum(it.depth == 0 for it in picky_der.elements(same)), 1)  # type: ignore[arg-type]
+        for wrong in (5, None, "text", [48, 0], object()):
+            self.assertRaises(TypeError, picky_der.check, "certificate", wrong)
+            self.assertRaises(TypeError, picky_der.Writer().put, 4, wrong)
+        for empty in (b"", bytearray(), memoryview(b"")):
+            self.assertEqual((self.refused("certificate", empty).position, picky_der.is_der(empty), list(picky_der.elements(empty))), (0, True, []))
+
+    def test_changed_meanwhile(self) -> None:
+        """Elements stay what they were when the data is changed, or becomes shorter."""
+        data = bytearray.fromhex("30060201050201" + "06")
+        listed = picky_der.elements(data)
+        next(listed)
+        del data[2:]
+        self.assertEqual([bytes(it.content) for it in listed], [b"\x05", b"\x06"])
+
+    def test_one_writer(self) -> None:
+        """Threads may write by one writer, each element as a whole."""
+        writer = picky_der.Writer()
+
+        def run(number: int) -> None:
+            for size in range(200):
+                writer.put(0x04, bytes([number]) * size)
+
+        threads = [threading.Thread(target=run, args=(it,)) for it in range(4)]
+        for it in threads:
+            it.start()
+        for it in threads:
+            it.join()
+        contents = [bytes(it.content) for it in picky_der.elements(writer.bytes())]
+        self.assertEqual(sorted(contents), sorted(bytes([number]) * size for number in range(4) for size in range(200)))
+
+    def test_copies_of_errors(self) -> None:
+        """An error is the same after it was sent to another process."""
+        error = self.refused("certificate", bytes.fromhex("30810100"))
+        again = pickle.loads(pickle.dumps(error))
+        self.assertEqual((again.code, again.position, again.rule, str(again)), (error.code, error.position, error.rule, str(error)))
 
     def again(self, der: bytes) -> bytes:
         """The bytes, written from their elements."""
@@ -134,6 +203,20 @@ class Tests(unittest.TestCase):
 
         write(der)
         return writer.bytes()
+
+
+@unittest.skipUnless("NO_MEMORY" in os.environ, "there is memory")
+class WithoutMemory(unittest.TestCase):
+    """A failed allocation says nothing of the bytes."""
+
+    def test_errors(self) -> None:
+        """It is a MemoryError. What takes no memory works."""
+        der = CASES[0].der
+        self.assertRaises(MemoryError, picky_der.check, "certificate", der)
+        self.assertRaises(MemoryError, picky_der.is_der, der)
+        self.assertEqual(picky_der.front(der).offset, 0)
+        self.assertGreater(len(list(picky_der.elements(der))), 10)
+        self.assertEqual(picky_der.encode(0x02, b"\x05"), b"\x02\x01\x05")
 
 
 if __name__ == "__main__":

@@ -3,3 +3,4 @@ pub mod Verdict
 pub mod Types
 pub mod Elements
 pub mod Writing
+pub mod Order

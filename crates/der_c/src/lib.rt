@@ -9,5 +9,6 @@ mod elements;
 mod front;
 mod messages;
 mod next;
+mod order;
 mod types;
 mod writing;

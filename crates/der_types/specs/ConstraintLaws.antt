@@ -1,9 +1,11 @@
--- What trees say of the sizes of values, and on which side of a bound a number is that no i128 is.
+-- What trees say of the sizes of values, and how numbers compare with bounds, each of which is an i128.
 use Rattle.std.proofs.Common.{◌≡◌, ℕ, ◌^◌, ◌<◌, ℤ, pos, negsuc, Bool, true, false, not, List, [], ◌∷◌, length, map}
 use Rattle.std.proofs.Common.{refl, sym, ap, ◌∙◌, arith, int_le, leb, nat_lt}
 use Rattle.std.proofs.lemmas.Bool.Decides.{nat_tests}
 use Rattle.std.specs.Int.{complement_if}
-use lib.Signed.{mag}
+use Rattle.std.proofs.lemmas.Int.{ints}
+use lib.IntN.{nat_abs}
+use lib.Signed.{mag, ◌≤ℤ◌}
 use Rattle.picky_der_core.specs.Tree.{ListKind, Tree, trees}
 use Rattle.picky_der_ser.specs.Meaning.{list_meaning}
 use Rattle.picky_der_core.specs.Integer.{content_bits, fits_signed, integer_value, is_negative}
@@ -51,3 +53,23 @@ unfit_is_below (pos a) (pos n) small e = beyond_le a n (2 ^ 127) small e
 unfit_is_below (pos a) (negsuc n) small e = refl
 unfit_is_below (negsuc a) (pos n) small e = refl
 unfit_is_below (negsuc a) (negsuc n) small e = le_beyond a n (2 ^ 127) small e
+
+-- ---- numbers without a sign
+
+-- beside a bound that has none either
+pub unsigned_le : (z : ℤ) (n b : ℕ) → pos 0 ≤ℤ z → b ≡ nat_abs z → leb b n ≡ int_le z (pos n)
+unsigned_le (pos m) n b h e = ap (λ k. leb k n) e
+unsigned_le (negsuc m) n b h e = absurd h.le
+
+pub unsigned_ge : (z : ℤ) (n b : ℕ) → pos 0 ≤ℤ z → b ≡ nat_abs z → leb n b ≡ int_le (pos n) z
+unsigned_ge (pos m) n b h e = ap (leb n) e
+unsigned_ge (negsuc m) n b h e = absurd h.le
+
+-- beside a bound below zero
+pub negative_le : (z : ℤ) (n : ℕ) → (pos 0 ≤ℤ z → ⊥) → true ≡ int_le z (pos n)
+negative_le (pos m) n h = absurd (h (omega (arith, ints)))
+negative_le (negsuc m) n h = refl
+
+pub negative_ge : (z : ℤ) (n : ℕ) → (pos 0 ≤ℤ z → ⊥) → false ≡ int_le (pos n) z
+negative_ge (pos m) n h = absurd (h (omega (arith, ints)))
+negative_ge (negsuc m) n h = refl

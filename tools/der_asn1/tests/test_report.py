@@ -217,6 +217,13 @@ class Command(unittest.TestCase):
         self.assertIn("1 of 3 (33.3 %) types exact and written\n", out)
         self.assertIn("2 of 3 (66.7 %) types exact only with types by hand", out)
 
+    def test_a_module_that_was_written_for_no_compiler(self):
+        """Each of its types is written without a flag, and what isn't exact has an open type or contains itself."""
+        with tempfile.TemporaryDirectory() as folder, contextlib.redirect_stdout(io.StringIO()) as out:
+            path = os.path.join(os.path.dirname(__file__), "fleet.asn1")
+            self.assertEqual([0, 0], [command.main([*words, "--strict", path]) for words in (["--report"], ["--out", os.path.join(folder, "fleet")])])
+        self.assertIn("2 of 2 (100.0 %) modules written without a flag\n38 of 38 (100.0 %) types written without a flag\n31 of 38", out.getvalue())
+
     def test_what_a_crate_allows(self):
         raw, wider = ("T ::= CHARACTER STRING", "--allow-raw", "TaggedBytes<0x3D>"), ("T ::= ENUMERATED { a(128) }", "--allow-wider", "Enumerated")
         bits = ("T ::= [1] IMPLICIT BIT STRING (CONTAINING NULL)", "--allow-raw", "TaggedBytes<0x81>")

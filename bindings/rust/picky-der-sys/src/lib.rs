@@ -46,6 +46,11 @@ pub fn put(out: &mut [u8], used: &mut usize, tag: u8, content: &[u8]) -> u32 {
     unsafe { raw::picky_der_put(out.as_mut_ptr(), out.len(), used, tag, content.as_ptr(), content.len()) }
 }
 
+/// Puts the elements from `start` to `used` in the order of their encodings. Returns the code.
+pub fn sort(out: &mut [u8], used: usize, start: usize) -> u32 {
+    unsafe { raw::picky_der_sort(out.as_mut_ptr(), out.len(), used, start) }
+}
+
 /// Makes the bytes from `start` to `used` the content of an element. Returns the code.
 pub fn wrap(out: &mut [u8], used: &mut usize, start: usize, tag: u8) -> u32 {
     unsafe { raw::picky_der_wrap(out.as_mut_ptr(), out.len(), used, start, tag) }

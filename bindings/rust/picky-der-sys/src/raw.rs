@@ -107,4 +107,5 @@ extern "C" {
     pub fn picky_der_next(bytes: *const u8, bytes_len: usize, place: *mut Place, ends: *mut usize, ends_len: usize, element: *mut Element) -> u32;
     pub fn picky_der_put(out: *mut u8, out_len: usize, used: *mut usize, tag: u8, content: *const u8, content_len: usize) -> u32;
     pub fn picky_der_wrap(out: *mut u8, out_len: usize, used: *mut usize, start: usize, tag: u8) -> u32;
+    pub fn picky_der_sort(out: *mut u8, out_len: usize, used: usize, start: usize) -> u32;
 }

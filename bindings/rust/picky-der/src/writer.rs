@@ -33,6 +33,19 @@ impl Writer {
         self.grow(|out, used| picky_der_sys::wrap(out, used, start, tag))
     }
 
+    /// Appends a SET OF, whose members are what `write` writes, in the order of their encodings (X.690, 11.6).
+    ///
+    /// # Errors
+    /// Those of `write`. `Reason::NoMemory` if an allocation failed.
+    pub fn set_of(&mut self, write: impl FnOnce(&mut Writer) -> Result<(), Error>) -> Result<&mut Writer, Error> {
+        self.within(0x31, |inner| {
+            let start = inner.bytes.len();
+            write(inner)?;
+            let used = inner.bytes.len();
+            Error::of(picky_der_sys::sort(&mut inner.bytes, used, start), start)
+        })
+    }
+
     /// What was written.
     pub fn as_bytes(&self) -> &[u8] {
         &self.bytes

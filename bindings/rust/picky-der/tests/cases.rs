@@ -24,6 +24,15 @@ fn cases() -> Vec<Case> {
     (0..number(0)).map(|_| next()).collect()
 }
 
+// Where `der read` says that elements were refused at this position: at bytes after the first, or at the last one before it.
+fn offset_of(der: &[u8], position: usize) -> usize {
+    let all: Vec<_> = elements(der).map(Result::unwrap).collect();
+    if all.first().map_or(false, |first| first.encoding.len() <= position && position < der.len()) {
+        return position;
+    }
+    all.iter().map(|it| it.offset).filter(|offset| *offset < position).last().unwrap_or(0)
+}
+
 fn check(case: &Case) {
     let broken = elements(&case.der).find_map(Result::err);
     match Message::Certificate.check(&case.der) {
@@ -31,10 +40,11 @@ fn check(case: &Case) {
         Err(error @ Error { reason: Reason::Rule(_), .. }) => {
             assert!(broken == Some(error) && case.verdict != REFUSED && case.verdict != CERTIFICATE)
         }
-        Err(error) => assert!(error.position <= case.der.len() && case.verdict != READ && case.verdict != CERTIFICATE),
-    }
-    if let (REFUSED, Some(error)) = (case.verdict, broken) {
-        assert_eq!(error.position, case.offset);
+        Err(error) => {
+            assert!(error.position <= case.der.len() && case.verdict != READ && case.verdict != CERTIFICATE);
+            let offset = broken.map_or_else(|| offset_of(&case.der, error.position), |rule| rule.position);
+            assert!(case.verdict != REFUSED || offset == case.offset);
+        }
     }
     assert_eq!(is_der(&case.der), broken.is_none());
 }
@@ -80,6 +90,14 @@ fn written_again() {
 }
 
 #[test]
+fn no_bytes() {
+    let error = Message::Certificate.check(&[]).unwrap_err();
+    assert_eq!(error, Error { reason: Reason::Truncated, position: 0 });
+    assert!(is_der(&[]) && elements(&[]).next().is_none() && front(&[]).is_err());
+    assert_eq!(Writer::new().put(0x04, &[]).unwrap().as_bytes(), [4, 0]);
+}
+
+#[test]
 fn small_ones() {
     let first = front(&[0xA1, 0x02, 0x05, 0x00, 0xFF]).unwrap();
     assert_eq!((first.class, first.number, first.content, first.encoding.len()), (Class::ContextSpecific, 1, &[5, 0][..], 4));
@@ -89,6 +107,9 @@ fn small_ones() {
     let mut writer = Writer::new();
     let unordered = writer.within(0x31, |set| set.put(2, &[2])?.put(2, &[1]).map(|_| ()));
     assert!(unordered.unwrap_err().rule().is_some());
+    let mut writer = Writer::new();
+    writer.set_of(|set| set.put(2, &[2])?.put(2, &[1, 1])?.put(2, &[1]).map(drop)).unwrap();
+    assert_eq!(writer.as_bytes(), [0x31, 10, 2, 1, 1, 2, 1, 2, 2, 2, 1, 1]);
     let mut deep = Vec::new();
     for _ in 0..200 {
         let mut writer = Writer::new();

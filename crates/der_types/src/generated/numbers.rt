@@ -400,20 +400,6 @@ impl WholeNumber for u64 {
     ghost determined = { λ x y e. ap pos (unsigned_tree-same (2 ^ 64 - 1) x y e) };
 }
 
-impl WholeNumber for u128 {
-    ghost number = { pos };
-
-    fn is_at_least(&self, least: i128) -> bool {
-        least < 0 || least as u128 <= *self
-    }
-
-    fn is_at_most(&self, most: i128) -> bool {
-        0 <= most && *self <= most as u128
-    }
-
-    ghost determined = { λ x y e. ap pos (unsigned_tree-same (2 ^ 128 - 1) x y e) };
-}
-
 impl WholeNumber for usize {
     ghost number = { pos };
 

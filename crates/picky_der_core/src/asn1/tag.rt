@@ -99,31 +99,6 @@ impl Tag {
     /// A set (8.11), which is constructed.
     pub const SET: Tag = Tag(0x31);
 
-    /// A law: which identifier bytes the universal tags have (X.680, 8.4). Those of lists are constructed.
-    pub fn universal_tags()
-        ensures boolean { Tag.BOOLEAN ≡ 0x01 }
-        ensures integer { Tag.INTEGER ≡ 0x02 }
-        ensures bit_string { Tag.BIT_STRING ≡ 0x03 }
-        ensures octet_string { Tag.OCTET_STRING ≡ 0x04 }
-        ensures null { Tag.NULL ≡ 0x05 }
-        ensures oid { Tag.OID ≡ 0x06 }
-        ensures enumerated { Tag.ENUMERATED ≡ 0x0A }
-        ensures utf8_string { Tag.UTF8_STRING ≡ 0x0C }
-        ensures relative_oid { Tag.RELATIVE_OID ≡ 0x0D }
-        ensures numeric_string { Tag.NUMERIC_STRING ≡ 0x12 }
-        ensures printable_string { Tag.PRINTABLE_STRING ≡ 0x13 }
-        ensures teletex_string { Tag.TELETEX_STRING ≡ 0x14 }
-        ensures ia5_string { Tag.IA5_STRING ≡ 0x16 }
-        ensures utc_time { Tag.UTC_TIME ≡ 0x17 }
-        ensures generalized_time { Tag.GENERALIZED_TIME ≡ 0x18 }
-        ensures visible_string { Tag.VISIBLE_STRING ≡ 0x1A }
-        ensures general_string { Tag.GENERAL_STRING ≡ 0x1B }
-        ensures universal_string { Tag.UNIVERSAL_STRING ≡ 0x1C }
-        ensures bmp_string { Tag.BMP_STRING ≡ 0x1E }
-        ensures sequence { Tag.SEQUENCE ≡ 0x30 }
-        ensures set { Tag.SET ≡ 0x31 }
-    {}
-
     /// The constructed tag of the application class with this number, at most 30, as explicit tags have it.
     pub const fn application_constructed(number: u8) -> Tag
         requires { number ≤ 30 }
