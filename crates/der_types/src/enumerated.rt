@@ -1,4 +1,5 @@
 //! Values of enumerated types.
+ghost use Rattle.der_types.specs.IntegerOrder.{number_text};
 
 use crate::Integer;
 use std::fmt;
@@ -9,6 +10,8 @@ use std::fmt;
 pub struct Enumerated(pub Integer);
 
 impl fmt::Display for Enumerated {
+    ghost output = { λ it. number_text it.0.content.items };
+
     fn fmt<W: fmt::Write>(&self, f: &mut fmt::Formatter<W>) -> fmt::Result {
         self.0.fmt(f)
     }

@@ -6,7 +6,7 @@ ghost use Rattle.std.specs.Cmp.Rules.{comparing};
 ghost use Rattle.std.specs.Cmp.Lexicographic.{slice_cmp};
 ghost use Rattle.std.specs.Ordering.{on, then_cmp, nat_cmp, int_cmp, as_partial_cmp};
 ghost use Rattle.picky_der_core.specs.Integer.{is_integer, is_negative, integer_content};
-ghost use Rattle.der_types.specs.IntegerOrder.{signed_length};
+ghost use Rattle.der_types.specs.IntegerOrder.{signed_length, number_text};
 ghost use Rattle.der_types.specs.IntegerOrderLaws.{integer_ties};
 
 use picky_der_core::integer::{IntContent, number_of};
@@ -91,7 +91,8 @@ impl PartialOrd for Integer {
     ghost partial_cmp = { as_partial_cmp (then_cmp (on (λ it. signed_length it.content.items) int_cmp)
         (on (λ it. it.content.items) (slice_cmp nat_cmp))) };
 
-    ghost laws = { partial_order_from_own_ties (Prim.search (comparing, rules)) (λ x y. integer_ties x.content.items y.content.items) };
+    ghost laws = { partial_order_from_own_ties (Prim.search (comparing, rules))
+        (λ x y. integer_ties x.content.items y.content.items) };
 
     fn partial_cmp(&self, other: &Integer) -> Option<Ordering> {
         Some(self.cmp(other))
@@ -99,6 +100,8 @@ impl PartialOrd for Integer {
 }
 
 impl fmt::Display for Integer {
+    ghost output = { λ it. number_text it.content.items };
+
     fn fmt<W: fmt::Write>(&self, f: &mut fmt::Formatter<W>) -> fmt::Result {
         match number_of::<i128>(&self.content) {
             Some(number) => write!(f, "{number}"),
