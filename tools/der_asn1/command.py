@@ -3,7 +3,7 @@
     der_asn1 --report [--types] [OPTION ..] MODULE.asn1 ..
     der_asn1 --print crates/NAME/specs/Notation.antt ..
     der_asn1 --out crates/NAME [--type TYPE,..] [--group FILE=TYPE,..] [--crate MODULE=CRATE ..] [--distinct TYPE,..] [--own MODULE=NAME,..]
-        [--own-terms NAME,..] [--check] [--allow-raw [TYPE,..]] [--allow-wider [TYPE,..]] [OPTION ..] MODULE.asn1 ..
+        [--own-terms NAME,..] [--derive TRAIT,..] [--check] [--allow-raw [TYPE,..]] [--allow-wider [TYPE,..]] [OPTION ..] MODULE.asn1 ..
     der_asn1 derive [--check] FILE.rt ..
 
 `derive` is in derive.py, and writes what the structs and enums of a file of Rust need.
@@ -27,6 +27,8 @@ The types of a module are in one file, which has the module's name, or is `types
 own in the crate are left alone, which are files with the folders of their names: `--own MODULE=NAME,..` names a module of `src` with the
 names of it that the root exports, and `--own-terms NAME,..` names modules of `specs`.
 
+`--derive TRAIT,..` lets all types derive these traits, too: Clone, PartialOrd, Ord, Hash.
+
 A file after `--import` is read for the names that the modules import. `--strict` refuses what the standard doesn't allow and is otherwise
 accepted. The status is 1 if there is an error.
 """
@@ -38,6 +40,7 @@ from typing import Iterable, Optional
 
 from .derive import command as derive
 from .emit.crate import NEEDS, RESERVED, Crate, reached, reached_elsewhere
+from .emit.derives import MORE
 from .emit.folder import difference, own_paths, write
 from .emit.printed import printed, read_terms
 from .emit.values import values_of
@@ -75,6 +78,7 @@ def arguments(words: Optional[list[str]]) -> argparse.Namespace:
     parser.add_argument("--distinct", action="append", default=[], metavar="TYPE,..", help="write these types as structs, and not as names of others")
     parser.add_argument("--own", action="append", default=[], metavar="MODULE=NAME,..", help="a module of one's own in src, with its public names")
     parser.add_argument("--own-terms", action="append", default=[], metavar="NAME,..", help="modules of one's own in specs")
+    parser.add_argument("--derive", action="append", default=[], metavar="TRAIT,..", help="derive these traits, too: Clone, PartialOrd, Ord, Hash")
     parser.add_argument("--check", action="store_true", help="write nothing, and fail where a file is another one")
     parser.add_argument("--allow-raw", action="append", default=[], metavar="[TYPE,..]", help="keep as bytes what the library has no type for")
     parser.add_argument("--allow-wider", action="append", default=[], metavar="[TYPE,..]", help="use a type that has other values than the notation")
@@ -161,7 +165,9 @@ def written(options: argparse.Namespace, modules: list[tree.Module], imported: l
         sys.exit(f"{error.filename}: {error.strerror}")
     crate = crate_of(name, modules, imported, listed(options.type), problems, others, listed(options.distinct), options.depth)
     crate.own, crate.own_terms, crate.groups = named_lists(options.own), listed(options.own_terms), named_lists(options.group)
+    crate.derives = listed(options.derive)
     check_groups(crate, problems)
+    check_derives(crate, problems)
     refuse(problems, crate.causes, Allowed(options.allow_raw), Allowed(options.allow_wider))
     if said(problems):
         return 1
@@ -199,6 +205,15 @@ def check_groups(crate: Crate, problems: Problems) -> None:
             problems.error(crate.modules[0].place, f"the crate has no type `{missing[0]}` for `{stem}.rt`", "docs/ASN1.md")
         if stem in crate.own or stem in RESERVED:
             problems.error(crate.modules[0].place, f"a group can't be called `{stem}`", "docs/ASN1.md")
+
+
+def check_derives(crate: Crate, problems: Problems) -> None:
+    """Says which traits can't be derived for all types, and which need another one."""
+    for it in crate.derives:
+        if it not in MORE:
+            problems.error(crate.modules[0].place, f"`{it}` can't be derived for all types, only {', '.join(MORE)}", "docs/ASN1.md")
+        elif MORE[it] and MORE[it] not in crate.derives:
+            problems.error(crate.modules[0].place, f"`{it}` needs `{MORE[it]}`", "docs/ASN1.md")
 
 
 def crate_of(

@@ -33,6 +33,7 @@ class Crate:
     `elsewhere` has the other crate of each type that it names and doesn't declare. `groups` has the names of the types of each file that
     isn't the one of a module. `own` are the modules of `src` that are written by hand, by their names: the public names of each that the
     root exports. `own_terms` are those of `specs`. `causes` are why types aren't those of the notation, each with how many contain it.
+    `derives` are the traits that all types derive, besides those that each has.
     """
 
     name: str
@@ -44,6 +45,7 @@ class Crate:
     own: dict[str, list[str]] = field(default_factory=dict)
     own_terms: list[str] = field(default_factory=list)
     causes: dict[Cause, int] = field(default_factory=dict)
+    derives: list[str] = field(default_factory=list)
 
     def files(self) -> dict[str, str]:
         """The text of each file, by its path in the crate."""
@@ -93,7 +95,7 @@ class Crate:
     def context(self) -> Context:
         """What the files of types depend on."""
         fields = {part.name for it in self.types.values() if not isinstance(it, (AliasDeclaration, SetDeclaration)) for part in it.parts()}
-        return Context(self.name, self.homes(), PrivateNames([*self.homes(), *LIBRARY_NAMES, *fields]), self.types)
+        return Context(self.name, self.homes(), PrivateNames([*self.homes(), *LIBRARY_NAMES, *fields]), self.types, tuple(self.derives))
 
     def homes(self) -> dict[str, str]:
         """The crate of each type, by its name, and of the defaults of enumerations: `crate` for this one."""
