@@ -34,6 +34,7 @@ pub mod GeneralizedTimeLaws
 pub mod GeneralizedTimes
 pub mod IntegerOrder
 pub mod IntegerOrderLaws
+pub mod IntegerValueLaws
 pub mod MadeValues
 pub mod Names
 pub mod Notation
@@ -56,4 +57,6 @@ pub mod TimeChoiceLaws
 pub mod TimeContents
 pub mod TimeLaws
 pub mod TimeSameness
+pub mod TimeTextLaws
+pub mod TimeTexts
 pub mod TimeValues

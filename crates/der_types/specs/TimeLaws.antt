@@ -88,7 +88,7 @@ utc-valid t l h =
     both (both (both (utc_length t) (pair (t.year % 100) s.year)) (utc_end t))
     (ap (λ y. is_date_time_at y (utc_content t) 2) year ∙ ten_valid t (0x5A ∷ []))
 
-year-first : (t : DateTime) (ds : List ℕ) → year_at_first (generalized_content t ds) ≡ t.year
+pub year-first : (t : DateTime) (ds : List ℕ) → year_at_first (generalized_content t ds) ≡ t.year
 unfolding generalized_content
 year-first t ds = let s = short_of t in
     ap₂ (λ a b. a * 100 + b) (number (t.year / 100) s.century) (number (t.year % 100) s.year) ∙ whole (t.year)

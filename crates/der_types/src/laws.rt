@@ -2,12 +2,13 @@
 ghost use Rattle.std.specs.Prelude.{◌≡◌, ◌≤◌, ℕ, Bool, List, [], ◌∷◌, length, true, chars, IsUtf8};
 ghost use Rattle.std.specs.List.{list_all};
 ghost use Rattle.std.specs.Cmp.Lexicographic.{slice_cmp};
-ghost use Rattle.std.specs.Ordering.{nat_cmp};
+ghost use Rattle.std.specs.Ordering.{nat_cmp, int_cmp};
 ghost use Rattle.std.specs.Char.Escape.{encode_utf16};
 ghost use Rattle.picky_der_core.specs.Element.{AreBytes};
 ghost use Rattle.picky_der_core.specs.Readable.{IsReadable};
 ghost use Rattle.picky_der_core.specs.Shape.{IsOf};
 ghost use Rattle.picky_der_core.specs.Equality.{IsEqualityOf, IsThatOf, IsKept, IsCopied};
+ghost use Rattle.picky_der_core.specs.Integer.{integer_value};
 ghost use Rattle.der_types.specs.BitString.{is_bit_string, bit_string_content, bits_of, is_named_bits, without_zeros};
 ghost use Rattle.der_types.specs.CharacterStrings.{string_content, characters, is_string_content, is_ia5, is_bmp};
 ghost use Rattle.picky_der_core.specs.Tree.{Tree};
@@ -27,7 +28,7 @@ ghost use Rattle.der_types.specs.TimeValues.{utc_content};
 
 pub use crate::generated::equality::{content_copies, content_equality, content_orders};
 use crate::{
-    Arcs, CharacterSet, DateTime, Exact, GeneralizedTime, ImplicitPrimitive, ImplicitSet,
+    Arcs, CharacterSet, DateTime, Exact, GeneralizedTime, ImplicitPrimitive, ImplicitSet, Integer,
     LaterTime, OidError, RestrictedString, TagOrdered, Time, TimeError, UtcTime, Width,
 };
 pub use picky_der_core::laws::integers;
@@ -74,6 +75,13 @@ pub fn relative_oids()
     ensures all { (bs : List ℕ) → AreBytes bs → is_relative_oid bs ≡ true
         → relative_oid_content (numbers_after 0 bs) ≡ bs }
     ensures one { (a b : List ℕ) → relative_oid_content a ≡ relative_oid_content b → a ≡ b }
+{}
+
+/// INTEGERs are in the order of their numbers.
+pub fn integer_order()
+    ensures { (x y : Integer) → AreBytes x.content.items → AreBytes y.content.items
+        → ⟦<Integer as Ord>⟧.cmp x y
+        ≡ int_cmp (integer_value x.content.items) (integer_value y.content.items) }
 {}
 
 /// When a SET is read back, its members begin with tags in the order of tags (X.690, 10.3), and no tag occurs twice.

@@ -44,6 +44,7 @@ mod time;
 mod time_contents;
 mod time_conversions;
 mod time_error;
+mod time_parsing;
 mod time_texts;
 mod utc_time;
 mod whole_number;
