@@ -1,18 +1,19 @@
 -- INTEGERs are in the order of their numbers.
-use Rattle.std.proofs.Common.{◌≡◌, ℕ, zero, suc, ◌+◌, ◌-◌, ◌*◌, ◌<◌, ◌≤◌, true, false, List, [], ◌∷◌, length, pos}
+use Rattle.std.proofs.Common.{◌≡◌, ℕ, zero, suc, ◌+◌, ◌-◌, ◌*◌, ◌<◌, ◌≤◌, Bool, true, false, List, [], ◌∷◌, length, pos}
 use Rattle.std.proofs.Common.{negsuc}
 use Rattle.std.proofs.Common.{not, ◌==◌, cond, refl, sym, ap, ap₂, subst, ◌∙◌, arith, inl, inr, lt-ltb, le-ltb, ne_eqb}
 use Rattle.std.proofs.lemmas.Bool.{cases_lt}
 use Rattle.std.proofs.lemmas.Bool.Decides.{nat_tests}
 use Rattle.std.proofs.lemmas.List.{length-map}
-use Rattle.std.specs.Cmp.{nat_cmp_total, int_cmp_is}
+use Rattle.std.specs.Cmp.{nat_cmp_total}
 use Rattle.std.specs.Cmp.Lexicographic.{slice_cmp}
 use Rattle.std.specs.declared.cmp.Ordering.{Ordering}
 use Rattle.std.specs.declared.cmp.Ordering.TheVariants.{Less, Equal, Greater}
+use Rattle.std.specs.Int.{complement_if}
 use Rattle.std.specs.Int.Digits.{number_from_digits, number_from_digits_after}
 use Rattle.std.specs.Ordering.{nat_cmp, int_cmp, ordering_then, ordering_reverse}
 use Rattle.picky_der_core.specs.Element.{AreBytes}
-use Rattle.picky_der_core.specs.Integer.{is_integer, integer_value, turned_byte, turned_if}
+use Rattle.picky_der_core.specs.Integer.{is_integer, is_negative, integer_value, turned_byte, turned_if}
 use Rattle.picky_der_core.specs.IntegerLaws.{AreBytes-turned, unturned}
 use Rattle.der_types.specs.CalendarLaws.{added, cmp_parts, equal, greater, less, then_assoc, when_equal, when_greater}
 use Rattle.der_types.specs.CalendarLaws.{when_less}
@@ -20,15 +21,17 @@ use Rattle.der_types.specs.IntegerOrder.{signed_length}
 
 -- ---- the number of a content whose first byte is known
 
+value_as : (bs : List ℕ) (t : Bool) → is_negative bs ≡ t
+    → integer_value bs ≡ complement_if t (number_from_digits 256 (turned_if t bs))
+value_as bs t e = ap (λ t. complement_if t (number_from_digits 256 (turned_if t bs))) e
+
 value_low : (x : ℕ) (xs : List ℕ) → x < 0x80 → integer_value (x ∷ xs) ≡ pos (number_from_digits 256 (x ∷ xs))
-value_low x xs low =
-    let value : integer_value (x ∷ xs) ≡ pos (number_from_digits 256 (turned_if false (x ∷ xs))) =
-    rw (lt-ltb x 0x80 low) refl in
-    value ∙ ap (λ ds. pos (number_from_digits 256 ds)) (unturned (x ∷ xs))
+value_low x xs low = value_as (x ∷ xs) false (rw (lt-ltb x 0x80 low) refl)
+    ∙ ap (λ ds. pos (number_from_digits 256 ds)) (unturned (x ∷ xs))
 
 value_high : (x : ℕ) (xs : List ℕ) → 0x80 ≤ x
     → integer_value (x ∷ xs) ≡ negsuc (number_from_digits 256 (turned_if true (x ∷ xs)))
-value_high x xs high = rw (le-ltb x 0x80 high) refl
+value_high x xs high = value_as (x ∷ xs) true (rw (le-ltb x 0x80 high) refl)
 
 -- with inverted bits, it is that of a number that isn't negative
 turned_valid : (x : ℕ) (xs : List ℕ) → 0x80 ≤ x → AreBytes (x ∷ xs) → is_integer (x ∷ xs) ≡ true
@@ -68,7 +71,7 @@ cmp_bytes xs ys e p q = cmp_after 0 0 xs ys e p q
 -- ---- of fewer bytes
 
 -- zeros in front change no number
-zeros : ℕ → List ℕ → List ℕ
+abbrev zeros : ℕ → List ℕ → List ℕ
 zeros zero xs = xs
 zeros (suc k) xs = 0 ∷ zeros k xs
 
@@ -77,8 +80,8 @@ number-zeros zero xs = refl
 number-zeros (suc k) xs = number-zeros k xs
 
 length-zeros : (k : ℕ) (xs : List ℕ) → length (zeros k xs) ≡ k + length xs
-length-zeros zero xs = refl
-length-zeros (suc k) xs = ap suc (length-zeros k xs)
+length-zeros zero xs = omega arith
+length-zeros (suc k) xs = omega (arith, length-zeros k xs)
 
 AreBytes-zeros : (k : ℕ) (xs : List ℕ) → AreBytes xs → AreBytes (zeros k xs)
 AreBytes-zeros zero xs p = p
@@ -171,18 +174,18 @@ negative_order : (x y : ℕ) (xs ys : List ℕ) → 0x80 ≤ x → 0x80 ≤ y �
 negative_order x y xs ys high large e f p q =
     let us = turned_if true xs in
     let vs = turned_if true ys in
-    let whole : ordering_then (nat_cmp (length (0xFF - y ∷ vs)) (length (0xFF - x ∷ us)))
-    (slice_cmp nat_cmp (0xFF - y ∷ vs) (0xFF - x ∷ us))
-    ≡ nat_cmp (number_from_digits 256 (0xFF - y ∷ vs)) (number_from_digits 256 (0xFF - x ∷ us)) =
+    let whole : ordering_then (nat_cmp (length ((0xFF - y) ∷ vs)) (length ((0xFF - x) ∷ us)))
+    (slice_cmp nat_cmp ((0xFF - y) ∷ vs) ((0xFF - x) ∷ us))
+    ≡ nat_cmp (number_from_digits 256 ((0xFF - y) ∷ vs)) (number_from_digits 256 ((0xFF - x) ∷ us)) =
     positive_order (0xFF - y) (0xFF - x) vs us (omega (arith, q.0)) (omega (arith, p.0))
     (turned_valid y ys large q f) (turned_valid x xs high p e) (AreBytes-turned (y ∷ ys))
     (AreBytes-turned (x ∷ xs)) in
     then_same (length ys) (length xs) (slice_cmp nat_cmp (x ∷ xs) (y ∷ ys))
-    (slice_cmp nat_cmp (0xFF - y ∷ vs) (0xFF - x ∷ us))
+    (slice_cmp nat_cmp ((0xFF - y) ∷ vs) ((0xFF - x) ∷ us))
     (λ same. sym (turned_bytes (x ∷ xs) (y ∷ ys) (ap suc (sym same)) p q))
-    ∙ ap₂ (λ m n. ordering_then (nat_cmp m n) (slice_cmp nat_cmp (0xFF - y ∷ vs) (0xFF - x ∷ us)))
+    ∙ ap₂ (λ m n. ordering_then (nat_cmp m n) (slice_cmp nat_cmp ((0xFF - y) ∷ vs) ((0xFF - x) ∷ us)))
     (sym (length-map ys (turned_byte true))) (sym (length-map xs (turned_byte true)))
-    ∙ ap (λ o. ordering_then o (slice_cmp nat_cmp (0xFF - y ∷ vs) (0xFF - x ∷ us)))
+    ∙ ap (λ o. ordering_then o (slice_cmp nat_cmp ((0xFF - y) ∷ vs) ((0xFF - x) ∷ us)))
     (sym (added 1 1 (length vs) (length us) refl))
     ∙ whole
 
@@ -190,23 +193,31 @@ negative_order x y xs ys high large e f p q =
 
 positive_cmp : (a b : ℕ) → int_cmp (pos a) (pos b) ≡ nat_cmp a b
 positive_cmp a b = elim (cases_lt a b) [
-  | inl h ↦ sym (int_cmp_is (pos a) (pos b) Less h) ∙ sym (less a b h)
+  | inl h ↦
+      let it : int_cmp (pos a) (pos b) ≡ Less = rw (lt-ltb a b h) refl in
+      it ∙ sym (less a b h)
   | inr h ↦ elim (cases_lt b a) [
-    | inl k ↦ sym (int_cmp_is (pos a) (pos b) Greater k) ∙ sym (greater a b k)
+    | inl k ↦
+        let it : int_cmp (pos a) (pos b) ≡ Greater = rw (le-ltb a b h, lt-ltb b a k) refl in
+        it ∙ sym (greater a b k)
     | inr k ↦
-        let same : a ≡ b = omega (arith, h, k) in
-        sym (int_cmp_is (pos a) (pos b) Equal (ap pos same)) ∙ sym (equal a b same)
+        let it : int_cmp (pos a) (pos b) ≡ Equal = rw (le-ltb a b h, le-ltb b a k) refl in
+        it ∙ sym (equal a b (omega (arith, h, k)))
   ]
 ]
 
 negative_cmp : (a b : ℕ) → int_cmp (negsuc a) (negsuc b) ≡ nat_cmp b a
 negative_cmp a b = elim (cases_lt b a) [
-  | inl h ↦ sym (int_cmp_is (negsuc a) (negsuc b) Less h) ∙ sym (less b a h)
+  | inl h ↦
+      let it : int_cmp (negsuc a) (negsuc b) ≡ Less = rw (lt-ltb b a h) refl in
+      it ∙ sym (less b a h)
   | inr h ↦ elim (cases_lt a b) [
-    | inl k ↦ sym (int_cmp_is (negsuc a) (negsuc b) Greater k) ∙ sym (greater b a k)
+    | inl k ↦
+        let it : int_cmp (negsuc a) (negsuc b) ≡ Greater = rw (le-ltb b a h, lt-ltb a b k) refl in
+        it ∙ sym (greater b a k)
     | inr k ↦
-        let same : a ≡ b = omega (arith, h, k) in
-        sym (int_cmp_is (negsuc a) (negsuc b) Equal (ap negsuc same)) ∙ sym (equal b a (sym same))
+        let it : int_cmp (negsuc a) (negsuc b) ≡ Equal = rw (le-ltb b a h, le-ltb a b k) refl in
+        it ∙ sym (equal b a (omega (arith, h, k)))
   ]
 ]
 
