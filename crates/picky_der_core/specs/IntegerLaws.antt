@@ -60,7 +60,7 @@ positive_content (suc b) bs low p e = positive_alone (suc b) bs (omega arith) lo
 -- ---- each content is that of a number
 
 -- with inverted bits, the content of a negative number is that of a number that isn't
-is_integer-turned : (b : ℕ) (bs : List ℕ) → 0x80 ≤ b → AreBytes (b ∷ bs) → is_integer (b ∷ bs) ≡ true
+pub is_integer-turned : (b : ℕ) (bs : List ℕ) → 0x80 ≤ b → AreBytes (b ∷ bs) → is_integer (b ∷ bs) ≡ true
     → is_integer (turned_if true (b ∷ bs)) ≡ true
 is_integer-turned b [] high p e = refl
 is_integer-turned b (c ∷ bs) high p e = elim (cases_lt c 0x80) [
@@ -76,11 +76,11 @@ value_as : (bs : List ℕ) (t : Bool) → is_negative bs ≡ t
     → integer_value bs ≡ complement_if t (number_from_digits 256 (turned_if t bs))
 value_as bs t e = ap (λ t. complement_if t (number_from_digits 256 (turned_if t bs))) e
 
-value_low : (b : ℕ) (bs : List ℕ) → b < 0x80 → integer_value (b ∷ bs) ≡ pos (number_from_digits 256 (b ∷ bs))
+pub value_low : (b : ℕ) (bs : List ℕ) → b < 0x80 → integer_value (b ∷ bs) ≡ pos (number_from_digits 256 (b ∷ bs))
 value_low b bs low = value_as (b ∷ bs) false (rw (lt-ltb b 0x80 low) refl)
     ∙ ap (λ ds. pos (number_from_digits 256 ds)) (unturned (b ∷ bs))
 
-value_high : (b : ℕ) (bs : List ℕ) → 0x80 ≤ b
+pub value_high : (b : ℕ) (bs : List ℕ) → 0x80 ≤ b
     → integer_value (b ∷ bs) ≡ negsuc (number_from_digits 256 (turned_if true (b ∷ bs)))
 value_high b bs high = value_as (b ∷ bs) true (rw (le-ltb b 0x80 high) refl)
 

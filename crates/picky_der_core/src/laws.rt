@@ -1,5 +1,5 @@
 //! The laws of canonical DER: each is the contract of a function without arguments, over the definitions alone. The
-//! submodules have the laws of `==` and of copies.
+//! submodules have the laws of `==`, of copies, and of orders and hashes.
 ghost use Rattle.std.specs.Prelude.{◌≡◌, ℤ, List, ℕ, true};
 ghost use Rattle.picky_der_core.specs.Element.{AreBytes};
 ghost use Rattle.picky_der_core.specs.Integer.{is_integer, integer_content, integer_value, twos_complement};
@@ -9,6 +9,7 @@ ghost use Rattle.picky_der_core.specs.Laws.{SameBytes, OneInside, SetOrder, NoAm
 
 pub mod copies;
 pub mod equality;
+pub mod orders;
 
 /// A length that begins another length, followed by any bytes, is that length (X.690, 8.1.3 and 10.1).
 pub fn length_both_ways()

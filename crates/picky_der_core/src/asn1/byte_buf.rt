@@ -1,10 +1,12 @@
 //! Octet strings.
 ghost use Rattle.std.specs.Prelude.{◌≡◌, IfOk, IfErr};
 
+use super::bytes::write_octets;
 use crate::{Asn1DerError, Result};
+use std::fmt;
 
-/// An octet string in a vector of its own (X.690, 8.7).
-#[derive(Debug, Clone, Drop, PartialEq, Eq)]
+/// An octet string in a vector of its own (X.690, 8.7). It prints in hexadecimal, as `'0A0B'H` (X.680, 12.12).
+#[derive(Clone, Drop, PartialEq, Eq, PartialOrd, Ord, Hash)]
 pub struct ByteBuf(pub Vec<u8>);
 
 impl ByteBuf {
@@ -14,6 +16,12 @@ impl ByteBuf {
         ensures memory { IfErr result (λ e. e ≡ Asn1DerError.OutOfMemory) }
     {
         Ok(ByteBuf(self.0.clone()?))
+    }
+}
+
+impl fmt::Debug for ByteBuf {
+    fn fmt<W: fmt::Write>(&self, f: &mut fmt::Formatter<W>) -> fmt::Result {
+        write_octets(&self.0, f)
     }
 }
 

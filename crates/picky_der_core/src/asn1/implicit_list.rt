@@ -11,7 +11,7 @@ use crate::{Asn1DerError, Result};
 ///
 /// `ImplicitContextTag` writes `80+n` over everything, also over a list, as the Rust crate does. The structures of
 /// standards need this type instead.
-#[derive(Debug, Clone, Drop, PartialEq, Eq)]
+#[derive(Debug, Clone, Drop, PartialEq, Eq, PartialOrd, Ord, Hash)]
 pub struct ImplicitList<T, const TAG: u8>(pub T);
 
 impl<T: Clone, const TAG: u8> ImplicitList<T, TAG> {

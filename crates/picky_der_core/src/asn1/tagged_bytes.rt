@@ -1,11 +1,13 @@
 //! Bytes under a tag of their own, and the types of ASN.1 that are such bytes.
 ghost use Rattle.std.specs.Prelude.{◌≡◌, IfOk, IfErr};
 
+use super::bytes::write_octets;
 use crate::{Asn1DerError, Result};
+use std::fmt;
 
 /// A content under the tag byte `TAG`. The content isn't checked. Whoever makes a value of a type below has to give it
-/// bytes that are a content of that type.
-#[derive(Debug, Clone, Drop, PartialEq, Eq)]
+/// bytes that are a content of that type. It prints in hexadecimal, as `TaggedBytes('0041'H)`.
+#[derive(Clone, Drop, PartialEq, Eq, PartialOrd, Ord, Hash)]
 pub struct TaggedBytes<const TAG: u8>(pub Vec<u8>);
 
 /// A number in two's complement, most significant byte first (X.690, 8.3).
@@ -48,6 +50,14 @@ impl<const TAG: u8> TaggedBytes<TAG> {
         ensures memory { IfErr result (λ e. e ≡ Asn1DerError.OutOfMemory) }
     {
         Ok(TaggedBytes(self.0.clone()?))
+    }
+}
+
+impl<const TAG: u8> fmt::Debug for TaggedBytes<TAG> {
+    fn fmt<W: fmt::Write>(&self, f: &mut fmt::Formatter<W>) -> fmt::Result {
+        f.write_str("TaggedBytes(")?;
+        write_octets(&self.0, f)?;
+        f.write_char(')')
     }
 }
 
