@@ -1,8 +1,5 @@
 //! Values that are kept together with their encoding, for open types.
-ghost use Rattle.std.proofs.Common.{rules};
 ghost use Rattle.std.specs.Prelude.{◌≡◌, IfOk, IfErr};
-ghost use Rattle.std.specs.Cmp.Rules.{comparing};
-ghost use Rattle.std.specs.Ordering.{on};
 ghost use Rattle.picky_der_core.specs.Equality.{IsThatOf};
 ghost use Rattle.picky_der_core.specs.Tree.{Tree};
 ghost use Rattle.picky_der_core.specs.Shape.{Shape};
@@ -21,12 +18,15 @@ use std::alloc::AllocError;
 use std::fmt;
 
 /// A value of the type `T` together with its encoding, for a member whose type another member decides (ANY DEFINED BY).
-/// Two of them are equal exactly if their encodings are. It prints as its value.
+/// Two of them are equal exactly if their encodings are. They are ordered by the bytes of their encodings, as SETs are
+/// (11.6), and hashed by them, so any type can be the key of a map. It prints as its value.
 ///
 /// On reading, `InvalidData` if the element isn't an encoding of a `T`; the element has then been consumed completely.
 #[derive(Drop)]
+#[derive_where(PartialEq, Eq, PartialOrd, Ord, Hash)]
 pub struct Encoded<T: Deserialize> {
     encoding: Asn1RawDer,
+    #[derive_where(skip)]
     value: T,
     ghost is: { ∥ IsEncodingOf T.meaning T.shape encoding.0.items value ∥₁ },
 }
@@ -67,16 +67,6 @@ impl<T: Deserialize> Encoded<T> {
         ensures { IsThatOf ⟦<Encoded<T> as PartialEq>⟧.eq (λ it. it.encoding)
             ⟦<Asn1RawDer as PartialEq>⟧.eq }
     {}
-}
-
-impl<T: Deserialize> PartialEq for Encoded<T> {
-    ghost eq = { on (λ it. it.encoding) ⟦<Asn1RawDer as PartialEq>⟧.eq };
-
-    ghost laws = { Prim.search (comparing, rules) };
-
-    fn eq(&self, other: &Encoded<T>) -> bool {
-        self.encoding == other.encoding
-    }
 }
 
 /// The value of a copy is read from a copy of the encoding.

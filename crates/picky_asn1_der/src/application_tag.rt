@@ -14,7 +14,7 @@ use crate::{Asn1DerError, Deserialize, Deserializer, Result, Serialize, Serializ
 use std::fmt::Debug;
 
 /// A value under the application tag with the number `T`, at most 30: `60+T`, around its encoding.
-#[derive(Debug, Clone, Drop, PartialEq, Eq)]
+#[derive(Debug, Clone, Drop, PartialEq, Eq, PartialOrd, Ord, Hash)]
 pub struct ApplicationTag<V, const T: u8>(pub V)
 where
     V: Debug + PartialEq;

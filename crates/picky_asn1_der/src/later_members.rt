@@ -1,6 +1,7 @@
 //! Members of later versions, after the members that a struct knows.
 ghost use Rattle.std.specs.Prelude.{◌≡◌, ◌↔◌, [], true, false, None, IsTrue, IfOk, IfErr, IfSome, IfNone, OnOk};
 ghost use Rattle.std.specs.Cmp.Lexicographic.{pointwise};
+ghost use Rattle.std.specs.List.{AllZip};
 ghost use Rattle.picky_der_core.specs.Equality.{IsThatOf};
 ghost use Rattle.picky_der_core.specs.Shape.{Shape, Layout, contains, firsts_of};
 ghost use Rattle.picky_der_de.specs.MembersFacts.{others_facts};
@@ -15,7 +16,7 @@ use picky_der_core::misc::{ReadExt, WriteExt};
 use picky_der_core::{Asn1DerError, Result};
 use picky_der_de::{Alternatives, DeserializeMembers};
 use picky_der_ser::{SerializeMember, SerializeMembers};
-use std::alloc::Global;
+use std::alloc::{AllocError, Global};
 use std::marker::PhantomData;
 
 /// The members that are left after the members of a struct, as elements: the members of a later version of an
@@ -27,7 +28,7 @@ use std::marker::PhantomData;
 ///
 /// Where the tags are automatic, `LaterMembersFrom` is the type of these members.
 #[derive(Drop)]
-#[derive_where(Debug, PartialEq, Eq)]
+#[derive_where(Debug, PartialEq, Eq, PartialOrd, Ord, Hash)]
 pub struct LaterMembers<A: Alternatives> {
     /// The elements, each with its header.
     pub elements: Vec<Asn1RawDer>,
@@ -98,6 +99,18 @@ impl<A: Alternatives> LaterMembers<A> {
             })
         } else {
             None
+        }
+    }
+}
+
+/// A copy has copies of the elements, in order. They have the same bytes, so they are allowed, too.
+impl<A: Alternatives> Clone for LaterMembers<A> {
+    ghost is_clone = { λ x y. AllZip ⟦<Asn1RawDer as Clone>⟧.is_clone x.elements.items y.elements.items };
+
+    fn clone(&self) -> std::result::Result<LaterMembers<A>, AllocError> {
+        match LaterMembers::new(self.elements.clone()?) {
+            Some(copy) => Ok(copy),
+            None => Err(AllocError),
         }
     }
 }

@@ -21,7 +21,7 @@ use std::hash::Hash;
 
 /// One element, whatever its tag, by its bytes with the header (X.690, 8.1.1). The bytes are written as they are. If
 /// they aren't exactly one element, they can't be read back as this type.
-#[derive(Clone, Drop, PartialEq, Eq, PartialOrd, Hash)]
+#[derive(Clone, Drop, PartialEq, Eq, PartialOrd, Ord, Hash)]
 pub struct Asn1RawDer(pub Vec<u8>);
 
 /// Raw elements are equal exactly if their bytes are the same. They are ordered like their bytes, at the first index
@@ -30,6 +30,7 @@ pub fn comparisons()
     ensures equal { IsEqualityOf ⟦<Asn1RawDer as PartialEq>⟧.eq (λ raw. raw.0.items) }
     ensures order { IsThatOf ⟦<Asn1RawDer as PartialOrd>⟧.partial_cmp (λ raw. raw.0.items)
         (λ x y. Some (slice_cmp nat_cmp x y)) }
+    ensures total { IsThatOf ⟦<Asn1RawDer as Ord>⟧.cmp (λ raw. raw.0.items) (slice_cmp nat_cmp) }
     ensures hash { (raw : _) → ⟦<Asn1RawDer as Hash>⟧.hash_input raw
         ≡ fed.slice fed.u8 raw.0.items }
     ensures copy { IsKept ⟦<Asn1RawDer as Clone>⟧.is_clone (λ raw. raw.0.items) }
