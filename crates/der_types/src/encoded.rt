@@ -1,5 +1,6 @@
 //! Values that are kept together with their encoding, for open types.
 ghost use Rattle.std.specs.Prelude.{◌≡◌, IfOk, IfErr};
+ghost use Rattle.picky_der_core.specs.Encoding.{der};
 ghost use Rattle.picky_der_core.specs.Equality.{IsThatOf};
 ghost use Rattle.picky_der_core.specs.Tree.{Tree};
 ghost use Rattle.picky_der_core.specs.Shape.{Shape};
@@ -13,8 +14,8 @@ use picky_asn1_der::Asn1RawDer;
 use picky_der_core::misc::{ReadExt, WriteExt};
 use picky_der_core::{Asn1DerError, Result};
 use picky_der_de::{Deserialize, Deserializer, TryVia, from_der, try_deserialize_as};
-use picky_der_ser::{Serialize, Serializer};
-use std::alloc::AllocError;
+use picky_der_ser::{Serialize, Serializer, to_vec};
+use std::alloc::{AllocError, Global};
 use std::fmt;
 
 /// A value of the type `T` together with its encoding, for a member whose type another member decides (ANY DEFINED BY).
@@ -46,6 +47,17 @@ impl<T: Deserialize> Encoded<T> {
             }
             Err(_) => Err(Asn1DerError::InvalidData),
         }
+    }
+
+    /// Returns a value with the same encoding: a copy of a value of any type, which can be the key of a map.
+    ///
+    /// `UnsupportedValue` if the value can't be written, `InvalidData` if it can't be read back, and `OutOfMemory` if an
+    /// allocation fails.
+    pub fn of(alloc: Global, value: &T) -> Result<Encoded<T>>
+        ensures ok { IfOk result (λ it. it.encoding.0.items ≡ der (T.meaning value.now)) }
+    {
+        let encoding = to_vec(alloc, value)?;
+        Encoded::from_encoding(Asn1RawDer(encoding))
     }
 
     /// Returns the encoding.
