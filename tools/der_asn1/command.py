@@ -47,7 +47,8 @@ from .meaning.meaning import lacks
 from .meaning.module_checks import ModuleChecks, identified
 from .meaning.other_crates import OtherCrates, other_crates
 from .meaning.scopes import Program
-from .meaning.types import ASSOCIATED, Meanings
+from .meaning.recursion import DEPTH
+from .meaning.types import ASSOCIATED, Meanings, recursion_in
 from .parse import tree
 from .parse.modules import read_file
 from .parse.source import NotationError, Problems, Severity
@@ -78,6 +79,7 @@ def arguments(words: Optional[list[str]]) -> argparse.Namespace:
     parser.add_argument("--allow-raw", action="append", default=[], metavar="[TYPE,..]", help="keep as bytes what the library has no type for")
     parser.add_argument("--allow-wider", action="append", default=[], metavar="[TYPE,..]", help="use a type that has other values than the notation")
     parser.add_argument("--import", action="append", default=[], dest="imported", metavar="OTHER.asn1", help="a file for what the modules import")
+    parser.add_argument("--depth", type=int, default=DEPTH, metavar="N", help=f"how often a type may be in itself: {DEPTH} if nothing is said")
     parser.add_argument("--strict", action="store_true", help="refuse what the standard doesn't allow, where it is accepted else")
     return parser.parse_args(with_types(sys.argv[1:] if words is None else words))
 
@@ -129,7 +131,7 @@ def main(words: Optional[list[str]] = None) -> int:
     modules, imported = read(options.files, problems), read(options.imported, problems)
     if options.out:
         return written(options, modules, imported, problems)
-    found = report_of(modules, problems, imported)
+    found = report_of(modules, problems, imported, options.depth)
     failed = said(problems)
     if options.types:
         print("\n".join([*types_table(found), ""]))
@@ -157,7 +159,7 @@ def written(options: argparse.Namespace, modules: list[tree.Module], imported: l
         others = other_crates(options.crate, folder)
     except OSError as error:
         sys.exit(f"{error.filename}: {error.strerror}")
-    crate = crate_of(name, modules, imported, listed(options.type), problems, others, listed(options.distinct))
+    crate = crate_of(name, modules, imported, listed(options.type), problems, others, listed(options.distinct), options.depth)
     crate.own, crate.own_terms, crate.groups = named_lists(options.own), listed(options.own_terms), named_lists(options.group)
     check_groups(crate, problems)
     refuse(problems, crate.causes, Allowed(options.allow_raw), Allowed(options.allow_wider))
@@ -207,16 +209,17 @@ def crate_of(
     problems: Problems,
     others: OtherCrates = OtherCrates(),
     distinct: Iterable[str] = (),
+    depth: int = DEPTH,
 ) -> Crate:
     """The crate of all types of the modules, or of those with these names. Those in `distinct` are structs of their own.
 
     Types of `others` are named and not declared. Which of these are used is found at first, so that their names are free else.
     """
     if others.crates:
-        meanings, found = declared(Program(modules, Problems(problems.strict), imported), names, distinct, others)
+        meanings, found = declared(Program(modules, Problems(problems.strict), imported), names, distinct, others, depth)
         others = others.using(reached_elsewhere(meanings.declarations, found).values())
     program = Program(modules, problems, imported)
-    meanings, found = declared(program, names, distinct, others)
+    meanings, found = declared(program, names, distinct, others, depth)
     declarations = meanings.declarations
     types, elsewhere = reached(declarations, found), reached_elsewhere(declarations, found)
     for it in types.values():
@@ -228,10 +231,11 @@ def crate_of(
     return Crate(name, types, values, [*modules, *imported, *ASSOCIATED.modules], homes, causes=meanings.causes(types.values()))
 
 
-def declared(program: Program, names: list[str], distinct: Iterable[str], others: OtherCrates) -> tuple[Meanings, list[str]]:
+def declared(program: Program, names: list[str], distinct: Iterable[str], others: OtherCrates, depth: int = DEPTH) -> tuple[Meanings, list[str]]:
     """All meanings with their declarations, and the types of Rust of these names, or of all types of the program's own modules."""
     modules, problems = program.modules, program.problems
-    meanings, checks = Meanings(identified(program), Declarations(others), distinct), ModuleChecks(program)
+    identified(program)
+    meanings, checks = Meanings(program, Declarations(others), distinct, recursion_in(program, depth)), ModuleChecks(program)
     for module in [] if names else modules:
         checks.module(module)
     found, missing = [], set(names)

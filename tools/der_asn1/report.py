@@ -10,7 +10,8 @@ from .meaning.meaning import Meaning, lacks
 from .meaning.module_checks import ModuleChecks, identified
 from .meaning.objects import class_named
 from .meaning.scopes import Program
-from .meaning.types import Meanings
+from .meaning.recursion import DEPTH
+from .meaning.types import Meanings, recursion_in
 from .parse import tree
 from .parse.source import Problems, Severity
 
@@ -54,10 +55,10 @@ class Report:
         return [it for it in self.modules if id(it) not in others and it.path not in self.wrong]
 
 
-def report_of(modules: list[tree.Module], problems: Problems, imported: Iterable[tree.Module] = ()) -> Report:
+def report_of(modules: list[tree.Module], problems: Problems, imported: Iterable[tree.Module] = (), depth: int = DEPTH) -> Report:
     """The report of modules that see each other, and those that are imported from."""
     program = identified(Program(modules, problems, imported))
-    meanings, checks = Meanings(program), ModuleChecks(program)
+    meanings, checks = Meanings(program, recursion=recursion_in(program, depth)), ModuleChecks(program)
     found = Report(modules=list(modules))
     for module in modules:
         checks.module(module)
@@ -127,12 +128,16 @@ def summary(report: Report) -> list[str]:
     total, exact = len(report.rows), [it for it in report.rows if it.level is Level.EXACT]
     plain = [it for it in report.rows if it.level.is_plain]
     by_hand = [it for it in report.rows if it.level is Level.BY_HAND]
+    to_depth = [it for it in report.rows if it.level is Level.TO_DEPTH]
+    complete = [it for it in report.rows if not it.meaning.missing & OUTSIDE]
     closed = [it for it in exact if Note.OPEN not in it.meaning.notes]
     lines = [
         f"{share(len(report.plain_modules()), len(report.modules))} modules written without a flag",
         f"{share(len(plain), total)} types written without a flag",
         f"{share(len(exact), total)} types exact and written",
         f"{share(len(closed), total)} types exact and written, without an open type",
+        f"{share(sum(not it.meaning.missing & OUTSIDE for it in exact), len(complete))} types exact and written, of those whose notation is complete",
+        f"{share(len(to_depth), total)} types written to a depth, since they contain themselves",
         f"{share(len(by_hand), total)} types exact only with types by hand, in place of which `--allow-wider` writes wider ones",
     ]
     for note in Note:

@@ -29,8 +29,10 @@ $code
     ghost narrow = { $narrow };
 }
 
-impl StandardSet for $name {
-    ghost standard = { Prim.assumption };
+impl NotatedSet for $name {
+    ghost string = { Notation.restricted-string $tag };
+
+    ghost is_set = { standard_set $tag };
 }
 """
 
@@ -94,9 +96,10 @@ def files() -> Files:
         "ghost use Rattle.der_types.specs.declared.width.Width.TheVariants.{One, Two, Four};",
         f"ghost use Rattle.der_types.specs.CharacterStrings.{{{', '.join(dict.fromkeys(row.test for row in rows))}}};",
         f"ghost use Rattle.der_types.specs.CharacterSetLaws.{{{', '.join(lemmas(rows))}}};",
-        "ghost use Rattle.der_types.specs.ExactContents.{IsStandard};",
+        "ghost use Rattle.der_types.specs.ExactStrings.{standard_set};",
+        "ghost use Rattle.der_types.specs.Notation.{Notation};",
         "",
-        "use crate::{Ascii, CharacterSet, StandardSet, Unicode, Width};",
+        "use crate::{Ascii, CharacterSet, NotatedSet, Unicode, Width};",
         *[line for row in rows for line in character_set(row).rstrip("\n").split("\n")],
     ]
     return {"crates/der_types/src/generated/character_sets.rt": text}

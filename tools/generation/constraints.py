@@ -6,27 +6,29 @@ from generation.table import Constraint, constraints
 
 TYPE = """
 ghost use Rattle.std.proofs.Common.{ap};
-ghost use Rattle.std.specs.Prelude.{◌≡◌, true, false, not, refl, IfSome, IfNone, IfOk, IfErr};
+ghost use Rattle.std.specs.Prelude.{◌≡◌, ${order}true, false, not, refl, IfSome, IfNone, IfOk, IfErr};
 ghost use Rattle.picky_der_core.specs.Equality.{IsThatOf};
 ghost use Rattle.picky_der_de.specs.Reading.{Reads, Refuses};
-ghost use Rattle.picky_der_de.specs.Facts.{part_facts};
-ghost use Rattle.der_types.specs.Constraints.{$test_name, RefusesConstrained};
-ghost use Rattle.der_types.specs.ExactConstraints.{$exact_values};
+ghost use Rattle.picky_der_de.specs.Facts.{tested_part_facts};
+ghost use Rattle.picky_der_de.specs.RefusesBy.{RefusesBy};
+ghost use Rattle.picky_der_de.specs.Rules.{tested_rule};
+ghost use Rattle.der_types.specs.Constraints.{$test_imports};
+ghost use Rattle.der_types.specs.ExactConstraints.{$lemmas};
 ghost use Rattle.der_types.specs.Notation.{Notation};
 ghost use Rattle.der_types.specs.Sameness.{newtype_sameness};
 
-use crate::{Constrained, Exact, $uses, deserialize_constrained_as};
+use crate::{${bound_use}Constrained, Exact, $uses, deserialize_constrained_as};
 use picky_der_core::Result;
 use picky_der_core::asn1::Tag;
 use picky_der_core::misc::{ReadExt, WriteExt};
 use picky_der_de::{Begins, Deserialize, Deserializer, Faithful};
 use picky_der_ser::{$list_use Serialize, Serializer};
-
+$phantom_use
 $doc
-#[derive(Debug, Drop, PartialEq, Eq)]
+$derives
 pub struct $name<T: $of, $parameters> {
     value: T,
-    ghost allowed: { $test_value ≡ $holds },
+$fields    ghost allowed: { $test_value ≡ $holds },
 }
 
 impl<T: $of, $parameters> $type {
@@ -57,7 +59,7 @@ $first        if $code {
         ensures value { result ≡ self.value }
         ensures allowed { $test_result ≡ $holds }
     {
-        let $name { value } = self;
+        let $taken = self;
         value
     }
 }
@@ -97,7 +99,7 @@ $list
 impl<T: $of + Deserialize, $parameters> Deserialize for $type {
     ghost shape = { T.shape };
 
-    ghost facts = { part_facts T.facts T.meaning T.eq (λ it. it.value) };
+    ghost facts = { tested_part_facts T.facts T.meaning T.eq (λ it. it.value) };
 
     ghost proved = { Prim.assumption };
 
@@ -108,6 +110,8 @@ impl<T: $of + Deserialize, $parameters> Deserialize for $type {
             deserializer.old deserializer.new) }
         ensures refused { IfErr result (RefusesConstrained T.meaning T.shape
             (λ value. $allows) deserializer.old deserializer.new) }
+        ensures refused_by { IfErr result (RefusesBy (tested_rule T.meaning T.shape
+            ⟦<$type as Constrained>⟧.unconstrained T.facts.rule) deserializer.old deserializer.new) }
     {
         deserialize_constrained_as(deserializer)
     }
@@ -120,17 +124,18 @@ impl<T: $of + Begins, $parameters> Begins for $type {
 }
 
 impl<T: Notated + $of, $parameters> Notated for $type {
-    ghost notation = { Notation.$notation $names T.notation };
+    ghost notation = { Notation.$notation $bounds T.notation };
 
     ghost denoted = { T.denoted };
 }
 
 impl<T: $exact, $parameters> Exact for $type {
-    ghost values = { $exact_values T.values T.notation T.meaning (λ it. it.value) $names T.$stated T.$measure (λ it. it.allowed) (λ x e. (record { value = x; allowed = e }, refl)) };
+    ghost values = { $exact_values T.values T.notation T.meaning (λ it. it.value) $bounds T.$stated T.$measure (λ it. it.allowed) (λ x e. (record { value = x; ${phantoms}allowed = e }, refl)) };
 
     ghost exact = { Prim.assumption };
 }
 
+$number
 impl<T: Faithful + $of, $parameters> Faithful for $type {
     ghost sameness = { newtype_sameness T.sameness T.eq T.meaning (λ it. it.value) };
 
@@ -138,8 +143,36 @@ impl<T: Faithful + $of, $parameters> Faithful for $type {
 }
 """
 
+# the kind of a parameter that is a type, and the fields of such parameters
+BOUND = "Bound"
+PHANTOMS = {"A": "least", "B": "most"}
+
 # what a constraint measures: the trait that says it of exact types, what such a type states, and the measure
 MEASURES = {"Size": ("ExactSize", "sized", "size"), "WholeNumber": ("ExactNumber", "numbered", "number")}
+
+# the values of a type of numbers have a number, too
+NUMBER = """
+impl<T: WholeNumber, $parameters> WholeNumber for $type {
+    ghost number = { λ it. T.number it.value };
+
+    fn is_at_least(&self, least: i128) -> bool {
+        self.value.is_at_least(least)
+    }
+
+    fn is_at_most(&self, most: i128) -> bool {
+        self.value.is_at_most(most)
+    }
+
+    ghost determined = { λ x y e. T.determined x.value y.value e };
+}
+
+impl<T: ExactNumber, $parameters> ExactNumber for $type {
+    ghost numbered = { numbered_by T.numbered T.number T.meaning (λ it. it.value) };
+
+    ghost exact_number = { Prim.assumption };
+}
+
+"""
 
 LIST = """
 impl<T: $of + List, $parameters> List for $type {
@@ -154,13 +187,14 @@ def words_of(row: Constraint) -> dict[str, str]:
     names = [name for name, _ in row.parameters]
     word = {True: "true", False: "false"}
     exact, stated, measure = MEASURES[row.of]
-    some, none = f"Some({row.name} {{ value }})", "None"
+    some, none = f"Some({made(row)})", "None"
     words = {
         "name": row.name,
         "type": f"{row.name}<{', '.join(['T', *names])}>",
         "of": row.of,
         "uses": ", ".join(sorted([exact, "Notated", row.of])),
-        "parameters": ", ".join(f"const {name}: {kind}" for name, kind in row.parameters),
+        **struct_words(row),
+        "parameters": ", ".join(f"{name}: {kind}" if kind == BOUND else f"const {name}: {kind}" for name, kind in row.parameters),
         "doc": "\n".join(f"/// {line}".rstrip() for line in row.doc.split("\n")),
         "value": row.value,
         "refused": row.refused,
@@ -172,10 +206,10 @@ def words_of(row: Constraint) -> dict[str, str]:
         "fails": word[not row.holds],
         "kept": "it.allowed" if row.holds else "ap not it.allowed",
         "compared": f"({row.compared})" if row.holds else f"(λ z. not ({row.compared} z))",
-        "test_name": row.test.split()[0],
+        "test_imports": ", ".join([*([test] if (test := row.test.split()[0]) != "int_le" else []), "RefusesConstrained"]),
         "list_use": "List," if row.is_list else "",
         "notation": row.notation,
-        "names": " ".join(names),
+        "bounds": row.bounds or " ".join(names),
         "exact": exact,
         "exact_values": row.exact_values,
         "stated": stated,
@@ -185,7 +219,42 @@ def words_of(row: Constraint) -> dict[str, str]:
         words[key] = Template(row.test).substitute(value=value)
     words["allows"] = words["test_value"] if row.holds else f"not ({words['test_value']})"
     words["list"] = Template(LIST.lstrip("\n")).substitute(words) if row.is_list else ""
+    words.update(number_words(row, words))
     return words
+
+
+def phantoms_of(row: Constraint) -> list[tuple[str, str]]:
+    """The fields of the parameters that are types, with these."""
+    return [(PHANTOMS[name], name) for name, kind in row.parameters if kind == BOUND]
+
+
+def made(row: Constraint, phantom: str = "PhantomData") -> str:
+    """A value of the type in Rust, or a pattern of one, with this in its fields of types."""
+    return f"{row.name} {{ {', '.join(['value', *(f'{field}: {phantom}' for field, _ in phantoms_of(row))])} }}"
+
+
+def struct_words(row: Constraint) -> dict[str, str]:
+    """What the template names of the struct. One with fields of types has derives that ask nothing of these."""
+    found = phantoms_of(row)
+    derives = "#[derive(Drop)]\n#[derive_where(Debug, PartialEq, Eq; T)]" if found else "#[derive(Debug, Drop, PartialEq, Eq)]"
+    return {
+        "derives": derives,
+        "fields": "".join(f"    #[derive_where(skip)]\n    {field}: PhantomData<{name}>,\n" for field, name in found),
+        "phantoms": "".join(f"{field} = record {{}}; " for field, _ in found),
+        "bound_use": f"{BOUND}, " if found else "",
+        "phantom_use": "use std::marker::PhantomData;\n" if found else "",
+        "taken": made(row, "_"),
+    }
+
+
+def number_words(row: Constraint, words: dict[str, str]) -> dict[str, str]:
+    """What the template names for a type of numbers alone: that its values have numbers, and the names for that."""
+    is_number = row.of == "WholeNumber"
+    return {
+        "number": Template(NUMBER.lstrip("\n")).substitute(words) if is_number else "",
+        "lemmas": ", ".join([row.exact_values, *(["numbered_by"] if is_number else [])]),
+        "order": "int_le, pos, " if is_number else "",
+    }
 
 
 def constrained(row: Constraint) -> Lines:

@@ -254,8 +254,8 @@ impl Inhabited for $name {
 # an equality of the content, which is derived, and one that is proved
 DERIVED_SAME = "λ x y e. (bytes_decides $x $y).1 e"
 DERIVED_RESPECTS = "λ x y. same_list $x $y"
-DERIVED_FACTS = "bytes_facts $tag (λ it. $content)"
-PROVED_FACTS = "contents_facts $tag (λ it. $content) ⟦<Self as PartialEq>⟧.eq ⟦<Self as Contents>⟧.same"
+DERIVED_FACTS = "ruled (content_rule $tag $test) (bytes_facts $tag (λ it. $content))"
+PROVED_FACTS = "contents_facts $tag (λ it. $content) ⟦<Self as PartialEq>⟧.eq $test ⟦<Self as Contents>⟧.same"
 
 
 def filled(template: str, **words: str) -> str:
@@ -293,10 +293,10 @@ def ghost_uses(row: Content) -> Lines:
         "ghost use Rattle.std.proofs.Common.{lit≤};",
         "ghost use Rattle.std.specs.Prelude.{◌≡◌, true, false, refl, IfSome, IfNone, IfOk, IfErr};",
         *(f"ghost use {it};" for it in equality),
-        *([] if row.equality else ["ghost use Rattle.picky_der_de.specs.Facts.{bytes_facts};"]),
+        *([] if row.equality else ["ghost use Rattle.picky_der_de.specs.Facts.{bytes_facts, ruled};"]),
         f"ghost use Rattle.{row.specs}.{{{row.test}}};",
         "ghost use Rattle.der_types.specs.ContentForms as form;",
-        "ghost use Rattle.der_types.specs.ContentTests.{ReadsContent, RefusesContent};",
+        f"ghost use Rattle.der_types.specs.ContentTests.{{ReadsContent, RefusesContent{'' if row.equality else ', content_rule'}}};",
         "ghost use Rattle.der_types.specs.Exact.{content_exact, plain_values};",
         "ghost use Rattle.der_types.specs.ExactContents.{own_contents};",
         f"ghost use Rattle.der_types.specs.{facts};",

@@ -1,6 +1,8 @@
 """What der_types says of each type of numbers: its notation, that it is exact, its defaults, and its numbers as whole numbers."""
+from string import Template
+
 from generation.files import Files, Lines, source
-from generation.numbers import SIGNED, UNSIGNED, USIZE, each
+from generation.numbers import SIGNED, UNSIGNED, USIZE, Number, each
 
 UNSIGNED_TYPE = """
 impl Notated for $name {
@@ -47,6 +49,12 @@ impl Exact for $name {
     ghost exact = { Prim.assumption };
 }
 
+impl ExactNumber for $name {
+    ghost numbered = { numbered_signed $bits };
+
+    ghost exact_number = { Prim.assumption };
+}
+
 impl<const N: i8> NotatedDefault<$name> for SignedNumber<N> {
     ghost value = { int_tree (fits_signed $bits) N };
 
@@ -62,31 +70,44 @@ impl<const N: i8> ExactDefault<$name> for SignedNumber<N> {
 
 WHOLE_NUMBER = """
 impl WholeNumber for $name {
-    ghost number = { pos };
+    ghost number = { $shown };
 
-    fn is_between(&self, least: u64, most: u64) -> bool {
-        $between
+    fn is_at_least(&self, least: i128) -> bool {
+        $at_least
     }
 
-    ghost determined = { λ x y e. ap pos (unsigned_tree-same (2 ^ $bits - 1) x y e) };
+    fn is_at_most(&self, most: i128) -> bool {
+        $at_most
+    }
+
+    ghost determined = { λ x y e. $determined };
 }
 """
 
-# a number is compared with the bounds in the wider one of its type and `u64`, that of the bounds
-NARROW = "let number = u64::from(*self);\n        least <= number && number <= most"
-BETWEEN = {
-    "u8": NARROW,
-    "u16": NARROW,
-    "u32": NARROW,
-    "u64": "least <= *self && *self <= most",
-    "u128": "u128::from(least) <= *self && *self <= u128::from(most)",
-    "usize": "let number = *self as u64;\n        least <= number && number <= most",
-}
+# a number as one of the type of the bounds
+WIDENED = {"usize": "i128::from(*self as u64)", "i128": "*self"}
+
+
+def whole_number(number: Number, shown: str, determined: str) -> Lines:
+    """A type as one of whole numbers: what its number is, and why its encoding decides that."""
+    wide = WIDENED.get(number.name, "i128::from(*self)")
+    words = {
+        "at_least": f"least <= {wide}",
+        "at_most": f"{wide} <= most",
+        "shown": shown,
+        "determined": Template(determined).substitute(bits=number.bits),
+    }
+    return each(WHOLE_NUMBER, [number], **words)
 
 
 def whole_numbers() -> Lines:
-    """The unsigned types as whole numbers."""
-    return [line for number in [*UNSIGNED, USIZE] for line in each(WHOLE_NUMBER, [number], between=BETWEEN[number.name])]
+    """All types as whole numbers, but for `u128`, which may be above all bounds."""
+    unsigned = "ap pos (unsigned_tree-same (2 ^ $bits - 1) x y e)"
+    signed = "(Decides-int_eq x y).0 (int_injective (fits_signed $bits) x y e)"
+    return [
+        *(line for it in [*UNSIGNED, USIZE] if it.bits < 128 for line in whole_number(it, "pos", unsigned)),
+        *(line for it in SIGNED for line in whole_number(it, "λ z. z", signed)),
+    ]
 
 
 def notated_numbers() -> Lines:
@@ -95,11 +116,11 @@ def notated_numbers() -> Lines:
         *source("The types of numbers of each width as types of ASN.1."),
         "ghost use Rattle.std.proofs.Common.{ap, eqb-true};",
         "ghost use Rattle.std.proofs.lemmas.Bool.Decides.{Decides-int_eq};",
-        "ghost use Rattle.std.specs.Prelude.{◌≡◌, ◌^◌, ◌-◌, pos, true, refl};",
+        "ghost use Rattle.std.specs.Prelude.{◌≡◌, ◌^◌, ◌-◌, int_le, pos, true, refl};",
         "ghost use Rattle.picky_der_core.specs.Integer.{fits_signed, int_tree, unsigned_tree};",
         "ghost use Rattle.picky_der_core.specs.UnsignedTreeLaws.{unsigned_tree-same};",
-        "ghost use Rattle.der_types.specs.Constraints.{is_between};",
-        "ghost use Rattle.der_types.specs.ExactConstraints.{numbered_unsigned};",
+        "ghost use Rattle.picky_der_de.specs.InjectiveLaws.{int_injective};",
+        "ghost use Rattle.der_types.specs.ExactConstraints.{numbered_signed, numbered_unsigned};",
         "ghost use Rattle.der_types.specs.ExactContents.{signed_values, unsigned_values};",
         "ghost use Rattle.der_types.specs.ExactDefaults.{number_default, signed_default};",
         "ghost use Rattle.der_types.specs.Notation.{Notation};",

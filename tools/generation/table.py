@@ -118,6 +118,7 @@ class Constraint:
     notation: str
     exact_values: str
     first: str = ""
+    bounds: str = ""
 
     @property
     def module(self) -> str:

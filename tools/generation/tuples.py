@@ -182,7 +182,7 @@ def read_members() -> Lines:
         names = NAMES[:width]
         whole = tuple_of([*names, "Z"])
         layout = nested([f"layout_with {it}.presence {it}.shape" for it in names], "Z.layout")
-        facts = nested([f"member_facts (λ it. it.{at}) {it}.facts {it}.prepend" for at, it in enumerate(names)], f"(members_facts (λ it. it.{width}) Z.facts Z.members)")
+        facts = nested([f"member_facts (λ it. it.{at}) {it}.facts {it}.left_out {it}.prepend" for at, it in enumerate(names)], f"(members_facts (λ it. it.{width}) Z.facts Z.members)")
         text += [
             f"impl{of(names, 'DeserializeMember', 'DeserializeMembers')} DeserializeMembers for {whole} {{",
             f"    ghost layout = {{ {layout} }};",
@@ -227,13 +227,15 @@ def read_members_proof(width: int) -> Lines:
         "use Rattle.std.proofs.lemmas.Result.{err_from_is_err_and}",
         "use Rattle.picky_der_de.specs.MembersFacts.{layout_member, layout_members}",
         f"use Rattle.picky_der_de.specs.LayoutLaws.{{after{', lead' if width > 1 else ''}}}",
+        "use Rattle.picky_der_de.specs.Rules.{field_rule}",
         "use Rattle.picky_der_de.proofs.LayoutReads.{layout_member_head, layout_member_next, layout_member_read}",
+        "use Rattle.picky_der_de.proofs.MemberRuled.{layout_head_by, layout_next_by, still_none}",
         f"use Rattle.picky_der_de.proofs.generated.members.Tuple{width + 1}DeserializeMembers.deserialize_members.Goals as goal",
         "",
         "pub returns-in_err-first-clause-err : goal.returns-in_err-first-clause-err",
         "returns-in_err-first-clause-err g c =",
         "    let p = err_from_is_err_and c.from_residual.result c.from_residual.ensures.1 in",
-        f"    rw (p.1, p.2) (layout_member_head {first} g.met.A.DeserializeMember.distinguished (λ v. v.0) ({others(1)}) c.requires.implicit_tag c.in_err-first.ensures.err)",
+        f"    rw (p.1, p.2) (layout_member_head {first} (field_rule g.A.DeserializeMember.facts.rule) g.met.A.DeserializeMember.distinguished (λ v. v.0) ({others(1)}) c.requires.implicit_tag c.in_err-first.ensures.err)",
         "",
         "pub returns-in_err-others-clause-err : goal.returns-in_err-others-clause-err",
         "returns-in_err-others-clause-err g c =",
@@ -242,6 +244,30 @@ def read_members_proof(width: int) -> Lines:
         "",
         "pub returns-clause-ok : goal.returns-clause-ok",
         f"returns-clause-ok g c = layout_member_read {first} c.in_ok-first.first c.requires.implicit_tag {read} c.in_ok-others.ensures.ok",
+        *read_members_by_rule(first, read),
+    ]
+
+
+def read_members_by_rule(first: str, read: str) -> Lines:
+    """That members are refused by their rules, where the first was read as said."""
+    a = "g.A.DeserializeMember"
+    member = f"{a}.item_meaning {a}.left_out {a}.shape {a}.facts.rule"
+    item = f"{a}.presence ({a}.item c.in_ok-first.first) ({first}.there c.in_ok-first.first) {read}"
+    after = f"(still_none {a}.item_meaning {a}.shape _ _ none c.requires.implicit_tag ({a}.item c.in_ok-first.first) {read})"
+    return [
+        "",
+        "pub returns-in_err-first-clause-refused_by : goal.returns-in_err-first-clause-refused_by",
+        "returns-in_err-first-clause-refused_by g c =",
+        "    let p = err_from_is_err_and c.from_residual.result c.from_residual.ensures.1 in",
+        f"    rw (p.1, p.2) (λ none. layout_head_by {member} _ none c.requires.implicit_tag {a}.presence c.in_err-first.ensures.err)",
+        "",
+        "pub returns-in_err-others-clause-refused_by : goal.returns-in_err-others-clause-refused_by",
+        "returns-in_err-others-clause-refused_by g c =",
+        "    let p = err_from_is_err_and c.from_residual-in_err-others.result c.from_residual-in_err-others.ensures.1 in",
+        f"    rw (p.1, p.2) (λ none. layout_next_by {member} _ none c.requires.implicit_tag {item} (c.in_err-others.ensures.refused_by {after}))",
+        "",
+        "pub returns-clause-leads : goal.returns-clause-leads",
+        f"returns-clause-leads g c = λ none last e by. layout_next_by {member} _ none c.requires.implicit_tag {item} (c.in_ok-others.ensures.leads {after} last e by)",
     ]
 
 

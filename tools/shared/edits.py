@@ -101,7 +101,7 @@ class Edit:
         """Whether an edit that doesn't change the function in its name is about that one, or about the implementation in its name.
 
         It may be about a law, whatever it changes. It may be about another function, or an implementation, if it changes no function
-        but what they use. It is about an implementation if it adds it, or changes or adds one of its functions.
+        but what they use. It is about an implementation if it adds it, or changes or adds one of its functions, or adds functions alone.
         """
         file, called = self.name.split(".")[:2]
         block, path = called.split("-")[0], file_of(file)
@@ -110,7 +110,8 @@ class Edit:
         if any(it[:2] == (path, block) for it in self.changed):
             return block == called
         blocks = blocks_of(after.get(path, ""))
-        return block in blocks and (not self.changed or block == called and block not in blocks_before)
+        is_added = block not in blocks_before or not any(it in before for it in self.changed)
+        return block in blocks and (not self.changed or block == called and is_added)
 
 
 def goals_about(law: str, blocks: set[str]) -> set[str]:

@@ -108,6 +108,11 @@ class LookedAt(unittest.TestCase):
         self.assertEqual([("src/lib.rt", "StepClone", "clone")], self.own("lib.StepInhabited.is_empty", "old: impl Level {", f"new: {added}"))
         self.refused("lib.StepFaithful.is_empty", "old: impl Level {", f"new: {added}")
 
+    def test_an_implementation_that_is_there_where_others_are_added(self) -> None:
+        added = "impl Drop for Level { fn drop(&mut self) {} } impl Level {"
+        self.assertEqual([("src/lib.rt", "LevelDrop", "drop")], self.own("lib.LevelClone.is_dropped", "old: impl Level {", f"new: {added}"))
+        self.refused("lib.LevelClone.is_dropped", "old: impl Level {", f"new: {added}", "old: { 1 }", "new: { 2 }")
+
     def test_the_laws_that_quote_what_it_adds(self) -> None:
         laws = """pub fn copies()
     ensures level { IsKept ⟦<Level as Clone>⟧.is_clone (λ it. it) }

@@ -45,5 +45,6 @@ class Rows(unittest.TestCase):
     def test_a_constraint_that_denies(self) -> None:
         words = {row.name: constraints.words_of(row) for row in table.constraints()}
         self.assertEqual(("None", "Some(OtherThan { value })"), (words["OtherThan"]["then"], words["OtherThan"]["else"]))
-        self.assertEqual("not (is_between N N (T.number value))", words["OtherThan"]["allows"])
-        self.assertEqual("is_between MIN MAX (T.number value)", words["InRange"]["allows"])
+        self.assertEqual("not (is_between (pos N) (pos N) (T.number value))", words["OtherThan"]["allows"])
+        self.assertEqual("Some(AtLeast { value, least: PhantomData })", words["AtLeast"]["then"])
+        self.assertEqual("is_between (pos MIN) (pos MAX) (T.number value)", words["InRange"]["allows"])

@@ -13,8 +13,8 @@ ghost use Rattle.der_types.specs.ExactMembers.{struct_values};
 ghost use Rattle.der_types.specs.SampleTrees.{exact_example};
 
 use der_types::{
-    Exact, ExactAlternatives, ExactMembers, Integer, Notated, NotatedAlternatives, NotatedMembers,
-    WithSize,
+    AtLeast, Exact, ExactAlternatives, ExactMembers, Integer, Notated, NotatedAlternatives,
+    NotatedMembers, Plus, WithSize,
 };
 use der_x509::AlgorithmIdentifier;
 use picky_asn1_der::OneOf::{Other, This};
@@ -32,15 +32,15 @@ use picky_asn1_der::{
 /// `PBKDF2-params` of PKCS5v2-1, as a SEQUENCE.
 ///
 /// Its values differ from the notation's. The crate lacks: DEFAULT of bits, strings, identifiers
-/// and structures; a type of its own with `Constrained`.
+/// and structures.
 #[derive(Debug, Drop, PartialEq, Eq)]
 pub struct Pbkdf2Params {
     /// `PBKDF2-Salt`.
     pub salt: Pbkdf2Salt,
     /// `INTEGER (1..MAX)`.
-    pub iteration_count: Integer,
+    pub iteration_count: AtLeast<Integer, Plus<1>>,
     /// in bytes. `INTEGER (1..MAX) OPTIONAL`.
-    pub key_length: Option<Integer>,
+    pub key_length: Option<AtLeast<Integer, Plus<1>>>,
     /// `AlgorithmIdentifier DEFAULT algid-hmacWithSHA1`. A default that is written out is read,
     /// too.
     pub prf: Option<AlgorithmIdentifier>,
@@ -48,8 +48,8 @@ pub struct Pbkdf2Params {
 
 type Pbkdf2ParamsParts = (
     Pbkdf2Salt,
-    Integer,
-    Optional<Integer>,
+    AtLeast<Integer, Plus<1>>,
+    Optional<AtLeast<Integer, Plus<1>>>,
     Optional<AlgorithmIdentifier>,
     (),
 );

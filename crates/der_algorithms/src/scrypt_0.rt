@@ -8,7 +8,7 @@ ghost use Rattle.der_types.specs.Notation.{Notation};
 ghost use Rattle.der_types.specs.ExactMembers.{struct_values};
 ghost use Rattle.der_types.specs.SampleTrees.{exact_example};
 
-use der_types::{Exact, ExactMembers, Integer, Notated, NotatedMembers};
+use der_types::{AtLeast, Exact, ExactMembers, Integer, Notated, NotatedMembers, Plus};
 use picky_asn1_der::asn1::{ByteBuf, Tag};
 use picky_asn1_der::de::{Begins, Faithful, FaithfulMembers, Inhabited};
 use picky_asn1_der::misc::{ReadExt, WriteExt};
@@ -19,23 +19,28 @@ use picky_asn1_der::{
 };
 
 /// `Scrypt-params` of Scrypt-0, as a SEQUENCE.
-///
-/// Its values differ from the notation's. The crate lacks: a type of its own with `Constrained`.
 #[derive(Debug, Drop, PartialEq, Eq)]
 pub struct ScryptParams {
     /// `OCTET STRING`.
     pub salt: ByteBuf,
     /// N. `INTEGER (1..MAX)`.
-    pub cost_parameter: Integer,
+    pub cost_parameter: AtLeast<Integer, Plus<1>>,
     /// r. `INTEGER (1..MAX)`.
-    pub block_size: Integer,
+    pub block_size: AtLeast<Integer, Plus<1>>,
     /// p. `INTEGER (1..MAX)`.
-    pub parallelization_parameter: Integer,
+    pub parallelization_parameter: AtLeast<Integer, Plus<1>>,
     /// `INTEGER (1..MAX) OPTIONAL`.
-    pub key_length: Option<Integer>,
+    pub key_length: Option<AtLeast<Integer, Plus<1>>>,
 }
 
-type ScryptParamsParts = (ByteBuf, Integer, Integer, Integer, Optional<Integer>, ());
+type ScryptParamsParts = (
+    ByteBuf,
+    AtLeast<Integer, Plus<1>>,
+    AtLeast<Integer, Plus<1>>,
+    AtLeast<Integer, Plus<1>>,
+    Optional<AtLeast<Integer, Plus<1>>>,
+    (),
+);
 
 impl Struct for ScryptParams {
     type Members = ScryptParamsParts;

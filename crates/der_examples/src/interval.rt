@@ -2,6 +2,8 @@
 ghost use Rattle.std.specs.Prelude.{refl};
 ghost use Rattle.picky_der_core.specs.Tree.{ListKind};
 ghost use Rattle.picky_der_core.specs.Shape.{Shape};
+ghost use Rattle.picky_der_de.specs.Facts.{ruled};
+ghost use Rattle.picky_der_de.specs.RefusesBy.{unsaid};
 ghost use Rattle.picky_der_de.specs.MembersFacts.{struct_facts, sequence_of};
 
 use picky_asn1_der::misc::{ReadExt, WriteExt};
@@ -34,7 +36,7 @@ impl Serialize for Interval {
 impl Deserialize for Interval {
     ghost shape = { Shape.fields ListKind.sequence ⟦<Members as DeserializeMembers>⟧.layout };
 
-    ghost facts = { struct_facts ⟦<Members as DeserializeMembers>⟧.facts refl (λ it. (it.first, it.last, tt)) };
+    ghost facts = { ruled unsaid (struct_facts ⟦<Members as DeserializeMembers>⟧.facts refl (λ it. (it.first, it.last, tt))) };
 
     ghost proved = { Prim.assumption };
 

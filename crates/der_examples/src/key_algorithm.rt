@@ -3,7 +3,7 @@ ghost use Rattle.std.proofs.Common.{rules};
 ghost use Rattle.std.specs.Prelude.{◌≡◌, ◌↔◌, IsTrue, MatchOption};
 ghost use Rattle.std.specs.Cmp.Rules.{comparing};
 ghost use Rattle.std.specs.Ordering.{eq_of_both, on};
-ghost use Rattle.picky_der_de.specs.Facts.{facts_as};
+ghost use Rattle.picky_der_de.specs.Facts.{tested_facts};
 ghost use Rattle.der_types.specs.declared.names.TheConstants.{RSA_ENCRYPTION, EC_PUBLIC_KEY};
 ghost use Rattle.der_examples.specs.KeyAlgorithm.{element_of, is_null, is_curve};
 
@@ -124,7 +124,7 @@ impl Serialize for KeyAlgorithm {
 impl Deserialize for KeyAlgorithm {
     ghost shape = { ⟦<AlgorithmIdentifier as Deserialize>⟧.shape };
 
-    ghost facts = { facts_as ⟦<AlgorithmIdentifier as Deserialize>⟧.facts ⟦<KeyAlgorithm as TryVia>⟧.parts };
+    ghost facts = { tested_facts ⟦<AlgorithmIdentifier as Deserialize>⟧.facts ⟦<AlgorithmIdentifier as Serialize>⟧.meaning ⟦<KeyAlgorithm as TryVia>⟧.parts };
 
     ghost proved = { Prim.assumption };
 

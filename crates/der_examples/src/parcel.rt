@@ -14,7 +14,7 @@ pub struct Parcel {
     /// What is written on it.
     pub note: Option<String>,
     /// The members of later versions, in order. The type lists the optional members directly before them as
-    /// alternatives of a choice, and `NoneOf` alone if there is none. The first element may not begin as one of these
-    /// alternatives.
+    /// alternatives of a choice, and `NoneOf` alone if there is none. The first element may not have the tag of one of
+    /// these alternatives, whether it is primitive or constructed.
     pub later: LaterMembers<OneOf<String, NoneOf>>,
 }

@@ -29,13 +29,9 @@ use picky_asn1_der::{
 
 /// `AP-REQ` of KerberosV5Spec2: `[APPLICATION 14] SEQUENCE { pvno [0] INTEGER (5), msg-type [1]
 /// INTEGER (14), ap-options [2] APOptions, ticket [3] Ticket, authenticator [4] EncryptedData }`.
-///
-/// Its values differ from the notation's. The crate lacks: a `CharacterSet` of its own.
 pub type ApReq = ApplicationTag<ApReqMembers, 14>;
 
 /// `AP-REQ` of KerberosV5Spec2, as a SEQUENCE.
-///
-/// Its values differ from the notation's. The crate lacks: a `CharacterSet` of its own.
 #[derive(Debug, Drop, PartialEq, Eq)]
 pub struct ApReqMembers {
     /// `[0] INTEGER (5)`.
@@ -155,13 +151,9 @@ pub type ApOptions = KerberosFlags;
 /// (5), crealm [1] Realm, cname [2] PrincipalName, cksum [3] Checksum OPTIONAL, cusec [4]
 /// Microseconds, ctime [5] KerberosTime, subkey [6] EncryptionKey OPTIONAL, seq-number [7] UInt32
 /// OPTIONAL, authorization-data [8] AuthorizationData OPTIONAL }`.
-///
-/// Its values differ from the notation's. The crate lacks: a `CharacterSet` of its own.
 pub type Authenticator = ApplicationTag<AuthenticatorMembers, 2>;
 
 /// `Authenticator` of KerberosV5Spec2, as a SEQUENCE.
-///
-/// Its values differ from the notation's. The crate lacks: a `CharacterSet` of its own.
 #[derive(Debug, Drop, PartialEq, Eq)]
 pub struct AuthenticatorMembers {
     /// `[0] INTEGER (5)`.

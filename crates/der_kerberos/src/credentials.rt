@@ -29,13 +29,9 @@ use picky_asn1_der::{
 
 /// `KRB-CRED` of KerberosV5Spec2: `[APPLICATION 22] SEQUENCE { pvno [0] INTEGER (5), msg-type [1]
 /// INTEGER (22), tickets [2] SEQUENCE OF Ticket, enc-part [3] EncryptedData }`.
-///
-/// Its values differ from the notation's. The crate lacks: a `CharacterSet` of its own.
 pub type KrbCred = ApplicationTag<KrbCredMembers, 22>;
 
 /// `KRB-CRED` of KerberosV5Spec2, as a SEQUENCE.
-///
-/// Its values differ from the notation's. The crate lacks: a `CharacterSet` of its own.
 #[derive(Debug, Drop, PartialEq, Eq)]
 pub struct KrbCredMembers {
     /// `[0] INTEGER (5)`.
@@ -137,13 +133,9 @@ impl Inhabited for KrbCredMembers {
 /// KrbCredInfo, nonce [1] UInt32 OPTIONAL, timestamp [2] KerberosTime OPTIONAL, usec [3]
 /// Microseconds OPTIONAL, s-address [4] HostAddress OPTIONAL, r-address [5] HostAddress OPTIONAL
 /// }`.
-///
-/// Its values differ from the notation's. The crate lacks: a `CharacterSet` of its own.
 pub type EncKrbCredPart = ApplicationTag<EncKrbCredPartMembers, 29>;
 
 /// `EncKrbCredPart` of KerberosV5Spec2, as a SEQUENCE.
-///
-/// Its values differ from the notation's. The crate lacks: a `CharacterSet` of its own.
 #[derive(Debug, Drop, PartialEq, Eq)]
 pub struct EncKrbCredPartMembers {
     /// `[0] SEQUENCE OF KrbCredInfo`.
@@ -281,8 +273,6 @@ impl Inhabited for EncKrbCredPartMembers {
 }
 
 /// `KrbCredInfo` of KerberosV5Spec2, as a SEQUENCE.
-///
-/// Its values differ from the notation's. The crate lacks: a `CharacterSet` of its own.
 #[derive(Debug, Drop, PartialEq, Eq)]
 pub struct KrbCredInfo {
     /// `[0] EncryptionKey`.

@@ -30,13 +30,9 @@ use picky_asn1_der::{
 /// KerberosTime, susec [5] Microseconds, error-code [6] Int32, crealm [7] Realm OPTIONAL, cname [8]
 /// PrincipalName OPTIONAL, realm [9] Realm, sname [10] PrincipalName, e-text [11] KerberosString
 /// OPTIONAL, e-data [12] OCTET STRING OPTIONAL }`.
-///
-/// Its values differ from the notation's. The crate lacks: a `CharacterSet` of its own.
 pub type KrbError = ApplicationTag<KrbErrorMembers, 30>;
 
 /// `KRB-ERROR` of KerberosV5Spec2, as a SEQUENCE.
-///
-/// Its values differ from the notation's. The crate lacks: a `CharacterSet` of its own.
 #[derive(Debug, Drop, PartialEq, Eq)]
 pub struct KrbErrorMembers {
     /// `[0] INTEGER (5)`.

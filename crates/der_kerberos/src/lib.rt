@@ -40,6 +40,6 @@ pub use tickets::{
 pub use types::{
     AdAndOr, AdIfRelevant, AdKdcIssued, AdMandatoryForKdc, AuthorizationData,
     AuthorizationDataItem, Checksum, EncryptedData, EncryptionKey, HostAddress, HostAddresses,
-    Int32, KerberosFlags, KerberosString, KerberosTime, Microseconds, PaData, PrincipalName, Realm,
-    UInt32,
+    Int32, KerberosFlags, KerberosString, KerberosStringCharacters, KerberosTime, Microseconds,
+    PaData, PrincipalName, Realm, UInt32,
 };

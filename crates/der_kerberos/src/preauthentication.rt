@@ -191,8 +191,6 @@ impl Inhabited for EtypeInfoEntry {
 pub type EtypeInfo = Vec<EtypeInfoEntry>;
 
 /// `ETYPE-INFO2-ENTRY` of KerberosV5Spec2, as a SEQUENCE.
-///
-/// Its values differ from the notation's. The crate lacks: a `CharacterSet` of its own.
 #[derive(Debug, Drop, PartialEq, Eq)]
 pub struct EtypeInfo2Entry {
     /// `[0] Int32`.
@@ -286,6 +284,4 @@ impl Inhabited for EtypeInfo2Entry {
 }
 
 /// `ETYPE-INFO2` of KerberosV5Spec2: `SEQUENCE SIZE (1..MAX) OF ETYPE-INFO2-ENTRY`.
-///
-/// Its values differ from the notation's. The crate lacks: a `CharacterSet` of its own.
 pub type EtypeInfo2 = WithSize<Vec<EtypeInfo2Entry>, 1, { usize::MAX }>;

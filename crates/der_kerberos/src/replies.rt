@@ -31,13 +31,9 @@ use picky_asn1_der::{
 /// `AS-REP` of KerberosV5Spec2: `[APPLICATION 11] SEQUENCE { pvno [0] INTEGER (5), msg-type [1]
 /// INTEGER (11), padata [2] SEQUENCE OF PA-DATA OPTIONAL, crealm [3] Realm, cname [4]
 /// PrincipalName, ticket [5] Ticket, enc-part [6] EncryptedData }`.
-///
-/// Its values differ from the notation's. The crate lacks: a `CharacterSet` of its own.
 pub type AsRep = ApplicationTag<AsRepMembers, 11>;
 
 /// `AS-REP` of KerberosV5Spec2, as a SEQUENCE.
-///
-/// Its values differ from the notation's. The crate lacks: a `CharacterSet` of its own.
 #[derive(Debug, Drop, PartialEq, Eq)]
 pub struct AsRepMembers {
     /// `[0] INTEGER (5)`.
@@ -173,13 +169,9 @@ impl Inhabited for AsRepMembers {
 /// `TGS-REP` of KerberosV5Spec2: `[APPLICATION 13] SEQUENCE { pvno [0] INTEGER (5), msg-type [1]
 /// INTEGER (13), padata [2] SEQUENCE OF PA-DATA OPTIONAL, crealm [3] Realm, cname [4]
 /// PrincipalName, ticket [5] Ticket, enc-part [6] EncryptedData }`.
-///
-/// Its values differ from the notation's. The crate lacks: a `CharacterSet` of its own.
 pub type TgsRep = ApplicationTag<TgsRepMembers, 13>;
 
 /// `TGS-REP` of KerberosV5Spec2, as a SEQUENCE.
-///
-/// Its values differ from the notation's. The crate lacks: a `CharacterSet` of its own.
 #[derive(Debug, Drop, PartialEq, Eq)]
 pub struct TgsRepMembers {
     /// `[0] INTEGER (5)`.
@@ -313,18 +305,12 @@ impl Inhabited for TgsRepMembers {
 }
 
 /// `EncASRepPart` of KerberosV5Spec2: `[APPLICATION 25] EncKDCRepPart`.
-///
-/// Its values differ from the notation's. The crate lacks: a `CharacterSet` of its own.
 pub type EncAsRepPart = ApplicationTag<EncKdcRepPart, 25>;
 
 /// `EncTGSRepPart` of KerberosV5Spec2: `[APPLICATION 26] EncKDCRepPart`.
-///
-/// Its values differ from the notation's. The crate lacks: a `CharacterSet` of its own.
 pub type EncTgsRepPart = ApplicationTag<EncKdcRepPart, 26>;
 
 /// `EncKDCRepPart` of KerberosV5Spec2, as a SEQUENCE.
-///
-/// Its values differ from the notation's. The crate lacks: a `CharacterSet` of its own.
 #[derive(Debug, Drop, PartialEq, Eq)]
 pub struct EncKdcRepPart {
     /// `[0] EncryptionKey`.

@@ -31,15 +31,11 @@ use picky_asn1_der::{
 /// replies, KDC-REP. Each message has its own number here. `AS-REQ` of KerberosV5Spec2:
 /// `[APPLICATION 10] SEQUENCE { pvno [1] INTEGER (5), msg-type [2] INTEGER (10), padata [3]
 /// SEQUENCE OF PA-DATA OPTIONAL, req-body [4] KDC-REQ-BODY }`.
-///
-/// Its values differ from the notation's. The crate lacks: a `CharacterSet` of its own.
 pub type AsReq = ApplicationTag<AsReqMembers, 10>;
 
 /// RFC 4120 has one type for the members of both requests, KDC-REQ, and one for those of both
 /// replies, KDC-REP. Each message has its own number here. `AS-REQ` of KerberosV5Spec2, as a
 /// SEQUENCE.
-///
-/// Its values differ from the notation's. The crate lacks: a `CharacterSet` of its own.
 #[derive(Debug, Drop, PartialEq, Eq)]
 pub struct AsReqMembers {
     /// `[1] INTEGER (5)`.
@@ -139,13 +135,9 @@ impl Inhabited for AsReqMembers {
 
 /// `TGS-REQ` of KerberosV5Spec2: `[APPLICATION 12] SEQUENCE { pvno [1] INTEGER (5), msg-type [2]
 /// INTEGER (12), padata [3] SEQUENCE OF PA-DATA OPTIONAL, req-body [4] KDC-REQ-BODY }`.
-///
-/// Its values differ from the notation's. The crate lacks: a `CharacterSet` of its own.
 pub type TgsReq = ApplicationTag<TgsReqMembers, 12>;
 
 /// `TGS-REQ` of KerberosV5Spec2, as a SEQUENCE.
-///
-/// Its values differ from the notation's. The crate lacks: a `CharacterSet` of its own.
 #[derive(Debug, Drop, PartialEq, Eq)]
 pub struct TgsReqMembers {
     /// `[1] INTEGER (5)`.
@@ -244,8 +236,6 @@ impl Inhabited for TgsReqMembers {
 }
 
 /// `KDC-REQ-BODY` of KerberosV5Spec2, as a SEQUENCE.
-///
-/// Its values differ from the notation's. The crate lacks: a `CharacterSet` of its own.
 #[derive(Debug, Drop, PartialEq, Eq)]
 pub struct KdcReqBody {
     /// `[0] KDCOptions`.

@@ -29,13 +29,9 @@ use picky_asn1_der::{
 
 /// `Ticket` of KerberosV5Spec2: `[APPLICATION 1] SEQUENCE { tkt-vno [0] INTEGER (5), realm [1]
 /// Realm, sname [2] PrincipalName, enc-part [3] EncryptedData }`.
-///
-/// Its values differ from the notation's. The crate lacks: a `CharacterSet` of its own.
 pub type Ticket = ApplicationTag<TicketMembers, 1>;
 
 /// `Ticket` of KerberosV5Spec2, as a SEQUENCE.
-///
-/// Its values differ from the notation's. The crate lacks: a `CharacterSet` of its own.
 #[derive(Debug, Drop, PartialEq, Eq)]
 pub struct TicketMembers {
     /// `[0] INTEGER (5)`.
@@ -131,13 +127,9 @@ impl Inhabited for TicketMembers {
 /// authtime [5] KerberosTime, starttime [6] KerberosTime OPTIONAL, endtime [7] KerberosTime,
 /// renew-till [8] KerberosTime OPTIONAL, caddr [9] HostAddresses OPTIONAL, authorization-data [10]
 /// AuthorizationData OPTIONAL }`.
-///
-/// Its values differ from the notation's. The crate lacks: a `CharacterSet` of its own.
 pub type EncTicketPart = ApplicationTag<EncTicketPartMembers, 3>;
 
 /// `EncTicketPart` of KerberosV5Spec2, as a SEQUENCE.
-///
-/// Its values differ from the notation's. The crate lacks: a `CharacterSet` of its own.
 #[derive(Debug, Drop, PartialEq, Eq)]
 pub struct EncTicketPartMembers {
     /// `[0] TicketFlags`.

@@ -2,7 +2,7 @@
 -- The types as terms. Above each is its name in its module, and above each member the member's text.
 use Rattle.der_types.specs.ContentForms.{INTEGER, OBJECT-IDENTIFIER}
 use Rattle.der_types.specs.Notation.{Notation, OCTET-STRING, end, optional, required}
-use Rattle.der_types.specs.NotationForms.{ANY, CONTEXT, EXPLICIT, INTEGER-from-to, SEQUENCE, SEQUENCE-OF, SET-OF, default-of, ◌⨾◌}
+use Rattle.der_types.specs.NotationForms.{ANY, CONTEXT, EXPLICIT, INTEGER-from-to, SEQUENCE, SEQUENCE-OF, SET-OF, default-of, number, ◌⨾◌}
 use Rattle.der_cms.specs.Notation.{ContentInfo}
 use Rattle.der_pkix.specs.Notation.{EncryptedPrivateKeyInfo, PrivateKeyInfo}
 use Rattle.der_x509.specs.Notation.{AlgorithmIdentifier}
@@ -50,7 +50,7 @@ MacData = SEQUENCE (
     -- macSalt OCTET STRING
     required OCTET-STRING ⨾
     -- iterations INTEGER DEFAULT 1
-    default-of 1 INTEGER ⨾
+    default-of (number 1) INTEGER ⨾
     end)
 
 -- PFX of PKCS-12

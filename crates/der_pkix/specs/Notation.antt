@@ -3,7 +3,7 @@
 use Rattle.std.specs.Prelude.{[], ◌∷◌}
 use Rattle.der_types.specs.ContentForms.{BIT-STRING, BIT-STRING-named, BMPString, GeneralizedTime, IA5String, INTEGER, OBJECT-IDENTIFIER, VisibleString}
 use Rattle.der_types.specs.Notation.{Notation, BOOLEAN, ENUMERATED, INTEGER-named, OCTET-STRING, UTF8String, end, none, optional, required}
-use Rattle.der_types.specs.NotationForms.{ANY, CHOICE, CONTEXT, EXPLICIT, FALSE, IMPLICIT, INTEGER-from-to, MAX, Mode, SEQUENCE, SEQUENCE-OF, SET-OF, SIZE, TRUE, default, default-as-optional, wider, ◌∣◌, ◌⨾◌}
+use Rattle.der_types.specs.NotationForms.{ANY, CHOICE, CONTEXT, EXPLICIT, FALSE, IMPLICIT, INTEGER-from-to, INTEGER-in, MAX, Mode, SEQUENCE, SEQUENCE-OF, SET-OF, SIZE, TRUE, default, default-as-optional, default-of, from-on, number, wider, ◌∣◌, ◌⨾◌}
 use Rattle.der_x509.specs.Notation.{AlgorithmIdentifier, AttributeType, AttributeValue, CertificateSerialNumber, Extensions, Name, RelativeDistinguishedName, SubjectPublicKeyInfo, UniqueIdentifier}
 
 -- PKIX1Implicit88 DEFINITIONS IMPLICIT TAGS
@@ -34,7 +34,7 @@ AttrSpec = SEQUENCE-OF OBJECT-IDENTIFIER
 abbrev pub AaControls : Notation
 AaControls = SEQUENCE (
     -- pathLenConstraint INTEGER (0..MAX) OPTIONAL
-    optional (wider INTEGER) ⨾
+    optional (INTEGER-in (from-on (number 0) ∷ [])) ⨾
     -- permittedAttrs [0] AttrSpec OPTIONAL
     optional (CONTEXT 0 TAGS-PKIXAttributeCertificate-2008 AttrSpec) ⨾
     -- excludedAttrs [1] AttrSpec OPTIONAL
@@ -282,7 +282,7 @@ AuthorityKeyIdentifier = SEQUENCE (
 
 -- CRLNumber of PKIX1Implicit88: INTEGER (0..MAX)
 abbrev pub CrlNumber : Notation
-CrlNumber = wider INTEGER
+CrlNumber = INTEGER-in (from-on (number 0) ∷ [])
 
 -- BaseCRLNumber of PKIX1Implicit88: CRLNumber
 abbrev pub BaseCrlNumber : Notation
@@ -290,7 +290,7 @@ BaseCrlNumber = CrlNumber
 
 -- BaseDistance of PKIX1Implicit88: INTEGER (0..MAX)
 abbrev pub BaseDistance : Notation
-BaseDistance = wider INTEGER
+BaseDistance = INTEGER-in (from-on (number 0) ∷ [])
 
 -- BasicConstraints of PKIX1Implicit88
 abbrev pub BasicConstraints : Notation
@@ -298,7 +298,7 @@ BasicConstraints = SEQUENCE (
     -- cA BOOLEAN DEFAULT FALSE
     default FALSE BOOLEAN ⨾
     -- pathLenConstraint INTEGER (0..MAX) OPTIONAL
-    optional (wider INTEGER) ⨾
+    optional (INTEGER-in (from-on (number 0) ∷ [])) ⨾
     end)
 
 -- CertPolicyId of PKIX1Implicit88: OBJECT IDENTIFIER
@@ -479,14 +479,14 @@ FreshestCrl = CrlDistributionPoints
 
 -- GeneralSubtree of PKIX1Implicit88
 abbrev pub GeneralSubtree : Notation
-GeneralSubtree = wider (SEQUENCE (
+GeneralSubtree = SEQUENCE (
     -- base GeneralName
     required GeneralName ⨾
     -- minimum [0] BaseDistance DEFAULT 0
-    default-as-optional (CONTEXT 0 TAGS-PKIX1Implicit88 BaseDistance) ⨾
+    default-of (number 0) (CONTEXT 0 TAGS-PKIX1Implicit88 BaseDistance) ⨾
     -- maximum [1] BaseDistance OPTIONAL
     optional (CONTEXT 1 TAGS-PKIX1Implicit88 BaseDistance) ⨾
-    end))
+    end)
 
 -- GeneralSubtrees of PKIX1Implicit88: SEQUENCE SIZE (1..MAX) OF GeneralSubtree
 abbrev pub GeneralSubtrees : Notation
@@ -518,7 +518,7 @@ IetfAttrSyntax = SEQUENCE (
 
 -- SkipCerts of PKIX1Implicit88: INTEGER (0..MAX)
 abbrev pub SkipCerts : Notation
-SkipCerts = wider INTEGER
+SkipCerts = INTEGER-in (from-on (number 0) ∷ [])
 
 -- InhibitAnyPolicy of PKIX1Implicit88: SkipCerts
 abbrev pub InhibitAnyPolicy : Notation

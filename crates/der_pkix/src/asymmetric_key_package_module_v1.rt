@@ -244,7 +244,7 @@ impl Serialize for KeyVersion {
 impl Deserialize for KeyVersion {
     ghost shape = { contents_shape 0x02 };
 
-    ghost facts = { contents_facts 0x02 (λ it. key_version_number it ∷ []) ⟦<Self as PartialEq>⟧.eq ⟦<Self as Contents>⟧.same };
+    ghost facts = { contents_facts 0x02 (λ it. key_version_number it ∷ []) ⟦<Self as PartialEq>⟧.eq ⟦<Self as Contents>⟧.is_content ⟦<Self as Contents>⟧.same };
 
     ghost proved = { Prim.assumption };
 

@@ -351,7 +351,7 @@ impl Serialize for DigestedObjectType {
 impl Deserialize for DigestedObjectType {
     ghost shape = { contents_shape 0x0A };
 
-    ghost facts = { contents_facts 0x0A (λ it. digested_object_type_number it ∷ []) ⟦<Self as PartialEq>⟧.eq ⟦<Self as Contents>⟧.same };
+    ghost facts = { contents_facts 0x0A (λ it. digested_object_type_number it ∷ []) ⟦<Self as PartialEq>⟧.eq ⟦<Self as Contents>⟧.is_content ⟦<Self as Contents>⟧.same };
 
     ghost proved = { Prim.assumption };
 

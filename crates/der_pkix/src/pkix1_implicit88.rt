@@ -10,7 +10,8 @@ ghost use Rattle.der_types.specs.SampleTrees.{exact_example};
 
 use crate::{GeneralName, GeneralNames};
 use der_types::{
-    Exact, ExactMembers, Integer, Notated, NotatedMembers, ObjectIdentifier, WithSize,
+    AtLeast, Exact, ExactMembers, Integer, Notated, NotatedMembers, ObjectIdentifier, OtherThan,
+    Plus, WithSize,
 };
 use der_x509::CertificateSerialNumber;
 use picky_asn1_der::asn1::{
@@ -145,17 +146,19 @@ pub type KeyIdentifier = ByteBuf;
 pub type SubjectKeyIdentifier = KeyIdentifier;
 
 /// `BasicConstraints` of PKIX1Implicit88, as a SEQUENCE.
-///
-/// Its values differ from the notation's. The crate lacks: a type of its own with `Constrained`.
 #[derive(Debug, Drop, PartialEq, Eq)]
 pub struct BasicConstraints {
     /// `BOOLEAN DEFAULT FALSE`.
     pub ca: bool,
     /// `INTEGER (0..MAX) OPTIONAL`.
-    pub path_len_constraint: Option<Integer>,
+    pub path_len_constraint: Option<AtLeast<Integer, Plus<0>>>,
 }
 
-type BasicConstraintsParts = (Defaulted<bool, False>, Optional<Integer>, ());
+type BasicConstraintsParts = (
+    Defaulted<bool, False>,
+    Optional<AtLeast<Integer, Plus<0>>>,
+    (),
+);
 
 impl Struct for BasicConstraints {
     type Members = BasicConstraintsParts;
@@ -231,9 +234,6 @@ impl Inhabited for BasicConstraints {
 }
 
 /// `NameConstraints` of PKIX1Implicit88, as a SEQUENCE.
-///
-/// Its values differ from the notation's. The crate lacks: DEFAULT of a constrained type; a type of
-/// its own with `Constrained`.
 #[derive(Debug, Drop, PartialEq, Eq)]
 pub struct NameConstraints {
     /// `[0] GeneralSubtrees OPTIONAL`.
@@ -322,28 +322,22 @@ impl Inhabited for NameConstraints {
 }
 
 /// `GeneralSubtrees` of PKIX1Implicit88: `SEQUENCE SIZE (1..MAX) OF GeneralSubtree`.
-///
-/// Its values differ from the notation's. The crate lacks: DEFAULT of a constrained type; a type of
-/// its own with `Constrained`.
 pub type GeneralSubtrees = WithSize<Vec<GeneralSubtree>, 1, { usize::MAX }>;
 
 /// `GeneralSubtree` of PKIX1Implicit88, as a SEQUENCE.
-///
-/// Its values differ from the notation's. The crate lacks: DEFAULT of a constrained type; a type of
-/// its own with `Constrained`.
 #[derive(Debug, Drop, PartialEq, Eq)]
 pub struct GeneralSubtree {
     /// `GeneralName`.
     pub base: GeneralName,
-    /// `[0] BaseDistance DEFAULT 0`. A default that is written out is read, too.
-    pub minimum: Option<ImplicitContextTag0<BaseDistance>>,
+    /// `[0] BaseDistance DEFAULT 0`. `None` is the default.
+    pub minimum: Option<ImplicitContextTag0<OtherThan<BaseDistance, 0>>>,
     /// `[1] BaseDistance OPTIONAL`.
     pub maximum: Option<ImplicitContextTag1<BaseDistance>>,
 }
 
 type GeneralSubtreeParts = (
     GeneralName,
-    Optional<ImplicitContextTag0<BaseDistance>>,
+    Optional<ImplicitContextTag0<OtherThan<BaseDistance, 0>>>,
     Optional<ImplicitContextTag1<BaseDistance>>,
     (),
 );
@@ -424,9 +418,7 @@ impl Inhabited for GeneralSubtree {
 }
 
 /// `BaseDistance` of PKIX1Implicit88: `INTEGER (0..MAX)`.
-///
-/// Its values differ from the notation's. The crate lacks: a type of its own with `Constrained`.
-pub type BaseDistance = Integer;
+pub type BaseDistance = AtLeast<Integer, Plus<0>>;
 
 /// `ExtKeyUsageSyntax` of PKIX1Implicit88: `SEQUENCE SIZE (1..MAX) OF KeyPurposeId`.
 pub type ExtKeyUsageSyntax = WithSize<Vec<KeyPurposeId>, 1, { usize::MAX }>;

@@ -14,8 +14,8 @@ ghost use Rattle.der_types.specs.SampleTrees.{exact_example};
 
 use crate::{AttCertIssuer, Attribute, GeneralName, Holder, IssuerSerial, ObjectDigestInfo};
 use der_types::{
-    BitString, Exact, ExactAlternatives, ExactMembers, GeneralizedTime, InRange, Integer, Notated,
-    NotatedAlternatives, NotatedMembers, ObjectIdentifier, WithSize,
+    AtLeast, BitString, Exact, ExactAlternatives, ExactMembers, GeneralizedTime, InRange, Integer,
+    Notated, NotatedAlternatives, NotatedMembers, ObjectIdentifier, Plus, WithSize,
 };
 use der_x509::{AlgorithmIdentifier, CertificateSerialNumber, Extensions, UniqueIdentifier};
 use picky_asn1_der::OneOf::{Other, This};
@@ -585,12 +585,10 @@ impl Inhabited for TargetCert {
 pub type ProxyInfo = Vec<Targets>;
 
 /// `AAControls` of PKIXAttributeCertificate-2008, as a SEQUENCE.
-///
-/// Its values differ from the notation's. The crate lacks: a type of its own with `Constrained`.
 #[derive(Debug, Drop, PartialEq, Eq)]
 pub struct AaControls {
     /// `INTEGER (0..MAX) OPTIONAL`.
-    pub path_len_constraint: Option<Integer>,
+    pub path_len_constraint: Option<AtLeast<Integer, Plus<0>>>,
     /// `[0] AttrSpec OPTIONAL`.
     pub permitted_attrs: Option<ImplicitList0<AttrSpec>>,
     /// `[1] AttrSpec OPTIONAL`.
@@ -600,7 +598,7 @@ pub struct AaControls {
 }
 
 type AaControlsParts = (
-    Optional<Integer>,
+    Optional<AtLeast<Integer, Plus<0>>>,
     Optional<ImplicitList0<AttrSpec>>,
     Optional<ImplicitList1<AttrSpec>>,
     Defaulted<bool, True>,

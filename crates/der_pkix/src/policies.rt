@@ -13,8 +13,8 @@ ghost use Rattle.der_types.specs.ExactMembers.{struct_values};
 ghost use Rattle.der_types.specs.SampleTrees.{exact_example};
 
 use der_types::{
-    BmpString, Exact, ExactAlternatives, ExactMembers, Ia5String, Integer, Notated,
-    NotatedAlternatives, NotatedMembers, ObjectIdentifier, VisibleString, WithSize,
+    AtLeast, BmpString, Exact, ExactAlternatives, ExactMembers, Ia5String, Integer, Notated,
+    NotatedAlternatives, NotatedMembers, ObjectIdentifier, Plus, VisibleString, WithSize,
 };
 use picky_asn1_der::Choice4::{First, Fourth, Second, Third};
 use picky_asn1_der::asn1::{ImplicitContextTag0, ImplicitContextTag1, Tag};
@@ -571,8 +571,6 @@ impl Inhabited for PolicyMappingsItem {
 }
 
 /// `PolicyConstraints` of PKIX1Implicit88, as a SEQUENCE.
-///
-/// Its values differ from the notation's. The crate lacks: a type of its own with `Constrained`.
 #[derive(Debug, Drop, PartialEq, Eq)]
 pub struct PolicyConstraints {
     /// `[0] SkipCerts OPTIONAL`.
@@ -662,11 +660,7 @@ impl Inhabited for PolicyConstraints {
 }
 
 /// `SkipCerts` of PKIX1Implicit88: `INTEGER (0..MAX)`.
-///
-/// Its values differ from the notation's. The crate lacks: a type of its own with `Constrained`.
-pub type SkipCerts = Integer;
+pub type SkipCerts = AtLeast<Integer, Plus<0>>;
 
 /// `InhibitAnyPolicy` of PKIX1Implicit88: `SkipCerts`.
-///
-/// Its values differ from the notation's. The crate lacks: a type of its own with `Constrained`.
 pub type InhibitAnyPolicy = SkipCerts;

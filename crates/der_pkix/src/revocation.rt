@@ -21,9 +21,9 @@ ghost use Rattle.der_pkix.specs.Enumerations.{crl_reason_number, crl_reason_resp
 
 use crate::GeneralNames;
 use der_types::{
-    Contents, Exact, ExactAlternatives, ExactContents, ExactMembers, GeneralizedTime, Integer,
-    NamedBits, Notated, NotatedAlternatives, NotatedMembers, ObjectIdentifier, WithSize,
-    deserialize_contents_as,
+    AtLeast, Contents, Exact, ExactAlternatives, ExactContents, ExactMembers, GeneralizedTime,
+    Integer, NamedBits, Notated, NotatedAlternatives, NotatedMembers, ObjectIdentifier, Plus,
+    WithSize, deserialize_contents_as,
 };
 use der_x509::RelativeDistinguishedName;
 use picky_asn1_der::OneOf::{Other, This};
@@ -252,13 +252,9 @@ pub type ReasonFlags = NamedBits;
 pub type FreshestCrl = CrlDistributionPoints;
 
 /// `CRLNumber` of PKIX1Implicit88: `INTEGER (0..MAX)`.
-///
-/// Its values differ from the notation's. The crate lacks: a type of its own with `Constrained`.
-pub type CrlNumber = Integer;
+pub type CrlNumber = AtLeast<Integer, Plus<0>>;
 
 /// `BaseCRLNumber` of PKIX1Implicit88: `CRLNumber`.
-///
-/// Its values differ from the notation's. The crate lacks: a type of its own with `Constrained`.
 pub type BaseCrlNumber = CrlNumber;
 
 /// `IssuingDistributionPoint` of PKIX1Implicit88, as a SEQUENCE.
@@ -519,7 +515,7 @@ impl Serialize for CrlReason {
 impl Deserialize for CrlReason {
     ghost shape = { contents_shape 0x0A };
 
-    ghost facts = { contents_facts 0x0A (λ it. crl_reason_number it ∷ []) ⟦<Self as PartialEq>⟧.eq ⟦<Self as Contents>⟧.same };
+    ghost facts = { contents_facts 0x0A (λ it. crl_reason_number it ∷ []) ⟦<Self as PartialEq>⟧.eq ⟦<Self as Contents>⟧.is_content ⟦<Self as Contents>⟧.same };
 
     ghost proved = { Prim.assumption };
 

@@ -270,9 +270,11 @@ mutual
       let same = primitive_content_tag tag e in
       subst IsChecked (sym d.1) (subst (λ x. IsElementInDer x d.0) (sym same) (content_tag tag d.0 e))
   checked (Notation.in-range least most n) e t d = checked n e t d.0
-  checked (Notation.from-minus least most n) e t d = checked n e t d.0
-  checked (Notation.other-than k n) e t d = checked n e t d.0
+  checked (Notation.at-least least n) e t d = checked n e t d.0
+  checked (Notation.at-most most n) e t d = checked n e t d.0
+  checked (Notation.outside least most n) e t d = checked n e t d.0
   checked (Notation.sized least most n) e t d = checked n e t d.0
+  checked (Notation.permitted ranges n) e t d = checked n e t d.0
 
   members_checked : (ms : Members) → are_members_checked ms ≡ true → (ts : Trees) → DenoteMembers ms ts → AreChecked ts
   members_checked Members.end e ts d = none_checked ts d
@@ -286,7 +288,8 @@ mutual
       let parts = and_parts (is_checked n) (are_members_checked ms) e in
       maybe_checked (λ x. Denotes n x × (x ≢ value)) (DenoteMembers ms) (λ x p. checked n parts.0 x p.0)
       (members_checked ms parts.1) ts d
-  members_checked (Members.others known) e ts d = cc
+  members_checked (Members.others excluded) e ts d = cc
+  members_checked (Members.others-from least) e ts d = cc
 
   alternatives_checked : (ns : Alternatives) → are_alternatives_checked ns ≡ true → (t : Tree) → DenoteOneOf ns t
       → IsChecked t

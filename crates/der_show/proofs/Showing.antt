@@ -61,14 +61,16 @@ module _ (o : ShowOptions) (bytes ends : List ℕ) (at : ℕ) (es : List Entry) 
   abbrev end : ℕ
   end = innermost (length bytes) ends
 
-  step_reached : (t : Step) → GoesOn t → IsStep o (length ends) (ahead bytes ends at) t → IsReached o bytes ends at es
+  step_reached : (t : Step) → GoesOn t → IsStep o (length ends) (ahead bytes ends at) t → at < end
+      → IsReached o bytes ends at es
       → IsReached o bytes (ends_after end at ends t) (offset_after end at t) (es ++ step_entries (length ends) at t)
-  step_reached (step.Element h None) on is r = IsReached.passed ends at es h r is.0 is.1
-  step_reached (step.Element h (Some skipped)) on is r =
+  step_reached (step.Element h None) on is low r = IsReached.passed ends at es h r is.0 is.1
+  step_reached (step.Element h (Some skipped)) on is low r =
       closed o bytes _ _ _ (IsReached.opened ends at es h skipped r is.0 is.1)
-  step_reached (step.Broken rule h) on is r = IsReached.broken ends at es rule h is.0 r is.1 is.2
-  step_reached (step.Skipped rule) on is r = closed o bytes _ _ _ (IsReached.skipped ends at es rule is.0 r is.1)
-  step_reached (step.Stopped rule) on is r = cc
+  step_reached (step.Broken rule h) on is low r = IsReached.broken ends at es rule h is.0 r is.1 is.2
+  step_reached (step.Skipped rule) on is low r =
+      closed o bytes _ _ _ (IsReached.skipped ends at es rule is.0 r low is.1)
+  step_reached (step.Stopped rule) on is low r = cc
 
   step_plain : (t : Step) → GoesOn t → IsPlain o → IsStep o (length ends) (ahead bytes ends at) t → at < length bytes
       → Plainly bytes ends at es
@@ -101,39 +103,39 @@ module _ (o : ShowOptions) (bytes ends : List ℕ) (at : ℕ) (es : List Entry) 
   so_far_none : (r : IsReached o bytes ends at es) → IsSoFar o bytes (es ++ [])
   so_far_none r = subst (IsSoFar o bytes) (sym (append-nil es)) (IsSoFar.reached ends at es r)
 
-  so_far_by : (t : Step) (front : List Entry) → IsStep o (length ends) (ahead bytes ends at) t
+  so_far_by : (t : Step) (front : List Entry) → IsStep o (length ends) (ahead bytes ends at) t → at < end
       → IsReached o bytes ends at es → IsBeginning (step_entries (length ends) at t) front
       → IsSoFar o bytes (es ++ front)
-  so_far_by t front is r (none e) = subst (λ f. IsSoFar o bytes (es ++ f)) (sym e) (so_far_none r)
-  so_far_by (step.Element h opening) front is r (first x rest e k) =
+  so_far_by t front is low r (none e) = subst (λ f. IsSoFar o bytes (es ++ f)) (sym e) (so_far_none r)
+  so_far_by (step.Element h opening) front is low r (first x rest e k) =
       let same : x ≡ _ = cc in
       subst (λ f. IsSoFar o bytes (es ++ f)) (sym k)
       (subst (λ y. IsSoFar o bytes (es ++ (y ∷ []))) (sym same)
-      (IsSoFar.reached _ _ _ (step_reached (step.Element h opening) refl is r)))
-  so_far_by (step.Broken rule h) front is r (first x rest e k) =
+      (IsSoFar.reached _ _ _ (step_reached (step.Element h opening) refl is low r)))
+  so_far_by (step.Broken rule h) front is low r (first x rest e k) =
       let same : x ≡ complaint_at at rule = cc in
       subst (λ f. IsSoFar o bytes (es ++ f)) (sym k)
-      (subst (λ y. IsSoFar o bytes (es ++ (y ∷ []))) (sym same) (IsSoFar.complained ends at es rule r is.1))
-  so_far_by (step.Skipped rule) front is r (first x rest e k) =
+      (subst (λ y. IsSoFar o bytes (es ++ (y ∷ []))) (sym same) (IsSoFar.complained ends at es rule r low is.1))
+  so_far_by (step.Skipped rule) front is low r (first x rest e k) =
       let same : x ≡ complaint_at at rule = cc in
       subst (λ f. IsSoFar o bytes (es ++ f)) (sym k)
       (subst (λ y. IsSoFar o bytes (es ++ (y ∷ []))) (sym same)
-      (IsSoFar.complained ends at es rule r (Breaks.header is.1)))
-  so_far_by (step.Stopped rule) front is r (first x rest e k) =
+      (IsSoFar.complained ends at es rule r low (Breaks.header is.1)))
+  so_far_by (step.Stopped rule) front is low r (first x rest e k) =
       let same : x ≡ complaint_at at rule = cc in
       subst (λ f. IsSoFar o bytes (es ++ f)) (sym k)
-      (subst (λ y. IsSoFar o bytes (es ++ (y ∷ []))) (sym same) (IsSoFar.complained ends at es rule r is.1))
-  so_far_by (step.Stopped rule) front is r (all k) =
-      subst (λ f. IsSoFar o bytes (es ++ f)) (sym k) (IsSoFar.complained ends at es rule r is.1)
-  so_far_by (step.Element h opening) front is r (all k) =
+      (subst (λ y. IsSoFar o bytes (es ++ (y ∷ []))) (sym same) (IsSoFar.complained ends at es rule r low is.1))
+  so_far_by (step.Stopped rule) front is low r (all k) =
+      subst (λ f. IsSoFar o bytes (es ++ f)) (sym k) (IsSoFar.complained ends at es rule r low is.1)
+  so_far_by (step.Element h opening) front is low r (all k) =
       subst (λ f. IsSoFar o bytes (es ++ f)) (sym k)
-      (IsSoFar.reached _ _ _ (step_reached (step.Element h opening) refl is r))
-  so_far_by (step.Broken rule h) front is r (all k) =
+      (IsSoFar.reached _ _ _ (step_reached (step.Element h opening) refl is low r))
+  so_far_by (step.Broken rule h) front is low r (all k) =
       subst (λ f. IsSoFar o bytes (es ++ f)) (sym k)
-      (IsSoFar.reached _ _ _ (step_reached (step.Broken rule h) refl is r))
-  so_far_by (step.Skipped rule) front is r (all k) =
+      (IsSoFar.reached _ _ _ (step_reached (step.Broken rule h) refl is low r))
+  so_far_by (step.Skipped rule) front is low r (all k) =
       subst (λ f. IsSoFar o bytes (es ++ f)) (sym k)
-      (IsSoFar.reached _ _ _ (step_reached (step.Skipped rule) refl is r))
+      (IsSoFar.reached _ _ _ (step_reached (step.Skipped rule) refl is low r))
 
 -- ---- the loop
 
@@ -178,7 +180,7 @@ module _ (form : LineForm) (o : ShowOptions) (bytes ends : List ℕ) (at : ℕ) 
     comes_on on = record {
       place = (step_place bytes ends at c.place more o t is).0;
       entries = c.entries ++ step_entries (length ends) at t;
-      reached = step_reached o bytes ends at c.entries t on is c.reached;
+      reached = step_reached o bytes ends at c.entries t on is (place_open bytes ends at c.place more).0 c.reached;
       fine = fine_more o bytes ends at c.entries t is_der c.fine;
       plain = λ p. step_plain o bytes ends at c.entries t on p is more (c.plain p);
       text = c.text ++ w.text;
@@ -242,12 +244,13 @@ module _ {W : Type 0} (g : Ghosts W) (form : LineForm) (o : ShowOptions) (bytes 
   }
 
   -- a beginning of what a step lists was written
-  pub stops_in_step : (t : Step) (new : W) → IsStep o (length ends) (ahead bytes ends at) t
+  pub stops_in_step : at < length bytes → (t : Step) (new : W) → IsStep o (length ends) (ahead bytes ends at) t
       → StopsAmong g form (step_entries (length ends) at t) mid e new → Stops g form o bytes old e new
-  stops_in_step t new is s = record {
+  stops_in_step more t new is s = record {
     failure = failure_since g old mid new e same s.failure;
     entries = c.entries ++ s.front;
-    so_far = so_far_by o bytes ends at c.entries t s.front is c.reached s.begins;
+    so_far = so_far_by o bytes ends at c.entries t s.front is (place_open bytes ends at c.place more).0 c.reached
+        s.begins;
     text = c.text ++ s.text;
     is_text = joined form c.entries s.front c.text s.text c.is_text s.is_text;
     written = beginning_after (g.written old) (g.written mid) (g.written new) c.text s.text c.written s.written;

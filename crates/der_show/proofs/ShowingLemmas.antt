@@ -265,7 +265,7 @@ module _ (o : ShowOptions) (bytes : List ℕ) (first : o.start ≡ 0) (stops : o
       let so = reached ends at es r in
       (opened bytes ends at h so.0 found o skipped opens, one_more es _ so.1)
   reached _ _ _ (IsReached.broken ends at es x h going r breaks has) = absurd (true≢false (sym going ∙ stops))
-  reached _ _ _ (IsReached.skipped ends at es x going r breaks) = absurd (true≢false (sym going ∙ stops))
+  reached _ _ _ (IsReached.skipped ends at es x going r low breaks) = absurd (true≢false (sym going ∙ stops))
 
   complete : length bytes < 2 ^ 64 → (es : List Entry) → IsListing o bytes es → list_all is_element es ≡ true
   complete small _ (IsListing.whole at es r past) = (reached [] at es r).1

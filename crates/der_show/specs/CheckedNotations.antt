@@ -51,9 +51,11 @@ abbrev mutual
   is_checked (Notation.wrapped w t) = is_checked_in w (has_elements t) (is_checked t)
   is_checked (Notation.content-under tag t) = is_content_tag tag
   is_checked (Notation.in-range least most t) = is_checked t
-  is_checked (Notation.from-minus least most t) = is_checked t
-  is_checked (Notation.other-than n t) = is_checked t
+  is_checked (Notation.at-least least t) = is_checked t
+  is_checked (Notation.at-most most t) = is_checked t
+  is_checked (Notation.outside least most t) = is_checked t
   is_checked (Notation.sized least most t) = is_checked t
+  is_checked (Notation.permitted ranges t) = is_checked t
   is_checked _ = true
 
   pub is_member_checked : Member → Bool
@@ -64,7 +66,8 @@ abbrev mutual
   pub are_members_checked : Members → Bool
   are_members_checked Members.end = true
   are_members_checked (Members.member m ms) = is_member_checked m && are_members_checked ms
-  are_members_checked (Members.others known) = false
+  are_members_checked (Members.others excluded) = false
+  are_members_checked (Members.others-from least) = false
 
   pub are_alternatives_checked : Alternatives → Bool
   are_alternatives_checked Alternatives.none = true

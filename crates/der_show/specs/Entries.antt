@@ -49,7 +49,7 @@ pub data IsReached (o : ShowOptions) (bytes : List ℕ) : List ℕ → ℕ → L
       (es ++ (complaint_at at r ∷ element_at (length ends) at h ∷ []))
   -- without a header the rest of the element around it isn't looked at
   skipped : (ends : List ℕ) (at : ℕ) (es : List Entry) (r : Rule) → o.keeps_going ≡ true → IsReached o bytes ends at es
-      → BreaksHeader (ahead bytes ends at) r
+      → at < innermost (length bytes) ends → BreaksHeader (ahead bytes ends at) r
       → IsReached o bytes ends (innermost (length bytes) ends) (es ++ (complaint_at at r ∷ []))
 
 -- a beginning of what is listed
@@ -57,7 +57,8 @@ pub data IsSoFar (o : ShowOptions) (bytes : List ℕ) : List Entry → Type 0 wh
   reached : (ends : List ℕ) (at : ℕ) (es : List Entry) → IsReached o bytes ends at es → IsSoFar o bytes es
   -- and the rule that the next breaks
   complained : (ends : List ℕ) (at : ℕ) (es : List Entry) (r : Rule) → IsReached o bytes ends at es
-      → Breaks (ahead bytes ends at) r → IsSoFar o bytes (es ++ (complaint_at at r ∷ []))
+      → at < innermost (length bytes) ends → Breaks (ahead bytes ends at) r
+      → IsSoFar o bytes (es ++ (complaint_at at r ∷ []))
 
 -- all that is listed
 pub data IsListing (o : ShowOptions) (bytes : List ℕ) : List Entry → Type 0 where

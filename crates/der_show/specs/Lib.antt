@@ -14,3 +14,6 @@ pub mod Lines
 pub mod Json
 pub mod Shown
 pub mod Reasons
+pub mod FurtherNames
+pub mod ObjectIdentifiers
+pub mod Rules

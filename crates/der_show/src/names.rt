@@ -1,7 +1,10 @@
 //! Further names of object identifiers.
+ghost use Rattle.std.specs.Prelude.{◌≡◌, map, option_map};
+ghost use Rattle.der_types.specs.Names.{name_in};
+ghost use Rattle.der_show.specs.FurtherNames.{further_name_of};
 
-// Attributes of names (X.520; RFC 2985; CA/Browser Forum).
-static ATTRIBUTES: [(&[u8], &str); 12] = [
+const NAMES: [(&[u8], &str); 107] = [
+    // Attributes of names (X.520; RFC 2985; CA/Browser Forum).
     // 2.5.4.13
     (&[0x55, 0x04, 0x0D], "description"),
     // 2.5.4.15
@@ -50,10 +53,7 @@ static ATTRIBUTES: [(&[u8], &str); 12] = [
         ],
         "jurisdictionCountryName",
     ),
-];
-
-// Extensions of certificates, lists and OCSP, and what they hold (RFC 5280, 6960, 6962, 7633; CA/Browser Forum).
-static EXTENSIONS: [(&[u8], &str); 24] = [
+    // Extensions of certificates, lists and OCSP, and what they hold (RFC 5280, 6960, 6962, 7633; CA/Browser Forum).
     // 2.5.29.9
     (&[0x55, 0x1D, 0x09], "subjectDirectoryAttributes"),
     // 2.5.29.16
@@ -141,10 +141,7 @@ static EXTENSIONS: [(&[u8], &str); 24] = [
         &[0x67, 0x81, 0x0C, 0x01, 0x02, 0x02],
         "organizationValidated",
     ),
-];
-
-// Contents and attributes of CMS, TSP and PKCS #12 (RFC 5652, 5035, 5083, 3161, 7292).
-static CONTENTS: [(&[u8], &str); 19] = [
+    // Contents and attributes of CMS, TSP and PKCS #12 (RFC 5652, 5035, 5083, 3161, 7292).
     // 1.2.840.113549.1.7.5
     (
         &[0x2A, 0x86, 0x48, 0x86, 0xF7, 0x0D, 0x01, 0x07, 0x05],
@@ -262,10 +259,7 @@ static CONTENTS: [(&[u8], &str); 19] = [
         ],
         "certBag",
     ),
-];
-
-// Encryption, keys from passwords, and codes of authentication (RFC 8018, 3565, 5084, 3370).
-static CIPHERS: [(&[u8], &str); 20] = [
+    // Encryption, keys from passwords, and codes of authentication (RFC 8018, 3565, 5084, 3370).
     // 2.16.840.1.101.3.4.1.2
     (
         &[0x60, 0x86, 0x48, 0x01, 0x65, 0x03, 0x04, 0x01, 0x02],
@@ -363,10 +357,7 @@ static CIPHERS: [(&[u8], &str); 20] = [
         &[0x2A, 0x86, 0x48, 0x86, 0xF7, 0x0D, 0x02, 0x0B],
         "hmacWithSHA512",
     ),
-];
-
-// Digests, signatures and keys (RFC 8017, 3279, 5480, 5639, 5758; NIST).
-static SIGNATURES: [(&[u8], &str); 32] = [
+    // Digests, signatures and keys (RFC 8017, 3279, 5480, 5639, 5758; NIST).
     // 1.2.840.113549.2.5
     (&[0x2A, 0x86, 0x48, 0x86, 0xF7, 0x0D, 0x02, 0x05], "md5"),
     // 1.2.840.113549.1.1.4
@@ -508,8 +499,11 @@ static SIGNATURES: [(&[u8], &str); 32] = [
     ),
 ];
 
-// The name in the table for this content, or `None`.
-fn name_in(table: &[(&[u8], &'static str)], content: &[u8]) -> Option<&'static str> {
+// The name beside this content in the table, or `None`.
+fn name_in<'a>(table: &[(&[u8], &'a str)], content: &[u8]) -> Option<&'a str>
+    ensures { option_map (λ name. name.now) result
+        ≡ name_in (map (λ entry. (entry.0.now, entry.1.now)) table.now) content.now }
+{
     for (known, name) in table {
         if *known == content {
             return Some(*name);
@@ -518,11 +512,9 @@ fn name_in(table: &[(&[u8], &'static str)], content: &[u8]) -> Option<&'static s
     None
 }
 
-// The name of the object identifier with this content, or `None` if it is in no table.
-pub(crate) fn further_name_of(content: &[u8]) -> Option<&'static str> {
-    name_in(&ATTRIBUTES, content)
-        .or_else(|| name_in(&EXTENSIONS, content))
-        .or_else(|| name_in(&CONTENTS, content))
-        .or_else(|| name_in(&CIPHERS, content))
-        .or_else(|| name_in(&SIGNATURES, content))
+// The name of the object identifier with this content, or `None` if it isn't in the table.
+pub(crate) fn further_name_of(content: &[u8]) -> Option<&'static str>
+    ensures { option_map (λ name. name.now) result ≡ further_name_of content.now }
+{
+    name_in(&NAMES, content)
 }

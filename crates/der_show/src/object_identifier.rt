@@ -1,4 +1,6 @@
 //! Object identifiers as text.
+ghost use Rattle.std.specs.Prelude.{◌≡◌, ◌++◌, option_map, OnOk};
+ghost use Rattle.der_show.specs.ObjectIdentifiers.{has_wide_arc, identifier_text, known_name_of};
 
 use crate::names::further_name_of;
 use der_program_base::{Line, push_bytes};
@@ -13,13 +15,31 @@ use std::alloc::AllocError;
 pub fn push_object_identifier(
     line: &mut Line,
     identifier: &ObjectIdentifier,
-) -> Result<(), AllocError> {
-    if identifier.arcs().any(|arc| arc.is_err()) {
+) -> Result<(), AllocError>
+    ensures { OnOk result (line.new ≡ line.old ++ identifier_text identifier.now) }
+{
+    if has_wide_arc(identifier) {
         return push_bytes(line, identifier.content());
     }
-    let content = identifier.content();
-    match name_of(content).or_else(|| further_name_of(content)) {
+    match known_name_of(identifier.content()) {
         Some(name) => write!(line, "{name} ({identifier})"),
         None => write!(line, "{identifier}"),
+    }
+}
+
+// Whether an arc has more than 64 bits.
+fn has_wide_arc(identifier: &ObjectIdentifier) -> bool
+    ensures { result ≡ has_wide_arc identifier.now }
+{
+    identifier.arcs().any(|arc| arc.is_err())
+}
+
+// The name of the object identifier with this content, or `None` if it isn't known.
+fn known_name_of(content: &[u8]) -> Option<&'static str>
+    ensures { option_map (λ name. name.now) result ≡ known_name_of content.now }
+{
+    match name_of(content) {
+        Some(name) => Some(name),
+        None => further_name_of(content),
     }
 }

@@ -1,4 +1,6 @@
 //! The rules that bytes can break.
+ghost use Rattle.std.specs.Prelude.{◌≡◌};
+ghost use Rattle.der_show.specs.Rules.{is_of_der_alone};
 
 use std::fmt;
 
@@ -67,7 +69,9 @@ pub enum Rule {
 
 impl Rule {
     /// Returns whether BER allows what breaks this rule (X.690, 10 and 11).
-    pub fn is_of_der_alone(self) -> bool {
+    pub fn is_of_der_alone(self) -> bool
+        ensures { result ≡ is_of_der_alone self }
+    {
         matches!(
             self,
             Rule::IndefiniteLength

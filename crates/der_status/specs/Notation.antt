@@ -3,7 +3,7 @@
 use Rattle.std.specs.Prelude.{[], ◌∷◌}
 use Rattle.der_types.specs.ContentForms.{BIT-STRING, BIT-STRING-named, GeneralizedTime, INTEGER, OBJECT-IDENTIFIER}
 use Rattle.der_types.specs.Notation.{Notation, BOOLEAN, ENUMERATED, NULL, OCTET-STRING, UTF8String, end, none, optional, required}
-use Rattle.der_types.specs.NotationForms.{CHOICE, CONTEXT, EXPLICIT, FALSE, IMPLICIT, INTEGER-from-to, MAX, Mode, SEQUENCE, SEQUENCE-OF, SIZE, default, default-of, ◌∣◌, ◌⨾◌}
+use Rattle.der_types.specs.NotationForms.{CHOICE, CONTEXT, EXPLICIT, FALSE, IMPLICIT, INTEGER-from-to, MAX, Mode, SEQUENCE, SEQUENCE-OF, SIZE, default, default-of, number, ◌∣◌, ◌⨾◌}
 use Rattle.der_cms.specs.Notation.{ContentInfo}
 use Rattle.der_pkix.specs.Notation.{CrlReason, GeneralName}
 use Rattle.der_x509.specs.Notation.{AlgorithmIdentifier, Certificate, CertificateSerialNumber, Extensions, Name}
@@ -112,7 +112,7 @@ Version = INTEGER
 abbrev pub ResponseData : Notation
 ResponseData = SEQUENCE (
     -- version [0] EXPLICIT Version DEFAULT v1
-    default-of 0 (CONTEXT 0 EXPLICIT Version) ⨾
+    default-of (number 0) (CONTEXT 0 EXPLICIT Version) ⨾
     -- responderID ResponderID
     required ResponderId ⨾
     -- producedAt ResponseTime
@@ -169,7 +169,7 @@ Request = SEQUENCE (
 abbrev pub TbsRequest : Notation
 TbsRequest = SEQUENCE (
     -- version [0] EXPLICIT Version DEFAULT v1
-    default-of 0 (CONTEXT 0 EXPLICIT Version) ⨾
+    default-of (number 0) (CONTEXT 0 EXPLICIT Version) ⨾
     -- requestorName [1] EXPLICIT GeneralName OPTIONAL
     optional (CONTEXT 1 EXPLICIT GeneralName) ⨾
     -- requestList SEQUENCE OF Request

@@ -229,7 +229,7 @@ impl Serialize for OcspResponseStatus {
 impl Deserialize for OcspResponseStatus {
     ghost shape = { contents_shape 0x0A };
 
-    ghost facts = { contents_facts 0x0A (λ it. ocsp_response_status_number it ∷ []) ⟦<Self as PartialEq>⟧.eq ⟦<Self as Contents>⟧.same };
+    ghost facts = { contents_facts 0x0A (λ it. ocsp_response_status_number it ∷ []) ⟦<Self as PartialEq>⟧.eq ⟦<Self as Contents>⟧.is_content ⟦<Self as Contents>⟧.same };
 
     ghost proved = { Prim.assumption };
 

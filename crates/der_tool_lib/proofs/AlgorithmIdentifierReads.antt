@@ -12,6 +12,7 @@ use Rattle.picky_der_core.specs.Encoding.{der}
 use Rattle.picky_der_core.specs.Readable.{AreReadable}
 use Rattle.picky_der_core.specs.Shape.{Shape, IsOf, EachIs}
 use Rattle.picky_der_de.specs.State.{State}
+use Rattle.picky_der_de.specs.RefusesBy.{Rule}
 use Rattle.picky_der_de.specs.Reading.{Reads, Refuses}
 use Rattle.picky_der_de.specs.Ends.{EnclosingEnd, Closes, RefusesClose, OpensList, RefusesList}
 use Rattle.picky_der_de.specs.Members.{ReadsMember, RefusesMember, HasNoMore, RefusesRest}
@@ -50,17 +51,18 @@ module _ {a b : State} {outer : EnclosingEnd} (opened : OpensList 0x30 a b outer
   refused r = rest_refused {kind = ListKind.sequence} refl (λ v of_shape. of_shape.1) opened r
 
   -- the first member is no object identifier
-  pub no_algorithm : {c : State} {e : Asn1DerError}
+  pub no_algorithm : {rule : Rule} {c : State} {e : Asn1DerError}
       → RefusesMember (λ (x : TaggedBytes 0x06). Tree.primitive (Primitive.bytes 0x06 x.0.items))
-      (Shape.primitive (PrimitiveShape.bytes 0x06)) b c e → RefusesAlgorithm a c e
+      (Shape.primitive (PrimitiveShape.bytes 0x06)) rule b c e → RefusesAlgorithm a c e
   no_algorithm r =
       refused (rest_head (λ v bytes readable. let content = content_bytes 0x06 v.algorithm.0.items bytes.0 in
       first v.algorithm _ _ (refl, content) (omega arith, content) (same_element v.algorithm.0.items)) r)
 
   module _ {s : Shape} {c : State} {t : Tree} (algorithm : ReadsMember s b c t) where
     -- the parameters are no element
-    pub no_parameters : {d : State} {e : Asn1DerError}
-        → RefusesMember (λ (p : Asn1RawDer). Tree.raw p.0.items) Shape.raw c d e → IsAhead c → RefusesAlgorithm a d e
+    pub no_parameters : {rule : Rule} {d : State} {e : Asn1DerError}
+        → RefusesMember (λ (p : Asn1RawDer). Tree.raw p.0.items) Shape.raw rule c d e → IsAhead c
+        → RefusesAlgorithm a d e
     no_parameters r ahead =
         refused (rest_next algorithm (rest_head (λ v bytes readable. unread v.parameters bytes.1 readable) r))
       where

@@ -8,6 +8,7 @@ mod pkix;
 mod signed;
 mod status;
 pub(crate) mod trials;
+mod versions;
 mod x509;
 
 use der_fixtures::bytes_of;
@@ -44,6 +45,7 @@ fn of_type(alloc: Global, task: Task, name: &str, bytes: &[u8]) -> Result<String
         Some(("der_pkcs12", name)) => pkcs12::result_of(alloc, task, name, bytes),
         Some(("der_pkix", name)) => pkix::result_of(alloc, task, name, bytes),
         Some(("der_status", name)) => status::result_of(alloc, task, name, bytes),
+        Some(("der_versions", name)) => versions::result_of(alloc, task, name, bytes),
         Some(("der_x509", name)) => x509::result_of(alloc, task, name, bytes),
         _ => String::from_str(alloc, "no crate"),
     }

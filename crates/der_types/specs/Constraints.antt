@@ -1,5 +1,5 @@
 -- Constraints (X.680, 49), and how values that they don't allow are refused.
-use Rattle.std.specs.Prelude.{◌≡◌, ℕ, ◌+◌, ℤ, pos, negsuc, Bool, false, ◌&&◌, ◌⊎◌, nat_le, List, []}
+use Rattle.std.specs.Prelude.{◌≡◌, ℕ, ◌+◌, ℤ, Bool, false, ◌&&◌, ◌⊎◌, nat_le, int_le, List, []}
 use Rattle.picky_der_core.specs.Primitive.{Primitive}
 use Rattle.picky_der_core.specs.declared.error.Asn1DerError.{Asn1DerError}
 use Rattle.picky_der_core.specs.declared.error.Asn1DerError.TheVariants.{InvalidData}
@@ -16,9 +16,8 @@ abbrev pub is_size : ℕ → ℕ → ℕ → Bool
 is_size least most n = nat_le least n && nat_le n most
 
 -- a number from the least to the most (X.680, 51.4)
-abbrev pub is_between : ℕ → ℕ → ℤ → Bool
-is_between least most (pos n) = is_size least most n
-is_between least most (negsuc n) = false
+abbrev pub is_between : ℤ → ℤ → ℤ → Bool
+is_between least most z = int_le least z && int_le z most
 
 -- ---- refusals
 

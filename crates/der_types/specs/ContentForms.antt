@@ -54,6 +54,15 @@ ISO646String = VisibleString
 abbrev pub GeneralString : Notation
 GeneralString = Notation.restricted-string 0x1B
 
+abbrev pub VideotexString : Notation
+VideotexString = Notation.restricted-string 0x15
+
+abbrev pub GraphicString : Notation
+GraphicString = Notation.restricted-string 0x19
+
+abbrev pub ObjectDescriptor : Notation
+ObjectDescriptor = Notation.restricted-string 0x07
+
 abbrev pub UniversalString : Notation
 UniversalString = Notation.restricted-string 0x1C
 

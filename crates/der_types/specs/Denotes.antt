@@ -1,12 +1,16 @@
 -- Which trees the types of ASN.1 denote, with their contents and ranges. The clauses are clauses of X.680 unless
 -- another one is named.
-use Rattle.std.specs.Prelude.{◌≡◌, ◌≢◌, ℕ, ◌-◌, ◌^◌, ◌≤◌, ◌<◌, ℤ, pos, negsuc, Bool, true, false, ◌&&◌, ◌⊎◌, ◌==◌}
-use Rattle.std.specs.Prelude.{nat_lt, nat_le, not, List, length, chars, IsTrue, ⊤, if◌then◌else◌}
+use Rattle.std.specs.Prelude.{◌≡◌, ◌≢◌, ℕ, ◌+◌, ◌-◌, ◌^◌, ◌≤◌, ◌<◌, ℤ, pos, negsuc, Bool, true, false, ◌&&◌, ◌⊎◌, ◌==◌}
+use Rattle.std.specs.Prelude.{nat_lt, nat_le, int_le, not, List, [], ◌∷◌, length, chars, IsTrue, ⊤, if◌then◌else◌}
+use Rattle.picky_der_core.specs.declared.asn1.tag.TagClass.TheVariants.{ContextSpecific}
+use Rattle.picky_der_core.specs.Tag.{class_of, number_of}
 use Rattle.picky_der_core.specs.Integer.{integer_content, integer_value, integer_tree, fits_signed}
 use Rattle.picky_der_core.specs.Primitive.{Primitive, primitive_content}
 use Rattle.picky_der_core.specs.Readable.{IsReadable}
 use Rattle.picky_der_core.specs.Shape.{AreOthers, EachIs, FirstAndRest, FirstOrNone, IsEmpty, contains}
 use Rattle.picky_der_core.specs.Tree.{ListKind, Tree, Trees}
+use Rattle.std.specs.List.{list_all}
+use Rattle.der_types.specs.Alphabets.{is_of}
 use Rattle.der_types.specs.CharacterStrings.{characters, is_string_content}
 use Rattle.der_types.specs.Constraints.{is_size, is_between, tree_bytes, list_size, member_count}
 use Rattle.der_types.specs.ContentTypes.{ContentType, tag_of, test_of, size_of, string_width, string_character}
@@ -22,18 +26,27 @@ tree_number (Tree.primitive (Primitive.bytes tag s)) = integer_value s
 tree_number (Tree.wrapped w t) = tree_number t
 tree_number _ = pos 0
 
--- from minus the least to the most
-abbrev pub is_from_minus : ℕ → ℕ → ℤ → Bool
-is_from_minus least most (pos n) = nat_le n most
-is_from_minus least most (negsuc n) = nat_lt n least
+-- the size of a content, or of so many members
+abbrev size_by : Notation → List ℕ → ℕ → ℕ
+size_by (Notation.checked-content c) s members = size_of c s
+size_by Notation.UTF8String s members = length (chars s)
+size_by (Notation.restricted-string tag) s members = length (characters (string_width tag) s)
+size_by (Notation.list-of kind t) s members = members
+size_by (Notation.content-under tag t) s members = size_by t s members
+size_by (Notation.permitted ranges t) s members = size_by t s members
+size_by _ s members = length s
 
 -- how many bits, bytes, characters or members a tree of the type has (51.5.3)
 abbrev pub tree_size : Notation → Tree → ℕ
-tree_size (Notation.checked-content c) t = size_of c (tree_bytes t)
-tree_size Notation.UTF8String t = length (chars (tree_bytes t))
-tree_size (Notation.restricted-string tag) t = length (characters (string_width tag) (tree_bytes t))
-tree_size (Notation.list-of kind u) t = list_size t
-tree_size _ t = length (tree_bytes t)
+tree_size n t = size_by n (tree_bytes t) (list_size t)
+
+-- the characters of a string, by their numbers
+abbrev pub tree_characters : Notation → Tree → List ℕ
+tree_characters Notation.UTF8String t = chars (tree_bytes t)
+tree_characters (Notation.restricted-string tag) t = characters (string_width tag) (tree_bytes t)
+tree_characters (Notation.content-under tag n) t = tree_characters n t
+tree_characters (Notation.sized least most n) t = tree_characters n t
+tree_characters _ t = []
 
 -- ---- trees
 
@@ -47,6 +60,18 @@ content_tree tag s = Tree.primitive (Primitive.bytes tag s)
 -- a content under this tag that passes the test
 abbrev pub HasContent : ℕ → (List ℕ → Bool) → Tree → Type 0
 HasContent tag test = IsMade (content_tree tag) (λ s. test s ≡ true)
+
+-- the bytes begin with the context tag of this number, on an encoding of either form (X.690, 8.1.2)
+abbrev pub HasContextTag : ℕ → List ℕ → Type 0
+HasContextTag number [] = ⊥
+HasContextTag number (b ∷ bs) = (class_of b ≡ ContextSpecific) × (number_of b ≡ number)
+
+-- elements with context tags whose numbers ascend from this one on, as automatic tags do (25.7)
+abbrev pub AreNumberedFrom : ℕ → Trees → Type 0
+AreNumberedFrom least Trees.none = ⊤
+AreNumberedFrom least (Trees.more (Tree.raw s) ts) =
+    (number : ℕ) × (least ≤ number) × HasContextTag number s × AreNumberedFrom (number + 1) ts
+AreNumberedFrom least (Trees.more _ ts) = ⊥
 
 -- A readable tree that is denoted is a value's.
 abbrev mutual
@@ -75,9 +100,11 @@ abbrev mutual
       IsMade (content_tree (primitive_form tag)) (λ s. (own : ℕ) × IsReadable (content_tree own s)
       × Denotes t (content_tree own s))
   Denotes (Notation.in-range least most t) = λ x. Denotes t x × (is_between least most (tree_number x) ≡ true)
-  Denotes (Notation.from-minus least most t) = λ x. Denotes t x × (is_from_minus least most (tree_number x) ≡ true)
-  Denotes (Notation.other-than n t) = λ x. Denotes t x × (is_between n n (tree_number x) ≡ false)
+  Denotes (Notation.at-least least t) = λ x. Denotes t x × (int_le least (tree_number x) ≡ true)
+  Denotes (Notation.at-most most t) = λ x. Denotes t x × (int_le (tree_number x) most ≡ true)
+  Denotes (Notation.outside least most t) = λ x. Denotes t x × (is_between least most (tree_number x) ≡ false)
   Denotes (Notation.sized least most t) = λ x. Denotes t x × (is_size least most (tree_size t x) ≡ true)
+  Denotes (Notation.permitted ranges t) = λ x. Denotes t x × (list_all (is_of ranges) (tree_characters t x) ≡ true)
 
   -- a member before others, for which P holds. One that is its default isn't there (X.690, 11.5).
   pub DenoteFirst : Member → (Trees → Type 0) → Trees → Type 0
@@ -88,7 +115,8 @@ abbrev mutual
   pub DenoteMembers : Members → Trees → Type 0
   DenoteMembers Members.end = IsEmpty
   DenoteMembers (Members.member m ms) = DenoteFirst m (DenoteMembers ms)
-  DenoteMembers (Members.others known) = AreOthers known
+  DenoteMembers (Members.others excluded) = AreOthers excluded
+  DenoteMembers (Members.others-from least) = AreNumberedFrom least
 
   pub DenoteOneOf : Alternatives → Tree → Type 0
   DenoteOneOf Alternatives.none = λ t. ⊥

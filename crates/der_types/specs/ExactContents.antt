@@ -95,34 +95,6 @@ unsigned_values bits small =
 abbrev pub signed_values : ℕ → Values ℤ
 signed_values bits = plain_values (Notation.signed bits) (int_tree (fits_signed bits)) (signed_exact bits)
 
--- a set of characters has the width and the characters of its tag's
-pub record IsStandard (tag : ℕ) (width : Width) (is_character : ℕ → Bool) : Type 0 where
-  pub same_width : width ≡ string_width tag
-  pub same_characters : is_character ≡ string_character tag
-
-module _ {V : Type 0} (tag : ℕ) (width : Width) (is_character : ℕ → Bool) (content : V → List ℕ) (valid : (v : V)
-    → is_string_content width is_character (content v) ≡ true) (whole : (s : List ℕ)
-    → is_string_content width is_character s ≡ true → length s < 2 ^ 63 → (v : V) × (content v ≡ s)) where
-  pub string_exact : IsStandard tag width is_character
-      → IsExact (Denotes (Notation.restricted-string tag)) (λ v. content_tree tag (content v))
-  string_exact s =
-      let own : IsExact (HasContent tag (is_string_content width is_character)) (λ v. content_tree tag (content v)) =
-      content_exact tag (is_string_content width is_character) content valid whole in
-      let wide : IsExact (HasContent tag (is_string_content (string_width tag) is_character))
-      (λ v. content_tree tag (content v)) =
-      subst (λ w. IsExact (HasContent tag (is_string_content w is_character)) (λ v. content_tree tag (content v)))
-      s.same_width own in
-      subst (λ (c : ℕ → Bool). IsExact (HasContent tag (is_string_content (string_width tag) c))
-      (λ v. content_tree tag (content v))) s.same_characters wide
-
-  abbrev pub string_values : Values V
-  string_values = record {
-    notation = Notation.restricted-string tag;
-    meaning = λ v. content_tree tag (content v);
-    Premise = IsStandard tag width is_character;
-    follows = string_exact;
-  }
-
 -- What a type says of its contents: they are under its own tag, whose number is at most 30 by a premise.
 pub record OwnContents (A : Type 0) : Type 1 where
   pub tag : ℕ

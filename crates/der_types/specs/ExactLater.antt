@@ -1,15 +1,17 @@
 -- Members of later versions: their values are exactly the elements that the members before them exclude no first one
--- of.
-use Rattle.std.specs.Prelude.{◌≡◌, ℕ, ◌^◌, ◌<◌, true, List, [], ◌∷◌, length, ⊤, refl}
+-- of, or those that automatic tags number.
+use Rattle.std.specs.Prelude.{◌≡◌, ℕ, ◌+◌, ◌^◌, ◌<◌, Bool, true, List, [], ◌∷◌, length, ⊤, refl}
 use Rattle.std.proofs.Common.{sym, ap, ◌∙◌, subst, arith}
 use Rattle.picky_der_core.specs.Readable.{AreReadable}
 use Rattle.picky_der_core.specs.Shape.{AreOthers, EachIs, IsRaw, begins_outside}
 use Rattle.picky_der_core.specs.Tree.{Tree, Trees}
 use Rattle.picky_der_de.specs.OtherLaws.{are_outside, others_of, others_have_layout}
+use Rattle.picky_asn1_der.specs.LaterTags.{are_numbered_from}
 use Rattle.der_types.specs.Constraints.{member_count}
 use Rattle.der_types.specs.Notation.{Members}
-use Rattle.der_types.specs.Denotes.{AreShort, EachIsShort}
+use Rattle.der_types.specs.Denotes.{AreNumberedFrom, AreShort, EachIsShort}
 use Rattle.der_types.specs.ExactMembers.{AreExact, MembersValues}
+use Rattle.der_types.specs.NumberedLaws.{numbered_raw, numbered_sound, numbered_complete}
 
 module _ {E : Type 0} (bytes : E → List ℕ) (element : (s : List ℕ) → length s < 2 ^ 63 → (e : E) × (bytes e ≡ s)) where
   -- elements of these trees
@@ -30,21 +32,26 @@ module _ {E : Type 0} (bytes : E → List ℕ) (element : (s : List ℕ) → len
   each_made (Trees.more (Tree.raw bs) ts) p s = made_first bs ts s.0 (each_made ts p.1 s.1)
   each_made (Trees.more _ ts) p s = absurd p.0
 
+  -- where values are the elements that pass a test
+  module _ {V : Type 0} (test : List E → Bool) (elements : V → List E) (whole : (es : List E) → test es ≡ true
+      → length es < 2 ^ 63 → (v : V) × (elements v ≡ es)) where
+    of_made : (ts : Trees) (m : Made ts) → test m.0 ≡ true → member_count ts < 2 ^ 63
+        → (v : V) × (others_of bytes (elements v) ≡ ts)
+    of_made ts m passes few =
+        let v = whole m.0 passes (subst (λ n. n < 2 ^ 63) (sym m.1) few) in
+        (v.0, ap (others_of bytes) v.1 ∙ m.2)
+
   module _ {V : Type 0} (excluded : List ℕ) (elements : V → List E) (outside : (v : V)
       → are_outside excluded bytes (elements v) ≡ true) (whole : (es : List E) → are_outside excluded bytes es ≡ true
       → length es < 2 ^ 63 → (v : V) × (elements v ≡ es)) where
-    of_made : (ts : Trees) (m : Made ts) → are_outside excluded bytes m.0 ≡ true → member_count ts < 2 ^ 63
-        → (v : V) × (others_of bytes (elements v) ≡ ts)
-    of_made ts m out few =
-        let v = whole m.0 out (subst (λ n. n < 2 ^ 63) (sym m.1) few) in
-        (v.0, ap (others_of bytes) v.1 ∙ m.2)
-
     others_complete : (ts : Trees) → AreOthers excluded ts → AreReadable ts → AreShort ts
         → (v : V) × (others_of bytes (elements v) ≡ ts)
-    others_complete Trees.none p r s = of_made Trees.none ([], refl, refl) refl s.0
+    others_complete Trees.none p r s =
+        of_made (λ es. are_outside excluded bytes es) elements whole Trees.none ([], refl, refl) refl s.0
     others_complete (Trees.more (Tree.raw bs) ts) p r s =
         let m = made_first bs ts s.1.0 (each_made ts p.1 s.1.1) in
-        of_made (Trees.more (Tree.raw bs) ts) m (ap (begins_outside excluded) (element bs s.1.0).1 ∙ p.0.1) s.0
+        of_made (λ es. are_outside excluded bytes es) elements whole (Trees.more (Tree.raw bs) ts) m
+        (ap (begins_outside excluded) (element bs s.1.0).1 ∙ p.0.1) s.0
     others_complete (Trees.more _ ts) p r s = absurd p.0
 
     pub others_exact : AreExact (Members.others excluded) (λ v. others_of bytes (elements v))
@@ -61,4 +68,31 @@ module _ {E : Type 0} (bytes : E → List ℕ) (element : (s : List ℕ) → len
       Premise =
           ⊤;
       follows = λ o. others_exact;
+    }
+
+  module _ {V : Type 0} (least : ℕ) (elements : V → List E) (numbered : (v : V)
+      → are_numbered_from least bytes (elements v) ≡ true) (whole : (es : List E)
+      → are_numbered_from least bytes es ≡ true
+      → length es < 2 ^ 63 → (v : V) × (elements v ≡ es)) where
+    from_complete : (ts : Trees) → AreNumberedFrom least ts → AreReadable ts → AreShort ts
+        → (v : V) × (others_of bytes (elements v) ≡ ts)
+    from_complete ts p r s =
+        let m = each_made ts (numbered_raw least ts p r) s.1 in
+        of_made (λ es. are_numbered_from least bytes es) elements whole ts m
+        (numbered_complete bytes least m.0 (subst (AreNumberedFrom least) (sym m.2) p)) s.0
+
+    pub numbered_exact : AreExact (Members.others-from least) (λ v. others_of bytes (elements v))
+    numbered_exact = record {
+      sound = λ v r. numbered_sound bytes least (elements v) (numbered v);
+      complete =
+          from_complete;
+    }
+
+    abbrev pub numbered_values : MembersValues V
+    numbered_values = record {
+      notation = Members.others-from least;
+      members = λ v. others_of bytes (elements v);
+      Premise =
+          ⊤;
+      follows = λ o. numbered_exact;
     }

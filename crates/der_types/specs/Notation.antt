@@ -1,10 +1,11 @@
 -- Types of ASN.1 (X.680), as the types of these crates have them, and the shapes that they denote. `ContentForms` and
 -- `NotationForms` have the forms of modules.
-use Rattle.std.specs.Prelude.{ℕ, ◌-◌, ◌^◌, List}
+use Rattle.std.specs.Prelude.{ℕ, ◌-◌, ◌^◌, ℤ, List}
 use Rattle.picky_der_core.specs.declared.asn1.wrapper.Wrapper.{Wrapper}
 use Rattle.picky_der_core.specs.Primitive.{PrimitiveShape}
 use Rattle.picky_der_core.specs.Tree.{ListKind, Tree}
 use Rattle.picky_der_core.specs.Shape.{Shape, Shapes, Layout}
+use Rattle.picky_asn1_der.specs.LaterTags.{numbered_below}
 use Rattle.der_types.specs.ContentTypes.{ContentType, tag_of}
 use Rattle.der_types.specs.PrimitiveForm.{primitive_form}
 
@@ -43,12 +44,14 @@ mutual
     wrapped : Wrapper → Notation → Notation
     -- 31: a content under this tag in place of its own
     content-under : ℕ → Notation → Notation
-    -- 51.4, 51.5: a number of a range, one of a range from minus this number on, one other than this, and a size of a
-    -- range
-    in-range : ℕ → ℕ → Notation → Notation
-    from-minus : ℕ → ℕ → Notation → Notation
-    other-than : ℕ → Notation → Notation
+    -- 51.4: a number of a range, one from the least on, one up to the most, and one that isn't of a range
+    in-range : ℤ → ℤ → Notation → Notation
+    at-least : ℤ → Notation → Notation
+    at-most : ℤ → Notation → Notation
+    outside : ℤ → ℤ → Notation → Notation
+    -- 51.5, 51.7: a size of a range, and characters of some ranges
     sized : ℕ → ℕ → Notation → Notation
+    permitted : List (ℕ × ℕ) → Notation → Notation
 
   -- 25.1: a member that is always there, one that may be absent, and one that is absent where it means this tree
   pub data Member : Type 0 where
@@ -61,6 +64,8 @@ mutual
     member : Member → Members → Members
     -- the members of later versions, of which the first begins with none of these bytes
     others : List ℕ → Members
+    -- the same, of which each has an automatic tag whose number isn't below this one
+    others-from : ℕ → Members
 
   pub data Alternatives : Type 0 where
     none : Alternatives
@@ -88,9 +93,11 @@ abbrev mutual
   shape_of (Notation.wrapped w t) = Shape.wrapped w (shape_of t)
   shape_of (Notation.content-under tag t) = Shape.primitive (PrimitiveShape.bytes (primitive_form tag))
   shape_of (Notation.in-range least most t) = shape_of t
-  shape_of (Notation.from-minus least most t) = shape_of t
-  shape_of (Notation.other-than n t) = shape_of t
+  shape_of (Notation.at-least least t) = shape_of t
+  shape_of (Notation.at-most most t) = shape_of t
+  shape_of (Notation.outside least most t) = shape_of t
   shape_of (Notation.sized least most t) = shape_of t
+  shape_of (Notation.permitted ranges t) = shape_of t
 
   -- a member before others
   pub member_then : Member → Layout → Layout
@@ -102,6 +109,7 @@ abbrev mutual
   layout_of Members.end = Layout.empty
   layout_of (Members.member m ms) = member_then m (layout_of ms)
   layout_of (Members.others excluded) = Layout.others excluded
+  layout_of (Members.others-from least) = Layout.others (numbered_below least)
 
   pub shapes_of : Alternatives → Shapes
   shapes_of Alternatives.none = Shapes.none

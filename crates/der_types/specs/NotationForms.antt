@@ -1,15 +1,16 @@
 -- The forms of a module as terms: what a module has on the left of these equations, and the type of ASN.1 that it is.
 -- The clauses are those of X.680, but where another one is named.
 use Rattle.std.specs.Prelude.{ℕ, ◌+◌, ◌-◌, ◌*◌, ◌/◌, ◌%◌, ◌^◌, Bool, true, false, ◌&&◌, List, [], ◌∷◌, ◌++◌, ◌==◌}
-use Rattle.std.specs.Prelude.{nat_lt, pos, negsuc, if◌then◌else◌}
+use Rattle.std.specs.Prelude.{nat_lt, ℤ, pos, negsuc, ◌+ℤ◌, ◌-ℤ◌, int_le, if◌then◌else◌}
 use Rattle.picky_der_core.specs.declared.asn1.tag.TagClass.{TagClass}
 use Rattle.picky_der_core.specs.declared.asn1.tag.TagClass.TheVariants.{Universal, Application, ContextSpecific}
 use Rattle.picky_der_core.specs.declared.asn1.tag.TagClass.TheVariants.{Private}
 use Rattle.picky_der_core.specs.declared.asn1.wrapper.Wrapper.TheVariants as wrapper
-use Rattle.picky_der_core.specs.Integer.{fits_signed, int_tree, unsigned_tree}
+use Rattle.picky_der_core.specs.Integer.{bits_of, fits_signed, int_tree, unsigned_tree}
 use Rattle.picky_der_core.specs.Primitive.{Primitive}
 use Rattle.picky_der_core.specs.Tree.{ListKind, Tree}
 use Rattle.picky_der_core.specs.Shape.{firsts}
+use Rattle.picky_asn1_der.specs.LaterTags.{in_both_forms}
 use Rattle.der_types.specs.ContentForms.{INTEGER}
 use Rattle.der_types.specs.Notation.{Notation, Member, Members, Alternatives, shape_of}
 use Rattle.der_types.specs.TagOrder.{tag_place}
@@ -26,7 +27,23 @@ no_type = Notation.choice Alternatives.none
 abbrev pub ANY : Notation
 ANY = Notation.any-element
 
+-- a type that contains itself, where a value would be in itself too often: it begins with this byte, and has no values
+abbrev pub beyond-depth : ℕ → Notation
+beyond-depth tag = Notation.sized 1 0 (Notation.any-content tag)
+
 -- ---- numbers and sizes of a range
+
+-- a default or a bound, as it is written: a BOOLEAN, a number or that of an item, and a number below zero
+pub data Value : Type 0 where
+  TRUE : Value
+  FALSE : Value
+  number : ℕ → Value
+  minus : ℕ → Value
+
+abbrev whole : Value → ℤ
+whole (Value.number n) = pos n
+whole (Value.minus n) = negsuc (n - 1)
+whole _ = pos 0
 
 -- how many bits hold the number, of 8, 16, 32, 64 and 128
 abbrev bits_for : ℕ → ℕ
@@ -40,20 +57,73 @@ bits_for n =
 abbrev pub INTEGER-from-to : ℕ → ℕ → Notation
 INTEGER-from-to least most =
     let bits : ℕ = bits_for most in
-    if least == 0 && (most == 2 ^ bits - 1) then Notation.unsigned bits else Notation.in-range least most
+    if least == 0 && (most == 2 ^ bits - 1) then Notation.unsigned bits else Notation.in-range (pos least) (pos most)
     (Notation.unsigned bits)
 
--- from minus this number: without a range if it is all numbers of so many bits. Else no type of the library has just
--- these numbers.
+-- from a number below zero: in as many bits as hold both with their signs
+abbrev signed-from-to : ℤ → ℤ → Notation
+signed-from-to least most =
+    let bits : ℕ = bits_for (2 * (if nat_lt (bits_of least) (bits_of most) then bits_of most else bits_of least) + 1) in
+    if int_le least (negsuc (2 ^ (bits - 1) - 1)) && int_le (pos (2 ^ (bits - 1) - 1)) most then Notation.signed bits
+    else Notation.at-most most (Notation.at-least least (Notation.signed bits))
+
 abbrev pub INTEGER-from-minus-to : ℕ → ℕ → Notation
-INTEGER-from-minus-to least most =
-    let bits : ℕ = bits_for (least + most) in
-    if least == 2 ^ (bits - 1) && (most + 1 == least) then Notation.signed bits else Notation.from-minus least most
-    INTEGER
+INTEGER-from-minus-to least most = signed-from-to (negsuc (least - 1)) (pos most)
+
+-- numbers from one to another, from one on, and up to one
+pub data Interval : Type 0 where
+  from-to : Value → Value → Interval
+  from-on : Value → Interval
+  up-to : Value → Interval
+
+-- in the fewest bits, and in any number of bits without a bound
+abbrev in_interval : Interval → Notation
+in_interval (Interval.from-to (Value.number least) (Value.number most)) = INTEGER-from-to least most
+in_interval (Interval.from-to least most) = signed-from-to (whole least) (whole most)
+in_interval (Interval.from-on least) = Notation.at-least (whole least) INTEGER
+in_interval (Interval.up-to most) = Notation.at-most (whole most) INTEGER
+
+-- the least interval that has the numbers of both, of which the second has greater numbers
+abbrev around : Interval → Interval → Interval
+around (Interval.from-to least a) (Interval.from-to b most) = Interval.from-to least most
+around (Interval.from-to least a) _ = Interval.from-on least
+around _ (Interval.from-to b most) = Interval.up-to most
+around i j = i
+
+-- its least and its greatest number, or the one that it has
+abbrev low_end : Interval → ℤ
+low_end (Interval.from-to least most) = whole least
+low_end (Interval.from-on least) = whole least
+low_end (Interval.up-to most) = whole most
+
+abbrev high_end : Interval → ℤ
+high_end (Interval.from-to least most) = whole most
+high_end (Interval.from-on least) = whole least
+high_end (Interval.up-to most) = whole most
+
+-- of an interval and later ones, as if they were one
+abbrev hull : Interval → List Interval → Notation
+hull (Interval.up-to a) (Interval.from-on b ∷ []) = INTEGER
+hull i [] = in_interval i
+hull i (j ∷ js) = hull (around i j) js
+
+-- without the numbers between an interval and the next
+abbrev without-gaps : Interval → List Interval → Notation → Notation
+without-gaps i [] t = t
+without-gaps i (j ∷ js) t = without-gaps j js (Notation.outside (high_end i +ℤ pos 1) (low_end j -ℤ pos 1) t)
+
+-- 51.4: several intervals, in ascending order
+abbrev pub INTEGER-in : List Interval → Notation
+INTEGER-in [] = no_type
+INTEGER-in (i ∷ is) = without-gaps i is (hull i is)
 
 -- 51.5
 abbrev pub SIZE : ℕ → ℕ → Notation → Notation
 SIZE = Notation.sized
+
+-- 51.7: with characters whose numbers are of these ranges
+abbrev pub FROM : List (ℕ × ℕ) → Notation → Notation
+FROM = Notation.permitted
 
 -- as many as memory could hold
 abbrev pub MAX : ℕ
@@ -70,25 +140,21 @@ abbrev pub ◌⨾◌ : Member → Members → Members
 abbrev pub later-members : Members
 later-members = Members.others []
 
+-- the same, where the tags are automatic (25.7). `SEQUENCE` says from which number on.
+abbrev pub later-members-automatic : Members
+later-members-automatic = Members.others-from 0
+
 -- the same, where none of them may be there
 abbrev pub later-members-refused : Members
 later-members-refused = Members.end
 
--- a default, as its type has it: of a BOOLEAN, a number or that of an item, and a number below zero
-pub data Value : Type 0 where
-  TRUE : Value
-  FALSE : Value
-  number : ℕ → Value
-  minus : ℕ → Value
-
--- what it means
+-- what a default means, as its type has it
 abbrev value_of : Notation → Value → Tree
 value_of (Notation.wrapped w t) v = Tree.wrapped w (value_of t v)
 value_of Notation.BOOLEAN Value.TRUE = Tree.primitive (Primitive.boolean true)
 value_of Notation.BOOLEAN Value.FALSE = Tree.primitive (Primitive.boolean false)
 value_of (Notation.unsigned bits) (Value.number n) = unsigned_tree (2 ^ bits - 1) n
-value_of (Notation.signed bits) (Value.number n) = int_tree (fits_signed bits) (pos n)
-value_of (Notation.signed bits) (Value.minus n) = int_tree (fits_signed bits) (negsuc (n - 1))
+value_of (Notation.signed bits) v = int_tree (fits_signed bits) (whole v)
 value_of (Notation.ENUMERATED numbers) (Value.number n) = Tree.primitive (Primitive.bytes 0x0A (n ∷ []))
 value_of (Notation.INTEGER-named numbers) (Value.number n) = Tree.primitive (Primitive.bytes 0x02 (n ∷ []))
 value_of _ _ = Tree.absent
@@ -97,13 +163,13 @@ value_of _ _ = Tree.absent
 abbrev pub default : Value → Notation → Member
 default v t = Member.defaulted (value_of t v) t
 
-abbrev other-than : ℕ → Notation → Notation
+abbrev other-than : ℤ → Notation → Notation
 other-than n (Notation.wrapped w t) = Notation.wrapped w (other-than n t)
-other-than n t = Notation.other-than n t
+other-than n t = Notation.outside n n t
 
 -- one whose default is this number, and whose type hasn't that: it isn't there, and another number is (X.690, 11.5)
-abbrev pub default-of : ℕ → Notation → Member
-default-of n t = Member.optional (other-than n t)
+abbrev pub default-of : Value → Notation → Member
+default-of n t = Member.optional (other-than (whole n) t)
 
 -- one with a default that the type doesn't have: it is read where it is written out
 abbrev pub default-as-optional : Notation → Member
@@ -113,22 +179,25 @@ default-as-optional = Member.optional
 abbrev pub added : Notation → Member
 added = Member.optional
 
--- The first member of a later version begins otherwise than each member directly before it that may be absent. These
--- are the bytes of those that came so far.
-abbrev excluding : List ℕ → Members → Members
-excluding before Members.end = Members.end
-excluding before (Members.member (Member.required t) ms) = Members.member (Member.required t) (excluding [] ms)
-excluding before (Members.member (Member.optional t) ms) =
-    Members.member (Member.optional t) (excluding (before ++ firsts (shape_of t)) ms)
-excluding before (Members.member (Member.defaulted value t) ms) =
-    Members.member (Member.defaulted value t) (excluding (before ++ firsts (shape_of t)) ms)
-excluding before (Members.others excluded) = Members.others before
+-- The first member of a later version has another tag than each member directly before it that may be absent (25.6),
+-- whether it is primitive or constructed. These are the bytes of those that came so far. An automatic tag has a number
+-- from that of the members on: so many came.
+abbrev excluding : ℕ → List ℕ → Members → Members
+excluding count before Members.end = Members.end
+excluding count before (Members.member (Member.required t) ms) =
+    Members.member (Member.required t) (excluding (count + 1) [] ms)
+excluding count before (Members.member (Member.optional t) ms) =
+    Members.member (Member.optional t) (excluding (count + 1) (before ++ firsts (shape_of t)) ms)
+excluding count before (Members.member (Member.defaulted value t) ms) =
+    Members.member (Member.defaulted value t) (excluding (count + 1) (before ++ firsts (shape_of t)) ms)
+excluding count before (Members.others excluded) = Members.others (in_both_forms before)
+excluding count before (Members.others-from least) = Members.others-from count
 
 -- 25: one without members is a list of none, and one with those of later versions alone a list of any elements
 abbrev pub SEQUENCE : Members → Notation
 SEQUENCE Members.end = Notation.sized 0 0 (Notation.list-of ListKind.sequence Notation.NULL)
 SEQUENCE (Members.others excluded) = Notation.list-of ListKind.sequence Notation.any-element
-SEQUENCE ms = Notation.sequence (excluding [] ms)
+SEQUENCE ms = Notation.sequence (excluding 0 [] ms)
 
 abbrev least_place : List ℕ → ℕ
 least_place [] = 128
@@ -143,11 +212,13 @@ place_of (Member.defaulted value t) = least_place (firsts (shape_of t))
 abbrev insert : Member → Members → Members
 insert m Members.end = m ⨾ Members.end
 insert m (Members.others excluded) = m ⨾ Members.others excluded
+insert m (Members.others-from least) = m ⨾ Members.others-from least
 insert m (Members.member n ns) = if nat_lt (place_of m) (place_of n) then m ⨾ n ⨾ ns else n ⨾ insert m ns
 
 abbrev in_tag_order : Members → Members
 in_tag_order Members.end = Members.end
 in_tag_order (Members.others excluded) = Members.others excluded
+in_tag_order (Members.others-from least) = Members.others-from least
 in_tag_order (Members.member m ms) = insert m (in_tag_order ms)
 
 -- 27, and X.690, 10.3: the members come in the order of their tags
@@ -209,10 +280,31 @@ explicit class n t =
 abbrev over_list : TagClass → ℕ → Notation → Notation
 over_list class n t = Notation.wrapped (wrapper.ImplicitList (class_bits class + 0x20 + n)) t
 
+-- A constraint is around the tag, where the tag has a content inside. There is one content for a number of any width.
+abbrev under-tag : ℕ → Notation → Notation
+under-tag tag (Notation.any-content own) = Notation.any-content tag
+under-tag tag (Notation.content-under own t) = Notation.content-under tag t
+under-tag tag Notation.OCTET-STRING = Notation.any-content tag
+under-tag tag Notation.NULL = Notation.sized 0 0 (Notation.any-content tag)
+under-tag tag (Notation.unsigned bits) =
+    Notation.in-range (pos 0) (pos (2 ^ bits - 1)) (Notation.content-under tag INTEGER)
+under-tag tag (Notation.signed bits) =
+    Notation.at-most (pos (2 ^ (bits - 1) - 1))
+    (Notation.at-least (negsuc (2 ^ (bits - 1) - 1)) (Notation.content-under tag INTEGER))
+under-tag tag (Notation.in-range least most (Notation.unsigned bits)) =
+    Notation.in-range least most (Notation.content-under tag INTEGER)
+under-tag tag (Notation.at-most most (Notation.at-least least (Notation.signed bits))) =
+    Notation.at-most most (Notation.at-least least (Notation.content-under tag INTEGER))
+under-tag tag (Notation.in-range least most t) = Notation.in-range least most (under-tag tag t)
+under-tag tag (Notation.at-least least t) = Notation.at-least least (under-tag tag t)
+under-tag tag (Notation.at-most most t) = Notation.at-most most (under-tag tag t)
+under-tag tag (Notation.outside least most t) = Notation.outside least most (under-tag tag t)
+under-tag tag (Notation.sized least most t) = Notation.sized least most (under-tag tag t)
+under-tag tag t = Notation.content-under tag t
+
 abbrev over_primitive : TagClass → ℕ → Notation → Notation
 over_primitive ContextSpecific n t = Notation.wrapped (wrapper.Implicit n) t
-over_primitive class n Notation.OCTET-STRING = Notation.any-content (class_bits class + n)
-over_primitive class n t = Notation.content-under (class_bits class + n) t
+over_primitive class n t = under-tag (class_bits class + n) t
 
 -- the same in place of that of an octet string that holds an encoding (X.682, 11), which is the content then. That of a
 -- list of one is it, too.
@@ -232,8 +324,10 @@ abbrev has_header : Notation → Bool
 has_header (Notation.wrapped w t) = true
 has_header (Notation.sized least most t) = has_header t
 has_header (Notation.in-range least most t) = has_header t
-has_header (Notation.from-minus least most t) = has_header t
-has_header (Notation.other-than n t) = has_header t
+has_header (Notation.at-least least t) = has_header t
+has_header (Notation.at-most most t) = has_header t
+has_header (Notation.outside least most t) = has_header t
+has_header (Notation.permitted ranges t) = has_header t
 has_header _ = false
 
 -- 31.2.7: a choice and an open type have no tag that this one could replace, so that it is explicit. Of a type with a

@@ -1,7 +1,7 @@
 -- Trees that the types of ASN.1 denote: readable ones that vectors can hold.
 use Rattle.std.specs.Prelude.{◌≡◌, ℕ, zero, suc, ◌-◌, ◌/◌, ◌%◌, ◌^◌, ◌<◌, Bool, true, false, ◌&&◌, ◌||◌, ◌==◌, nat_lt}
-use Rattle.std.specs.Prelude.{nat_le, pos, List, [], ◌∷◌, ◌++◌, length, replicate, chars, IsUtf8, Option, Some, None}
-use Rattle.std.specs.Prelude.{is_some, if◌then◌else◌, refl}
+use Rattle.std.specs.Prelude.{nat_le, ℤ, pos, negsuc, ◌+ℤ◌, int_le, List, [], ◌∷◌, ◌++◌, length, replicate, chars}
+use Rattle.std.specs.Prelude.{IsUtf8, Option, Some, None, is_some, if◌then◌else◌, refl}
 use Rattle.std.proofs.Common.{sym, ap, ◌∙◌, subst, arith, inl, inr, eqb-true, leb-true, ltb-true, encode_utf8}
 use Rattle.std.proofs.Common.{encode_utf8_all}
 use Rattle.std.proofs.lemmas.Bool.{and_parts}
@@ -15,7 +15,9 @@ use Rattle.picky_der_core.specs.declared.asn1.wrapper.Wrapper.TheVariants.{Octet
 use Rattle.picky_der_core.specs.declared.asn1.wrapper.Wrapper.TheVariants.{Implicit, Application, ImplicitList}
 use Rattle.picky_der_core.specs.Element.{AreBytes}
 use Rattle.picky_der_core.specs.Encoding.{encodings, der}
-use Rattle.picky_der_core.specs.Integer.{fits_signed}
+use Rattle.picky_der_core.specs.Integer.{bits_of, fits_signed, integer_content, integer_tree, turned_if}
+use Rattle.picky_der_core.specs.IntegerLaws.{AreBytes-content, value-content}
+use Rattle.picky_der_core.specs.IntLaws.{length-integer_content}
 use Rattle.picky_der_core.specs.Order.{is_less, IsAscending}
 use Rattle.picky_der_core.specs.OrderLaws.{IsSortedBy-nil, IsSortedBy-one, IsSortedBy-cons}
 use Rattle.picky_der_core.specs.Primitive.{Primitive, unsigned_content}
@@ -23,14 +25,17 @@ use Rattle.picky_der_core.specs.Readable.{IsReadable, AreReadable, IsInOrder, Is
 use Rattle.picky_der_core.specs.Shape.{contains, EachIs}
 use Rattle.picky_der_core.specs.Tag.{number_of, is_tag_number, is_constructed, IsConstructedTag, is_constructed_tag}
 use Rattle.picky_der_core.specs.Tree.{ListKind, Tree, Trees}
+use Rattle.picky_der_core.specs.UnsignedLaws.{length-unsigned_content}
 use Rattle.picky_der_core.specs.Wrapper.{HasTagNumber, has_tag_number, keeps_header}
 use Rattle.picky_der_de.specs.Examples.{HasReadable, null_element_readable}
+use Rattle.std.specs.List.{list_all}
+use Rattle.der_types.specs.Alphabets.{is_of}
 use Rattle.der_types.specs.BitString.{bit_string_content}
 use Rattle.der_types.specs.CharacterStrings.{is_string_content, string_content}
 use Rattle.der_types.specs.Constraints.{is_size, is_between, member_count}
 use Rattle.der_types.specs.ContentTypes.{ContentType, tag_of, test_of, string_width, string_character}
 use Rattle.der_types.specs.Denotes.{Denotes, DenoteMembers, DenoteOneOf, IsShort, EachIsShort, content_tree}
-use Rattle.der_types.specs.Denotes.{is_from_minus, tree_number, tree_size}
+use Rattle.der_types.specs.Denotes.{tree_characters, tree_number, tree_size}
 use Rattle.der_types.specs.Exact.{IsExact, Values, ProvedValues, is_exact}
 use Rattle.der_types.specs.ExactEnumerated.{one_byte}
 use Rattle.der_types.specs.Notation.{Notation, Member, Members, Alternatives}
@@ -61,9 +66,11 @@ pub record Sample (n : Notation) : Type 0 where
   pub denoted : Denotes n tree
   pub readable : IsReadable tree
   pub short : IsShort tree
-  -- its size, which may be known where that of the tree isn't computed
+  -- its size and its number, which may be known where those of the tree aren't computed
   pub size : ℕ
   pub sized : tree_size n tree ≡ size
+  pub number : ℤ
+  pub numbered : tree_number tree ≡ number
 
 pub record MembersSample (ms : Members) : Type 0 where
   pub trees : Trees
@@ -78,7 +85,16 @@ pub record AlternativeSample (ts : Alternatives) : Type 0 where
   pub short : IsShort tree
 
 abbrev sample : (n : Notation) (t : Tree) → Denotes n t → IsReadable t → IsShort t → Sample n
-sample n t d r s = record { tree = t; denoted = d; readable = r; short = s; size = tree_size n t; sized = refl }
+sample n t d r s = record {
+  tree = t;
+  denoted = d;
+  readable = r;
+  short = s;
+  size = tree_size n t;
+  sized = refl;
+  number = tree_number t;
+  numbered = refl;
+}
 
 pub zero_short : 0 < 2 ^ 63
 zero_short = omega arith
@@ -120,11 +136,26 @@ content_sample n tag s denoted =
     (λ d. with (decided (is_short_content tag s))
     (λ h. Some (sample n (content_tree tag s) d (content_readable tag s h) (content_short tag s h))))
 
--- the content of a checked type, of a number or a size that is wished for where the type has several
-abbrev wished_content : ℕ → ContentType → List ℕ
-wished_content wish ContentType.INTEGER = wish ∷ []
+-- ---- what is wished for: a number, or a size
+
+abbrev natural : ℤ → ℕ
+natural (pos n) = n
+natural (negsuc n) = 0
+
+-- the bytes of a number, of which the first is below 128, in at most so many and one
+abbrev bytes_within : ℕ → ℕ → List ℕ
+bytes_within zero n = n ∷ []
+bytes_within (suc k) n = if nat_lt n 0x80 then n ∷ [] else bytes_within k (n / 256) ++ (n % 256 ∷ [])
+
+abbrev number_bytes : ℤ → List ℕ
+number_bytes (pos n) = bytes_within 16 n
+number_bytes (negsuc n) = turned_if true (bytes_within 16 n)
+
+-- the content of a checked type
+abbrev wished_content : ℤ → ContentType → List ℕ
+wished_content wish ContentType.INTEGER = number_bytes wish
 wished_content wish ContentType.ENUMERATED-extensible = 0x00 ∷ []
-wished_content wish ContentType.BIT-STRING = bit_string_content (replicate wish false)
+wished_content wish ContentType.BIT-STRING = bit_string_content (replicate (natural wish) false)
 wished_content wish ContentType.BIT-STRING-named = 0x00 ∷ []
 wished_content wish ContentType.OBJECT-IDENTIFIER = 0x2A ∷ []
 wished_content wish ContentType.RELATIVE-OID = 0x01 ∷ []
@@ -137,14 +168,37 @@ wished_content wish ContentType.GeneralizedTime-later = 0x32 ∷ 0x30 ∷ 0x35 �
 wished_content wish ContentType.UTCTime = 0x35 ∷ 0x30 ∷ 0x30 ∷ 0x31 ∷ 0x30 ∷ 0x31 ∷ 0x30 ∷ 0x30 ∷ 0x30 ∷ 0x30 ∷ 0x30
     ∷ 0x30 ∷ 0x5A ∷ []
 
--- zeros, which are in each set of characters
-abbrev wished_string : ℕ → ℕ → List ℕ
-wished_string wish tag = string_content (string_width tag) (replicate wish 0x30)
+-- so many of a character, as a zero, which is in each set
+abbrev wished_string : ℕ → ℕ → ℕ → List ℕ
+wished_string character wish tag = string_content (string_width tag) (replicate wish character)
 
--- ---- numbers, which are below 128
+abbrev first_character : List (ℕ × ℕ) → ℕ
+first_character [] = 0x30
+first_character (r ∷ rs) = r.0
 
-pub number_short : (n : ℕ) → nat_lt n 0x80 ≡ true → length (unsigned_content n) < 2 ^ 63
-number_short n e = subst (λ s. length s < 2 ^ 63) (one_byte n e) one_short
+-- ---- numbers
+
+pub number_short : (n : ℕ) → nat_lt n (2 ^ 128) ≡ true → length (unsigned_content n) < 2 ^ 63
+number_short n e = omega (arith, length-unsigned_content n (ltb-true n (2 ^ 128) e))
+
+pub integer_readable : (z : ℤ) → IsReadable (integer_tree z)
+integer_readable z = (leb-true 2 30 refl, AreBytes-content z)
+
+pub integer_short : (z : ℤ) → nat_lt (bits_of z) (2 ^ 128) ≡ true → length (integer_content z) < 2 ^ 63
+integer_short z e = omega (arith, length-integer_content z (ltb-true (bits_of z) (2 ^ 128) e))
+
+abbrev signed_sample : (bits : ℕ) (z : ℤ) → fits_signed bits z ≡ true → nat_lt (bits_of z) (2 ^ 128) ≡ true
+    → Sample (Notation.signed bits)
+signed_sample bits z f e = record {
+  tree = integer_tree z;
+  denoted = (z, refl, f);
+  readable = integer_readable z;
+  short = integer_short z e;
+  size = tree_size (Notation.signed bits) (integer_tree z);
+  sized = refl;
+  number = z;
+  numbered = value-content z;
+}
 
 -- the first of the numbers of an enumeration
 abbrev first_of : List ℕ → ℕ
@@ -184,6 +238,8 @@ text_sample wish h = record {
   short = ltb-true (length (letters wish)) (2 ^ 63) h;
   size = wish;
   sized = letter_count wish;
+  number = pos 0;
+  numbered = refl;
 }
 
 -- ---- wrappers
@@ -339,34 +395,69 @@ choice_sample ts x = sample (Notation.choice ts) (Tree.choice x.tree) (x.tree, r
 -- ---- constraints
 
 module _ (n : Notation) (x : Sample n) where
-  abbrev in_range_sample : (least most : ℕ) → Option (Sample (Notation.in-range least most n))
+  -- the same tree, of a type whose constraint it meets
+  abbrev constrained_sample : (m : Notation) → Denotes m x.tree → Sample m
+  constrained_sample m d = record {
+    tree = x.tree;
+    denoted = d;
+    readable = x.readable;
+    short = x.short;
+    size = tree_size m x.tree;
+    sized = refl;
+    number = x.number;
+    numbered = x.numbered;
+  }
+
+  abbrev in_range_sample : (least most : ℤ) → Option (Sample (Notation.in-range least most n))
   in_range_sample least most =
-      with (decided (is_between least most (tree_number x.tree)))
-      (λ e. Some (sample (Notation.in-range least most n) x.tree (x.denoted, e) x.readable x.short))
+      with (decided (is_between least most x.number))
+      (λ e. Some (constrained_sample (Notation.in-range least most n) (
+        x.denoted,
+        ap (is_between least most) x.numbered ∙ e,
+      )))
 
-  abbrev from_minus_sample : (least most : ℕ) → Option (Sample (Notation.from-minus least most n))
-  from_minus_sample least most =
-      with (decided (is_from_minus least most (tree_number x.tree)))
-      (λ e. Some (sample (Notation.from-minus least most n) x.tree (x.denoted, e) x.readable x.short))
+  abbrev at_least_sample : (least : ℤ) → Option (Sample (Notation.at-least least n))
+  at_least_sample least =
+      with (decided (int_le least x.number))
+      (λ e. Some (constrained_sample (Notation.at-least least n) (x.denoted, ap (int_le least) x.numbered ∙ e)))
 
-  abbrev other_than_sample : (m : ℕ) → Option (Sample (Notation.other-than m n))
-  other_than_sample m =
-      with (denied (is_between m m (tree_number x.tree)))
-      (λ e. Some (sample (Notation.other-than m n) x.tree (x.denoted, e) x.readable x.short))
+  abbrev at_most_sample : (most : ℤ) → Option (Sample (Notation.at-most most n))
+  at_most_sample most =
+      with (decided (int_le x.number most))
+      (λ e. Some (constrained_sample (Notation.at-most most n) (x.denoted, ap (λ z. int_le z most) x.numbered ∙ e)))
+
+  abbrev outside_sample : (least most : ℤ) → Option (Sample (Notation.outside least most n))
+  outside_sample least most =
+      with (denied (is_between least most x.number))
+      (λ e. Some (constrained_sample (Notation.outside least most n) (
+        x.denoted,
+        ap (is_between least most) x.numbered ∙ e,
+      )))
 
   abbrev sized_sample : (least most : ℕ) → Option (Sample (Notation.sized least most n))
   sized_sample least most =
       with (decided (is_size least most x.size))
-      (λ e. Some (sample (Notation.sized least most n) x.tree (x.denoted, ap (is_size least most) x.sized ∙ e)
-      x.readable x.short))
+      (λ e. Some (constrained_sample (Notation.sized least most n) (
+        x.denoted,
+        ap (is_size least most) x.sized ∙ e,
+      )))
 
-abbrev greater : ℕ → ℕ → ℕ
-greater a b = if nat_lt a b then b else a
+  abbrev permitted_sample : (ranges : List (ℕ × ℕ)) → Option (Sample (Notation.permitted ranges n))
+  permitted_sample ranges =
+      with (decided (list_all (is_of ranges) (tree_characters n x.tree)))
+      (λ e. Some (constrained_sample (Notation.permitted ranges n) (x.denoted, e)))
+
+-- a wish, or a bound that it is beyond
+abbrev raised : ℤ → ℤ → ℤ
+raised least wish = if int_le least wish then wish else least
+
+abbrev lowered : ℤ → ℤ → ℤ
+lowered most wish = if int_le wish most then wish else most
 
 -- ---- a tree of each type, of a number or a size that is wished for; none where the search finds none
 
 abbrev mutual
-  pub sample_of : ℕ → (n : Notation) → Option (Sample n)
+  pub sample_of : ℤ → (n : Notation) → Option (Sample n)
   sample_of wish Notation.BOOLEAN =
       Some (sample Notation.BOOLEAN (Tree.primitive (Primitive.boolean true)) (true, refl, tt) tt one_short)
   sample_of wish (Notation.checked-content c) =
@@ -378,74 +469,85 @@ abbrev mutual
       (λ e. with (decided (contains numbers (first_of numbers)))
       (λ c. Some (first_of numbers, ap (content_tree 0x02) (one_byte (first_of numbers) e), c))))
   sample_of wish (Notation.unsigned bits) =
-      with (decided (nat_lt wish 0x80))
-      (λ e. with (decided (nat_le wish (2 ^ bits - 1)))
-      (λ f. Some (sample (Notation.unsigned bits) (Tree.primitive (Primitive.unsigned wish)) (
-        wish,
+      with (decided (nat_lt (natural wish) (2 ^ 128)))
+      (λ e. with (decided (nat_le (natural wish) (2 ^ bits - 1)))
+      (λ f. Some (sample (Notation.unsigned bits) (Tree.primitive (Primitive.unsigned (natural wish))) (
+        natural wish,
         refl,
-        leb-true wish (2 ^ bits - 1) f,
-      ) tt (number_short wish e))))
+        leb-true (natural wish) (2 ^ bits - 1) f,
+      ) tt (number_short (natural wish) e))))
   sample_of wish (Notation.signed bits) =
-      content_sample (Notation.signed bits) 0x02 (wish ∷ [])
-      (with (decided (nat_lt wish 0x80))
-      (λ e. with (decided (fits_signed bits (pos wish))) (λ f. Some (
-        pos wish,
-        ap (content_tree 0x02) (one_byte wish e),
-        f,
-      ))))
+      with (decided (nat_lt (bits_of wish) (2 ^ 128)))
+      (λ e. with (decided (fits_signed bits wish)) (λ f. Some (signed_sample bits wish f e)))
   sample_of wish (Notation.ENUMERATED numbers) =
       content_sample (Notation.ENUMERATED numbers) 0x0A (first_of numbers ∷ [])
       (with (decided (nat_lt (first_of numbers) 0x80))
       (λ e. with (decided (contains numbers (first_of numbers)))
       (λ c. Some (first_of numbers, ap (content_tree 0x0A) (one_byte (first_of numbers) e), c))))
   sample_of wish Notation.OCTET-STRING =
-      content_sample Notation.OCTET-STRING 0x04 (replicate wish 0x00) (Some (replicate wish 0x00, refl, tt))
+      content_sample Notation.OCTET-STRING 0x04 (replicate (natural wish) 0x00)
+      (Some (replicate (natural wish) 0x00, refl, tt))
   sample_of wish Notation.NULL = Some (sample Notation.NULL (Tree.primitive Primitive.null) refl tt zero_short)
   sample_of wish Notation.UTF8String =
-      with (decided (nat_lt (length (letters wish)) (2 ^ 63))) (λ h. Some (text_sample wish h))
+      with (decided (nat_lt (length (letters (natural wish))) (2 ^ 63))) (λ h. Some (text_sample (natural wish) h))
   sample_of wish Notation.character =
       Some (sample Notation.character (Tree.primitive (Primitive.text (0x61 ∷ []))) (0x61 ∷ [], refl, letter_count 1)
       (letters_readable 1) one_short)
   sample_of wish (Notation.restricted-string tag) =
-      content_sample (Notation.restricted-string tag) tag (wished_string wish tag)
-      (with (decided (is_string_content (string_width tag) (string_character tag) (wished_string wish tag)))
-      (λ e. Some (wished_string wish tag, refl, e)))
-  sample_of wish (Notation.any-content tag) = content_sample (Notation.any-content tag) tag [] (Some ([], refl, tt))
+      let s : List ℕ = wished_string 0x30 (natural wish) tag in
+      content_sample (Notation.restricted-string tag) tag s
+      (with (decided (is_string_content (string_width tag) (string_character tag) s)) (λ e. Some (s, refl, e)))
+  sample_of wish (Notation.any-content tag) =
+      content_sample (Notation.any-content tag) tag (replicate (natural wish) 0x00)
+      (Some (replicate (natural wish) 0x00, refl, tt))
   sample_of wish Notation.any-element =
       Some (sample Notation.any-element (Tree.raw (0x05 ∷ 0x00 ∷ [])) (0x05 ∷ 0x00 ∷ [], refl, tt) null_element_readable
       two_short)
   sample_of wish (Notation.sequence ms) = with (members_sample ms) (sequence_sample ms)
   sample_of wish (Notation.choice ts) = with (alternative_sample ts) (λ x. Some (choice_sample ts x))
-  sample_of zero (Notation.list-of kind n) = Some (empty_sample kind n)
-  sample_of (suc wish) (Notation.list-of kind n) = with (sample_of 0 n) (copies_sample kind n (suc wish))
+  sample_of (pos zero) (Notation.list-of kind n) = Some (empty_sample kind n)
+  sample_of (pos (suc wish)) (Notation.list-of kind n) = with (sample_of (pos 0) n) (copies_sample kind n (suc wish))
+  sample_of (negsuc wish) (Notation.list-of kind n) = Some (empty_sample kind n)
   sample_of wish (Notation.wrapped w n) = with (sample_of wish n) (wrapped_sample w n)
   sample_of wish (Notation.content-under tag n) =
       with (sample_of wish n) (λ x. under_sample tag n x.tree x.denoted x.readable)
   sample_of wish (Notation.in-range least most n) =
-      with (sample_of (greater wish least) n) (λ x. in_range_sample n x least most)
-  sample_of wish (Notation.from-minus least most n) = with (sample_of wish n) (λ x. from_minus_sample n x least most)
-  sample_of wish (Notation.other-than m n) =
-      first_found (with (sample_of 0 n) (λ x. other_than_sample n x m))
-      (with (sample_of (suc m) n) (λ x. other_than_sample n x m))
-  sample_of wish (Notation.sized least most n) = with (sample_of least n) (λ x. sized_sample n x least most)
+      with (sample_of (lowered most (raised least wish)) n) (λ x. in_range_sample n x least most)
+  sample_of wish (Notation.at-least least n) = with (sample_of (raised least wish) n) (λ x. at_least_sample n x least)
+  sample_of wish (Notation.at-most most n) = with (sample_of (lowered most wish) n) (λ x. at_most_sample n x most)
+  sample_of wish (Notation.outside least most n) =
+      first_found (with (sample_of wish n) (λ x. outside_sample n x least most))
+      (with (sample_of (most +ℤ pos 1) n) (λ x. outside_sample n x least most))
+  sample_of wish (Notation.sized least most n) = with (sample_of (pos least) n) (λ x. sized_sample n x least most)
+  sample_of wish (Notation.permitted ranges (Notation.restricted-string tag)) =
+      let s : List ℕ = wished_string (first_character ranges) (natural wish) tag in
+      let text : Notation = Notation.restricted-string tag in
+      content_sample (Notation.permitted ranges text) tag s
+      (with (decided (is_string_content (string_width tag) (string_character tag) s))
+      (λ e. with (decided (list_all (is_of ranges) (tree_characters text (content_tree tag s))))
+      (λ f. Some ((s, refl, e), f))))
+  sample_of wish (Notation.permitted ranges n) = with (sample_of wish n) (λ x. permitted_sample n x ranges)
 
   pub members_sample : (ms : Members) → Option (MembersSample ms)
   members_sample Members.end = Some (record { trees = Trees.none; denoted = tt; readable = tt; short = tt })
   members_sample (Members.member (Member.required n) ms) =
-      with (sample_of 0 n) (λ x. with (members_sample ms) (λ others. Some (member_then n ms x others)))
+      with (sample_of (pos 0) n) (λ x. with (members_sample ms) (λ others. Some (member_then n ms x others)))
   members_sample (Members.member (Member.optional n) ms) =
       with (members_sample ms) (λ others. Some (absent_optional n ms others))
   members_sample (Members.member (Member.defaulted value n) ms) =
       with (members_sample ms) (λ others. Some (absent_default value n ms others))
-  members_sample (Members.others known) = Some (record { trees = Trees.none; denoted = tt; readable = tt; short = tt })
+  members_sample (Members.others excluded) =
+      Some (record { trees = Trees.none; denoted = tt; readable = tt; short = tt })
+  members_sample (Members.others-from least) =
+      Some (record { trees = Trees.none; denoted = tt; readable = tt; short = tt })
 
   pub alternative_sample : (ts : Alternatives) → Option (AlternativeSample ts)
   alternative_sample Alternatives.none = None
-  alternative_sample (Alternatives.alternative n ts) = this_or_other n ts (sample_of 0 n) (alternative_sample ts)
+  alternative_sample (Alternatives.alternative n ts) = this_or_other n ts (sample_of (pos 0) n) (alternative_sample ts)
 
 -- whether the search finds a tree of the type
 abbrev pub has_sample : Notation → Bool
-has_sample n = is_some (sample_of 0 n)
+has_sample n = is_some (sample_of (pos 0) n)
 
 -- ---- a value that means it
 
@@ -457,4 +559,4 @@ value_of n is (Some x) h = let v = is.complete x.tree x.denoted x.readable x.sho
 
 pub exact_example : {V : Type 0} (values : Values V) (notation : Notation) (meaning : V → Tree)
     → has_sample notation ≡ true → ProvedValues values notation meaning → HasReadable meaning
-exact_example values notation meaning h t = value_of notation (is_exact values t) (sample_of 0 notation) h
+exact_example values notation meaning h t = value_of notation (is_exact values t) (sample_of (pos 0) notation) h

@@ -1,6 +1,8 @@
 //! Types with a constraint: their values are the values of another type that the constraint allows (X.680, 49).
 ghost use Rattle.std.specs.Prelude.{◌≡◌, Bool, true, false, IfSome, IfNone, IfOk, IfErr};
 ghost use Rattle.picky_der_de.specs.Reading.{Reads, Refuses};
+ghost use Rattle.picky_der_de.specs.RefusesBy.{RefusesBy};
+ghost use Rattle.picky_der_de.specs.Rules.{tested_rule};
 ghost use Rattle.der_types.specs.Constraints.{RefusesConstrained};
 
 use picky_der_core::misc::ReadExt;
@@ -40,6 +42,8 @@ pub fn deserialize_constrained_as<C: Constrained, R: ReadExt>(de: &mut Deseriali
         de.new) }
     ensures refused { IfErr result (RefusesConstrained C.Of.meaning C.Of.shape C.allows de.old
         de.new) }
+    ensures refused_by { IfErr result (RefusesBy (tested_rule C.Of.meaning C.Of.shape C.unconstrained
+        C.Of.facts.rule) de.old de.new) }
 {
     let value = C::Of::deserialize(de)?;
     match C::constrain(value) {

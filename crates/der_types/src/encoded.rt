@@ -6,7 +6,9 @@ ghost use Rattle.std.specs.Ordering.{on};
 ghost use Rattle.picky_der_core.specs.Equality.{IsThatOf};
 ghost use Rattle.picky_der_core.specs.Tree.{Tree};
 ghost use Rattle.picky_der_core.specs.Shape.{Shape};
-ghost use Rattle.picky_der_de.specs.Facts.{raw_facts};
+ghost use Rattle.picky_der_de.specs.Facts.{raw_facts, ruled};
+ghost use Rattle.picky_der_de.specs.PlainRules.{raw_rule};
+ghost use Rattle.picky_der_de.specs.Rules.{tested_rule};
 ghost use Rattle.picky_der_de.specs.Twins.{IsNoValue};
 ghost use Rattle.picky_der_de.specs.Whole.{IsEncodingOf};
 
@@ -96,7 +98,8 @@ impl<T: Deserialize> TryVia for Encoded<T> {
 impl<T: Deserialize> Deserialize for Encoded<T> {
     ghost shape = { Shape.raw };
 
-    ghost facts = { raw_facts (λ it. it.encoding.0.items) };
+    ghost facts = { ruled (tested_rule ⟦<Asn1RawDer as Serialize>⟧.meaning Shape.raw ⟦<Encoded<T> as TryVia>⟧.parts raw_rule)
+        (raw_facts (λ it. it.encoding.0.items)) };
 
     ghost proved = { Prim.assumption };
 

@@ -7,18 +7,18 @@ ghost use Rattle.picky_der_core.specs.Tree.{ListKind, Tree};
 ghost use Rattle.picky_der_ser.specs.Meaning.{list_meaning};
 ghost use Rattle.der_types.specs.BitString.{bits_of};
 ghost use Rattle.der_types.specs.CharacterStrings.{characters};
-ghost use Rattle.der_types.specs.ExactConstraints.{Numbered, ProvedNumber, numbered_plainly, numbered_by, Sized};
-ghost use Rattle.der_types.specs.ExactConstraints.{ProvedSize, sized_plainly, counted};
-ghost use Rattle.der_types.specs.ExactContents.{IsStandard};
+ghost use Rattle.der_types.specs.ExactConstraints.{Numbered, ProvedNumber, numbered_plainly, numbered_under, Sized};
+ghost use Rattle.der_types.specs.ExactConstraints.{ProvedSize, sized_plainly, sized_under, counted};
+ghost use Rattle.der_types.specs.ExactStrings.{IsSetOf};
 ghost use Rattle.der_types.specs.ContentForms as form;
 ghost use Rattle.der_types.specs.ContentsFacts.{contents_of};
 ghost use Rattle.der_types.specs.Notation.{Notation};
 
 use crate::{
-    BitString, Exact, GeneralizedTime, InRange, Integer, RestrictedString, Size, StandardSet,
-    WholeNumber,
+    BitString, Exact, ExactContents, GeneralizedTime, ImplicitPrimitive, Integer, NotatedSet,
+    RestrictedString, Size, WholeNumber,
 };
-use picky_der_core::asn1::{Asn1SequenceOf, Asn1SetOf, ByteBuf};
+use picky_der_core::asn1::{Asn1SequenceOf, Asn1SetOf, ByteBuf, TaggedBytes};
 
 /// A type of numbers in which the encoding of a value is the encoding of its number.
 pub trait ExactNumber: Exact + WholeNumber {
@@ -45,8 +45,8 @@ impl ExactNumber for Integer {
     ghost exact_number = { Prim.assumption };
 }
 
-impl<T: ExactNumber, const MIN: u64, const MAX: u64> ExactNumber for InRange<T, MIN, MAX> {
-    ghost numbered = { numbered_by T.numbered T.number T.meaning (λ it. it.value) };
+impl<T: ExactContents + ExactNumber, const TAG: u8> ExactNumber for ImplicitPrimitive<T, TAG> {
+    ghost numbered = { numbered_under T.own_contents T.meaning T.content TAG (λ it. it.0) T.numbered T.number };
 
     ghost exact_number = { Prim.assumption };
 }
@@ -61,6 +61,19 @@ impl ExactSize for BitString {
 impl ExactSize for ByteBuf {
     ghost sized = { sized_plainly (λ it. length it.0.items) (Notation.OCTET-STRING) (contents_of 0x04 (λ it. it.0.items))
         (λ it. refl) };
+
+    ghost exact_size = { Prim.assumption };
+}
+
+impl<const TAG: u8> ExactSize for TaggedBytes<TAG> {
+    ghost sized = { sized_plainly (λ it. length it.0.items) (Notation.any-content TAG) (contents_of TAG (λ it. it.0.items))
+        (λ it. refl) };
+
+    ghost exact_size = { Prim.assumption };
+}
+
+impl<T: ExactContents + ExactSize, const TAG: u8> ExactSize for ImplicitPrimitive<T, TAG> {
+    ghost sized = { sized_under T.own_contents T.meaning T.content TAG (λ it. it.0) T.sized T.size T.notation };
 
     ghost exact_size = { Prim.assumption };
 }
@@ -100,13 +113,13 @@ impl<T: Exact> ExactSize for Asn1SetOf<T> {
     ghost exact_size = { Prim.assumption };
 }
 
-impl<S: StandardSet> ExactSize for RestrictedString<S> {
+impl<S: NotatedSet> ExactSize for RestrictedString<S> {
     ghost sized = { record {
       size = λ it. length (characters S.WIDTH it.content.items);
-      notation = Notation.restricted-string S.TAG;
+      notation = S.string;
       meaning = contents_of S.TAG (λ it. it.content.items);
-      Premise = IsStandard S.TAG S.WIDTH S.is_character;
-      same = λ standard it. ap (λ width. length (characters width it.content.items)) standard.same_width;
+      Premise = IsSetOf S.string S.TAG S.WIDTH S.is_character;
+      same = λ set it. set.size it.content.items;
     } };
 
     ghost exact_size = { Prim.assumption };

@@ -1,8 +1,9 @@
 //! Exact types for contents under other tags, and for the string types of ASN.1.
 ghost use Rattle.std.specs.Prelude.{refl};
 ghost use Rattle.der_types.specs.ExactContents.{OwnContents, ProvedContents, content_under_values, parameter_contents};
-ghost use Rattle.der_types.specs.ExactContents.{IsStandard, string_values};
+ghost use Rattle.der_types.specs.ExactStrings.{IsSetOf, string_values};
 ghost use Rattle.der_types.specs.MadeValues.{vec_of};
+ghost use Rattle.der_types.specs.Notation.{Notation};
 
 use crate::{CharacterSet, Contents, Exact, ImplicitPrimitive, RestrictedString};
 
@@ -15,20 +16,24 @@ pub trait ExactContents: Exact + Contents {
     ghost exact_contents: { ProvedContents own_contents Self.meaning Self.content };
 }
 
-/// A character set of X.680, 41, with the tag, the width and the characters that it has there.
-pub trait StandardSet: CharacterSet {
-    // The tag, the width and the characters are the ones in the tables of X.680.
-    ghost standard: { IsStandard Self.TAG Self.WIDTH Self.is_character };
+/// A character set of X.680, 41, with the tag, the width and the characters that it has there, or a permitted alphabet
+/// of one (51.7).
+pub trait NotatedSet: CharacterSet {
+    // The type of its strings.
+    ghost string: { Notation };
+
+    // That type has the set's tag, width and characters.
+    ghost is_set: { IsSetOf string Self.TAG Self.WIDTH Self.is_character };
 }
 
-impl<S: StandardSet> Exact for RestrictedString<S> {
-    ghost values = { string_values S.TAG S.WIDTH S.is_character (λ it. it.content.items) (λ it. it.canonical)
+impl<S: NotatedSet> Exact for RestrictedString<S> {
+    ghost values = { string_values S.string S.TAG S.WIDTH S.is_character (λ it. it.content.items) (λ it. it.canonical)
         (λ s e h. (record { content = vec_of s h; set = record {}; canonical = e }, refl)) };
 
     ghost exact = { Prim.assumption };
 }
 
-impl<S: StandardSet> ExactContents for RestrictedString<S> {
+impl<S: NotatedSet> ExactContents for RestrictedString<S> {
     ghost own_contents = { parameter_contents S.TAG (λ it. it.content.items) };
 
     ghost exact_contents = { Prim.assumption };

@@ -2,12 +2,13 @@
 ghost use Rattle.std.specs.Prelude.{refl};
 ghost use Rattle.der_types.specs.ExactMembers.{MemberValues, ProvedMember, MembersValues, ProvedMembers};
 ghost use Rattle.der_types.specs.ExactMembers.{required_values, optional_values, none_values};
-ghost use Rattle.der_types.specs.ExactLater.{others_values};
+ghost use Rattle.der_types.specs.ExactLater.{others_values, numbered_values};
 ghost use Rattle.der_types.specs.MadeValues.{vec_of};
 ghost use Rattle.picky_der_core.specs.Shape.{firsts_of};
+ghost use Rattle.picky_asn1_der.specs.LaterTags.{in_both_forms};
 
 use crate::{Exact, NotatedMember, NotatedMembers};
-use picky_asn1_der::LaterMembers;
+use picky_asn1_der::{LaterMembers, LaterMembersFrom};
 use picky_der_de::{Alternatives, Begins};
 use picky_der_ser::Optional;
 
@@ -42,9 +43,17 @@ impl<T: Exact + Begins> ExactMember for Optional<T> {
 }
 
 impl<A: Alternatives> ExactMembers for LaterMembers<A> {
-    ghost all_values = { others_values (λ raw. raw.0.items) (λ s h. (record { 0 = vec_of s h }, refl)) (firsts_of A.shapes)
-        (λ it. it.elements.items) (λ it. it.outside)
+    ghost all_values = { others_values (λ raw. raw.0.items) (λ s h. (record { 0 = vec_of s h }, refl))
+        (in_both_forms (firsts_of A.shapes)) (λ it. it.elements.items) (λ it. it.outside)
         (λ es o h. (record { elements = vec_of es h; before = record {}; outside = o }, refl)) };
+
+    ghost exact_members = { Prim.assumption };
+}
+
+impl<const N: u8> ExactMembers for LaterMembersFrom<N> {
+    ghost all_values = { numbered_values (λ raw. raw.0.items) (λ s h. (record { 0 = vec_of s h }, refl)) N
+        (λ it. it.elements.items) (λ it. it.numbered)
+        (λ es o h. (record { elements = vec_of es h; numbered = o }, refl)) };
 
     ghost exact_members = { Prim.assumption };
 }

@@ -2,7 +2,8 @@
 ghost use Rattle.picky_der_core.specs.Equality.{IsThatOf};
 ghost use Rattle.picky_der_de.specs.Reading.{Reads, Refuses};
 ghost use Rattle.std.specs.Prelude.{◌≡◌, IfOk, IfErr};
-ghost use Rattle.der_types.specs.ContentTests.{ReadsContent, RefusesContent};
+ghost use Rattle.der_types.specs.ContentTests.{ReadsContent, RefusesContent, content_rule};
+ghost use Rattle.picky_der_de.specs.RefusesBy.{RefusesBy};
 ghost use Rattle.der_types.specs.PrimitiveForm.{primitive_form};
 ghost use Rattle.der_types.specs.ContentsFacts.{contents_of, contents_shape, content_of_facts};
 
@@ -60,7 +61,7 @@ impl<T: Contents, const TAG: u8> Serialize for ImplicitPrimitive<T, TAG> {
 impl<T: Contents, const TAG: u8> Deserialize for ImplicitPrimitive<T, TAG> {
     ghost shape = { contents_shape (primitive_form TAG) };
 
-    ghost facts = { content_of_facts (primitive_form TAG) T.content T.equal T.same T.eq (λ tagged. tagged.0) };
+    ghost facts = { content_of_facts (primitive_form TAG) T.content T.is_content T.equal T.same T.eq (λ tagged. tagged.0) };
 
     ghost proved = { Prim.assumption };
 
@@ -75,6 +76,8 @@ impl<T: Contents, const TAG: u8> Deserialize for ImplicitPrimitive<T, TAG> {
             deserializer.new (T.content it.0)) }
         ensures refused { IfErr result (RefusesContent (λ (it : ImplicitPrimitive T TAG). T.content it.0) (primitive_form TAG)
             T.is_content
+            deserializer.old deserializer.new) }
+        ensures refused_by { IfErr result (RefusesBy (content_rule (primitive_form TAG) T.is_content)
             deserializer.old deserializer.new) }
     {
         let value = deserialize_contents_under(primitive_form(TAG), deserializer)?;

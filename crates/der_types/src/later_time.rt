@@ -118,7 +118,7 @@ impl Deserialize for LaterTime {
 
     ghost shape = { contents_shape 0x18 };
 
-    ghost facts = { contents_facts 0x18 (λ it. generalized_content it.at []) ⟦<Self as PartialEq>⟧.eq ⟦<Self as Contents>⟧.same };
+    ghost facts = { contents_facts 0x18 (λ it. generalized_content it.at []) ⟦<Self as PartialEq>⟧.eq is_later_time ⟦<Self as Contents>⟧.same };
 
     ghost proved = { Prim.assumption };
 

@@ -5,6 +5,7 @@ mod arcs;
 mod arrays;
 mod bit_string;
 mod bits;
+mod bound;
 mod character_set;
 mod characters;
 mod constraint;
@@ -47,6 +48,7 @@ mod width;
 
 pub use arcs::Arcs;
 pub use bit_string::BitString;
+pub use bound::{Bound, Minus, Plus};
 pub use character_set::{Ascii, CharacterSet, Unicode};
 pub use constraint::{Constrained, deserialize_constrained_as};
 pub use contents::{Contents, deserialize_contents_as, deserialize_contents_under};
@@ -56,13 +58,16 @@ pub use enumerated::Enumerated;
 pub use exact::Exact;
 pub use exact_choices::ExactAlternatives;
 pub use exact_constraints::{ExactNumber, ExactSize};
-pub use exact_contents::{ExactContents, StandardSet};
+pub use exact_contents::{ExactContents, NotatedSet};
 pub use exact_defaults::ExactDefault;
 pub use exact_members::{ExactMember, ExactMembers};
 pub use generalized_time::GeneralizedTime;
+pub use generated::at_least::AtLeast;
+pub use generated::at_most::AtMost;
 pub use generated::character_sets;
 pub use generated::in_range::InRange;
 pub use generated::other_than::OtherThan;
+pub use generated::outside::Outside;
 pub use generated::with_size::WithSize;
 pub use implicit_primitive::ImplicitPrimitive;
 pub use integer::Integer;
@@ -76,8 +81,9 @@ pub use oid_error::OidError;
 pub use picky_der_core::{Int, SignedBits};
 pub use relative_oid::RelativeOid;
 pub use restricted_string::{
-    BmpString, GeneralString, Ia5String, NumericString, PrintableString, RestrictedString,
-    TeletexString, UniversalString, VisibleString,
+    BmpString, GeneralString, GraphicString, Ia5String, NumericString, ObjectDescriptor,
+    PrintableString, RestrictedString, TeletexString, UniversalString, VideotexString,
+    VisibleString,
 };
 pub use set::{Asn1Set, ImplicitSet, TagOrdered};
 pub use size::Size;

@@ -4,15 +4,16 @@ ghost use Rattle.std.proofs.Common.{ap};
 ghost use Rattle.picky_der_core.specs.declared.asn1.wrapper.Wrapper.TheVariants as wrapper;
 ghost use Rattle.picky_der_core.specs.Tree.{ListKind};
 ghost use Rattle.picky_der_core.specs.Shape.{Shape, Layout, firsts_of};
+ghost use Rattle.picky_asn1_der.specs.LaterTags.{in_both_forms};
 ghost use Rattle.der_types.specs.Notation.{Notation, Member, Members, Alternatives, shape_of, layout_of, shapes_of};
 ghost use Rattle.der_types.specs.NotationLaws.{IsMember, one_or_other};
 
 use crate::{
-    CharacterSet, Contents, ImplicitPrimitive, ImplicitSet, InRange, NotatedDefault, OtherThan,
-    RestrictedString, Size, TagOrdered, WholeNumber, WithSize,
+    Contents, ImplicitPrimitive, ImplicitSet, NotatedDefault, NotatedSet, RestrictedString,
+    TagOrdered,
 };
 use picky_asn1_der::application_tag::ApplicationTag;
-use picky_asn1_der::{Asn1RawDer, LaterMembers};
+use picky_asn1_der::{Asn1RawDer, LaterMembers, LaterMembersFrom};
 use picky_der_core::asn1::{
     Asn1SequenceOf, Asn1SetOf, BitStringAsn1Container, ExplicitContextTag, ImplicitContextTag,
     ImplicitList, OctetStringAsn1Container, TaggedBytes,
@@ -63,10 +64,10 @@ pub trait NotatedAlternatives: Alternatives {
     ghost denoted_shapes: { Self.shapes ≡ shapes_of alternatives_notation };
 }
 
-impl<S: CharacterSet> Notated for RestrictedString<S> {
-    ghost notation = { Notation.restricted-string S.TAG };
+impl<S: NotatedSet> Notated for RestrictedString<S> {
+    ghost notation = { S.string };
 
-    ghost denoted = { refl };
+    ghost denoted = { S.is_set.shape };
 }
 
 impl<const TAG: u8> Notated for TaggedBytes<TAG> {
@@ -172,7 +173,13 @@ impl NotatedMembers for () {
 }
 
 impl<A: Alternatives> NotatedMembers for LaterMembers<A> {
-    ghost members_notation = { Members.others (firsts_of A.shapes) };
+    ghost members_notation = { Members.others (in_both_forms (firsts_of A.shapes)) };
+
+    ghost denoted_layout = { refl };
+}
+
+impl<const N: u8> NotatedMembers for LaterMembersFrom<N> {
+    ghost members_notation = { Members.others-from N };
 
     ghost denoted_layout = { refl };
 }

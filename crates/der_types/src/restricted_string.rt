@@ -4,12 +4,15 @@ ghost use Rattle.std.specs.Prelude.{IfErr};
 ghost use Rattle.std.specs.Cmp.Lexicographic.{bytes_decides};
 ghost use Rattle.std.specs.List.{list_all};
 ghost use Rattle.std.specs.Str.{encode_utf8_all};
-ghost use Rattle.picky_der_de.specs.Facts.{bytes_facts};
+ghost use Rattle.picky_der_de.specs.Facts.{bytes_facts, ruled};
 ghost use Rattle.der_types.specs.ContentsFacts.{contents_of, contents_shape};
-ghost use Rattle.der_types.specs.ContentTests.{ReadsContent, RefusesContent};
+ghost use Rattle.der_types.specs.ContentTests.{ReadsContent, RefusesContent, content_rule};
 ghost use Rattle.der_types.specs.CharacterStrings.{string_content, characters, is_string_content};
 
-use crate::character_sets::{Bmp, General, Ia5, Numeric, Printable, Teletex, Universal, Visible};
+use crate::character_sets::{
+    Bmp, Descriptor, General, Graphic, Ia5, Numeric, Printable, Teletex, Universal, Videotex,
+    Visible,
+};
 use crate::characters::{char_of, content_of, count_of, is_content, split_character};
 use crate::{Ascii, CharacterSet, Contents, Unicode, deserialize_contents_as};
 use picky_der_core::asn1::Tag;
@@ -51,6 +54,16 @@ pub type VisibleString = RestrictedString<Visible>;
 
 /// A text in any registered character sets, kept as any bytes. Which characters they are isn't checked.
 pub type GeneralString = RestrictedString<General>;
+
+/// A text in the character sets of videotex, kept as any bytes. Which characters they are isn't checked.
+pub type VideotexString = RestrictedString<Videotex>;
+
+/// A text in any registered character sets without control characters, kept as any bytes. Which characters they are
+/// isn't checked.
+pub type GraphicString = RestrictedString<Graphic>;
+
+/// A text about an object (X.680, 48), kept as any bytes. Which characters they are isn't checked.
+pub type ObjectDescriptor = RestrictedString<Descriptor>;
 
 /// A text in Unicode, with four bytes for each character.
 pub type UniversalString = RestrictedString<Universal>;
@@ -207,7 +220,7 @@ impl<S: CharacterSet> Serialize for RestrictedString<S> {
 impl<S: CharacterSet> Deserialize for RestrictedString<S> {
     ghost shape = { contents_shape S.TAG };
 
-    ghost facts = { bytes_facts S.TAG (λ it. it.content.items) };
+    ghost facts = { ruled (content_rule S.TAG (is_string_content S.WIDTH S.is_character)) (bytes_facts S.TAG (λ it. it.content.items)) };
 
     ghost proved = { Prim.assumption };
 

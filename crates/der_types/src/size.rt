@@ -6,9 +6,13 @@ ghost use Rattle.der_types.specs.BitString.{bits_of};
 ghost use Rattle.der_types.specs.CharacterStrings.{characters};
 ghost use Rattle.der_types.specs.Constraints.{tree_bytes};
 ghost use Rattle.der_types.specs.ConstraintLaws.{same_length};
+ghost use Rattle.der_types.specs.ExactConstraints.{same_meanings};
+ghost use Rattle.der_types.specs.PrimitiveForm.{primitive_form};
 
-use crate::{BitString, CharacterSet, GeneralizedTime, RestrictedString};
-use picky_der_core::asn1::{Asn1SequenceOf, Asn1SetOf, ByteBuf};
+use crate::{
+    BitString, CharacterSet, ExactContents, GeneralizedTime, ImplicitPrimitive, RestrictedString,
+};
+use picky_der_core::asn1::{Asn1SequenceOf, Asn1SetOf, ByteBuf, TaggedBytes};
 use picky_der_ser::Serialize;
 
 /// A type whose values have a size, as size constraints count it (X.680, 51.5.3).
@@ -50,6 +54,27 @@ impl Size for ByteBuf {
     }
 
     ghost determined = { λ x y e. ap (λ t. length (tree_bytes t)) e };
+}
+
+impl<const TAG: u8> Size for TaggedBytes<TAG> {
+    ghost size = { λ it. length it.0.items };
+
+    fn size(&self) -> u128 {
+        self.0.len() as u128
+    }
+
+    ghost determined = { λ x y e. ap (λ t. length (tree_bytes t)) e };
+}
+
+// The size of a content is the same under another tag.
+impl<T: ExactContents + Size, const TAG: u8> Size for ImplicitPrimitive<T, TAG> {
+    ghost size = { λ it. T.size it.0 };
+
+    fn size(&self) -> u128 {
+        self.0.size()
+    }
+
+    ghost determined = { λ x y e. T.determined x.0 y.0 (same_meanings T.own_contents T.exact_contents (primitive_form TAG) x.0 y.0 e) };
 }
 
 impl Size for String {

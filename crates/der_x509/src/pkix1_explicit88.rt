@@ -386,7 +386,7 @@ impl Serialize for Version {
 impl Deserialize for Version {
     ghost shape = { contents_shape 0x02 };
 
-    ghost facts = { contents_facts 0x02 (λ it. version_number it ∷ []) ⟦<Self as PartialEq>⟧.eq ⟦<Self as Contents>⟧.same };
+    ghost facts = { contents_facts 0x02 (λ it. version_number it ∷ []) ⟦<Self as PartialEq>⟧.eq ⟦<Self as Contents>⟧.is_content ⟦<Self as Contents>⟧.same };
 
     ghost proved = { Prim.assumption };
 

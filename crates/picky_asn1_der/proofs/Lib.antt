@@ -1,3 +1,4 @@
+mod LaterReads
 mod LaterWrites
 pub mod RawTags
 mod ListContents

@@ -4,11 +4,13 @@ use Rattle.std.proofs.Common.{take, drop, refl, sym, ap, subst, ◌∙◌, arith
 use Rattle.std.proofs.Common.{length-drop, take-append-drop}
 use Rattle.std.specs.Prelude.{Option, Some, None, slice_range, option_and_then}
 use Rattle.std.specs.List.{AllByRecursion, concat}
-use Rattle.std.proofs.lemmas.List.{drop_all}
+use Rattle.std.proofs.lemmas.List.{drop_all, length-take-le}
+use Rattle.std.proofs.lemmas.List.Folds.{concat-append}
 use Rattle.std.proofs.lemmas.Slice.{first_rest}
 use Rattle.std.proofs.Math.Seq.{take-length, take-append_seam, drop-append_seam}
 use Rattle.picky_der_core.specs.Element.{length_octets, tlv, IsElement, IsPrefix}
 use Rattle.picky_der_core.specs.ElementLaws.{length_octets_prefix}
+use Rattle.picky_der_core.specs.Tag.{number_of, IsTagNumber}
 use Rattle.picky_der_core.specs.declared.asn1.wrapper.Wrapper.{Wrapper}
 use Rattle.picky_der_core.specs.declared.asn1.wrapper.Wrapper.TheVariants.{OctetContainer, BitContainer, Explicit}
 use Rattle.picky_der_core.specs.declared.asn1.wrapper.Wrapper.TheVariants.{Implicit, Application, ImplicitList}
@@ -24,6 +26,7 @@ use Rattle.picky_der_core.specs.Readable.{IsReadable, AreReadable}
 use Rattle.picky_asn1_der.specs.declared.parts.Header.{Header}
 use Rattle.picky_asn1_der.specs.Parts.{tree_at, members_of, inside_wrapper, inside_implicit, part_at, HasMember}
 use Rattle.picky_asn1_der.specs.Parts.{IsHeaderOf, IsPiece, has_first_member, first_member_of, WithoutTag}
+use Rattle.picky_asn1_der.specs.Parts.{HasHeader, HasShortTag, IsMemberAt, IsPartAt}
 
 -- ---- headers
 
@@ -76,6 +79,38 @@ module _ (bytes : List ℕ) (tag : ℕ) (content rest : List ℕ) (is : bytes �
       content_len = content_len ∙ parts.0;
     }
 
+-- a length and a content of it are after the first byte
+pub has_header : (bytes : List ℕ) (n : ℕ) (left : List ℕ) → 1 ≤ length bytes
+    → slice_range bytes 1 (length bytes) ≡ length_octets n ++ left → n ≤ length left → (h : Header)
+    → h.len ≡ length bytes - length left → h.content_len ≡ n → HasHeader bytes h
+unfolding tlv
+has_header bytes n left some read enough h len content_len =
+    let size : length (take n left) ≡ n = length-take-le n left enough in
+    let octets : length_octets n ≡ length_octets (length (take n left)) = ap length_octets (sym size) in
+    let all : bytes ≡ get_or bytes 0 0 ∷ slice_range bytes 1 (length bytes) = first_rest bytes 0 some in
+    let split : slice_range bytes 1 (length bytes)
+    ≡ (length_octets (length (take n left)) ++ take n left) ++ drop n left =
+    read ∙ ap (λ l. length_octets n ++ l) (sym (take-append-drop n left))
+    ∙ ap (λ o. o ++ (take n left ++ drop n left)) octets
+    ∙ sym (append_assoc (length_octets (length (take n left))) (take n left) (drop n left)) in
+    record {
+      tag = get_or bytes 0 0;
+      content = take n left;
+      rest = drop n left;
+      is = all ∙ ap (λ s. get_or bytes 0 0 ∷ s) split;
+      header = record {
+        len = omega (
+          arith,
+          len,
+          ap length all,
+          ap length read,
+          length-append (length_octets n) left,
+          ap length octets,
+        );
+        content_len = content_len ∙ sym size;
+      };
+    }
+
 -- ---- elements
 
 length-element : (tag : ℕ) (content : List ℕ)
@@ -85,6 +120,10 @@ length-element tag content = omega (arith, length-append (length_octets (length 
 
 range_to_end : (bytes : List ℕ) (k : ℕ) → slice_range bytes k (length bytes) ≡ drop k bytes
 range_to_end bytes k = ap (λ n. take n (drop k bytes)) (sym (length-drop k bytes)) ∙ take-length (drop k bytes)
+
+no_bytes : (bs : List ℕ) → length bs ≡ 0 → bs ≡ []
+no_bytes [] e = refl
+no_bytes (b ∷ bs) e = absurd (omega (arith, e))
 
 -- the header of an element at the front says where this ends
 pub element_ends : (element content : List ℕ) (tag : ℕ) (h : Header) → element ≡ tlv tag content → IsHeaderOf content h
@@ -98,6 +137,47 @@ module _ (element rest bytes : List ℕ) (n : ℕ) (is : bytes ≡ element ++ re
 
   pub back_is : drop n bytes ≡ rest
   back_is = ap (λ k. drop k bytes) size ∙ ap (drop (length element)) is ∙ drop-append_seam element rest
+
+-- the element at the front has as many bytes as its header says
+module _ (bytes : List ℕ) (h : Header) (has : HasHeader bytes h) where
+  abbrev front_element : List ℕ
+  front_element = tlv has.tag has.content
+
+  pub front_size : h.len + h.content_len ≡ length front_element
+  front_size = element_ends front_element has.content has.tag h refl has.header
+
+  pub front_cut : (n : ℕ) → n ≡ h.len + h.content_len → take n bytes ≡ front_element
+  front_cut n e = front_is front_element has.rest bytes n has.is (e ∙ front_size)
+
+  -- nothing is after it
+  pub nothing_after : length bytes ≤ h.len + h.content_len → bytes ≡ front_element
+  nothing_after whole =
+      let none : length has.rest ≡ 0 =
+      omega (arith, front_size, ap length has.is, length-append front_element has.rest) in
+      has.is ∙ ap (λ r. front_element ++ r) (no_bytes has.rest none) ∙ append-nil front_element
+
+  -- the first byte is its tag
+  pub front_tagged : HasShortTag bytes → IsElement front_element
+  unfolding tlv
+  front_tagged short =
+      let same : short.tag ∷ short.rest ≡ has.tag ∷ ((length_octets (length has.content) ++ has.content) ++ has.rest) =
+      sym short.is ∙ has.is in
+      let tag : short.tag ≡ has.tag = cc in
+      record {
+        tag = has.tag;
+        content = has.content;
+        number = subst (λ t. IsTagNumber (number_of t)) tag short.number;
+        is = refl;
+      }
+
+pub element_tagged : (element rest bytes : List ℕ) → IsElement element → bytes ≡ element ++ rest → HasShortTag bytes
+unfolding tlv
+element_tagged element rest bytes one is = record {
+  tag = one.tag;
+  rest = (length_octets (length one.content) ++ one.content) ++ rest;
+  is = is ∙ ap (λ e. e ++ rest) one.is;
+  number = one.number;
+}
 
 -- what is after the header of an element is its content
 pub content_is : (element content : List ℕ) (tag : ℕ) (h : Header) → element ≡ tlv tag content → IsHeaderOf content h
@@ -114,6 +194,19 @@ pub record Skips (element : List ℕ) (index i : ℕ) (rest : List ℕ) : Type 0
       → HasMember (index - i) rest member
   pub front : List ℕ
   pub is : element ≡ front ++ rest
+  pub before : List (List ℕ)
+  pub elements : AllByRecursion IsElement before
+  pub count : length before ≡ i
+  pub within : i ≤ index
+  pub front_is : (h : Header) → HasHeader element h → front ≡ take h.len element ++ concat before
+
+all_and : (P : List ℕ → Type 0) (xs : List (List ℕ)) (x : List ℕ) → AllByRecursion P xs → P x
+    → AllByRecursion P (xs ++ (x ∷ []))
+all_and P [] x h p = (p, tt)
+all_and P (y ∷ ys) x h p = (h.0, all_and P ys x h.1 p)
+
+concat_and : (xs : List (List ℕ)) (x : List ℕ) → concat (xs ++ (x ∷ [])) ≡ concat xs ++ x
+concat_and xs x = concat-append xs (x ∷ []) ∙ ap (λ y. concat xs ++ y) (append-nil x)
 
 -- the first of some members, and those after it
 abbrev pub FirstOf : ℕ → List ℕ → List ℕ → Type 0
@@ -163,15 +256,22 @@ module _ (element : List ℕ) (index : ℕ) where
         subst (λ n. HasMember n (drop h.len element) member) all (subst (λ b. HasMember index b member) (sym same) has);
     front = take h.len element;
     is = sym (take-append-drop h.len element);
+    before = [];
+    elements = tt;
+    count = refl;
+    within = omega arith;
+    front_is = λ k has.
+        let own : IsHeaderOf has.content h = header has.tag has.content has.rest has.is in
+        ap (λ n. take n element) (own.len ∙ sym has.header.len) ∙ sym (append-nil (take k.len element));
   })
 
   module _ (i : ℕ) (rest : List ℕ) (s : Skips element index i rest) where
     -- one that could be there is found
     pub one_more : (pair : List ℕ × List ℕ) → i < index
         → ((e more : List ℕ) → IsElement e → rest ≡ e ++ more → (pair.0 ≡ e) × (pair.1 ≡ more))
-        → rest ≡ pair.0 ++ pair.1
+        → rest ≡ pair.0 ++ pair.1 → IsElement pair.0
         → Skips element index (i + 1) pair.1
-    one_more pair less splits all = record {
+    one_more pair less splits all one = record {
       found = λ tag content member is has.
           let first = first_member (index - i) rest member (omega arith) (s.found tag content member is has) in
           let same = (splits first.0 first.1 first.2 first.3).1 in
@@ -180,6 +280,13 @@ module _ (element : List ℕ) (index : ℕ) where
           (subst (λ b. HasMember (index - i - 1) b member) (sym same) first.4);
       front = s.front ++ pair.0;
       is = s.is ∙ ap (λ b. s.front ++ b) all ∙ sym (append_assoc s.front pair.0 pair.1);
+      before = s.before ++ (pair.0 ∷ []);
+      elements = all_and IsElement s.before pair.0 s.elements one;
+      count = omega (arith, length-append s.before (pair.0 ∷ []), s.count);
+      within = omega arith;
+      front_is = λ h has. ap (λ f. f ++ pair.0) (s.front_is h has)
+          ∙ append_assoc (take h.len element) (concat s.before) pair.0
+          ∙ ap (λ c. take h.len element ++ c) (sym (concat_and s.before pair.0));
     }
 
     pub some_more : i < index → ((e more : List ℕ) → IsElement e → rest ≡ e ++ more → ⊥)
@@ -220,6 +327,44 @@ module _ (element : List ℕ) (index : ℕ) where
       count = omega (arith, ap length s.is, length-append s.front rest);
       is = s.is ∙ ap (λ b. s.front ++ b) all;
     }
+
+    -- one that is there is the member
+    pub member_at : (h : Header) → (has : HasHeader element h) → length element ≤ h.len + h.content_len → index ≤ i
+        → (pair : List ℕ × List ℕ) → rest ≡ pair.0 ++ pair.1 → IsElement pair.0
+        → IsMemberAt index element (length element - length rest) pair.0
+    member_at h has whole here pair all one =
+        let is : element ≡ tlv has.tag has.content = nothing_after element h has whole in
+        let head = take h.len element in
+        let low : h.len ≤ length element =
+        omega (arith, has.header.len, ap length is, length-element has.tag has.content) in
+        let head_size : length head ≡ h.len = length-take-le h.len element low in
+        let split : element ≡ head ++ (concat s.before ++ rest) =
+        s.is ∙ ap (λ f. f ++ rest) (s.front_is h has) ∙ append_assoc head (concat s.before) rest in
+        let inside : drop h.len element ≡ concat s.before ++ rest =
+        back_is head (concat s.before ++ rest) element h.len split (sym head_size) in
+        let content : drop h.len element ≡ has.content = content_is element has.content has.tag h is has.header in
+        record {
+          tag = has.tag;
+          content = has.content;
+          is = is;
+          has = record {
+            before = s.before;
+            after = pair.1 ∷ [];
+            elements = s.elements;
+            element = one;
+            count = omega (arith, s.count, s.within);
+            is = sym content ∙ inside
+                ∙ ap (λ r. concat s.before ++ r) (all ∙ ap (λ m. pair.0 ++ m) (sym (append-nil pair.1)));
+          };
+          place = omega (
+            arith,
+            ap length split,
+            length-append head (concat s.before ++ rest),
+            length-append (concat s.before) rest,
+            head_size,
+            has.header.len,
+          );
+        }
 
 -- ---- parts of a tree
 
@@ -335,11 +480,19 @@ pub record Descends (encoding path : List ℕ) (i start : ℕ) (part : List ℕ)
   pub found : (t u : Tree) → IsReadable t → encoding ≡ der t → part_at path t ≡ Some u
       → (v : Tree) × IsReadable v × (part ≡ der v) × (part_at (drop i path) v ≡ Some u)
   pub piece : IsPiece encoding start part
+  pub leads : (inner : ℕ) (p : List ℕ) → IsPartAt (drop i path) part inner p
+      → IsPartAt path encoding (start + inner) p
+  pub alone : (offset : ℕ) (p : List ℕ) → IsPartAt path encoding offset p
+      → (inner : ℕ) × IsPartAt (drop i path) part inner p
 
 pub at_start : (encoding path : List ℕ) → Descends encoding path 0 0 encoding
 at_start encoding path = record {
   found = λ t u r is e. (t, r, is, e);
   piece = record { before = []; after = []; count = refl; is = sym (append-nil encoding) };
+  leads = λ inner p at.
+      let same : inner ≡ 0 + inner = omega arith in
+      subst (λ n. IsPartAt path encoding n p) same at;
+  alone = λ offset p at. (offset, at);
 }
 
 module _ (encoding path : List ℕ) (i start : ℕ) (part : List ℕ) (d : Descends encoding path i start part) where
@@ -365,11 +518,19 @@ module _ (encoding path : List ℕ) (i start : ℕ) (part : List ℕ) (d : Desce
         let next = next_part t u r is e in
         none next.3 next.4 (der next.0) next.5 next.6
 
+    pub nowhere : ((tag : ℕ) (content member : List ℕ) → part ≡ tlv tag content → HasMember index content member → ⊥)
+        → (offset : ℕ) (p : List ℕ) → IsPartAt path encoding offset p → ⊥
+    nowhere none offset p at =
+        let now = d.alone offset p at in
+        let next : IsPartAt (index ∷ drop (i + 1) path) part now.0 p =
+        subst (λ q. IsPartAt q part now.0 p) here now.1 in
+        none next.2.tag next.2.content next.1 next.2.is next.2.has
+
     pub goes_down : (before : ℕ) (member : List ℕ)
         → ((tag : ℕ) (content m : List ℕ) → part ≡ tlv tag content → HasMember index content m → member ≡ m)
-        → IsPiece part before member
+        → IsPiece part before member → IsMemberAt index part before member
         → Descends encoding path (i + 1) (start + before) member
-    goes_down before member found inner = record {
+    goes_down before member found inner at = record {
       found = λ t u r is e.
           let next = next_part t u r is e in
           (next.0, next.1, found next.3 next.4 (der next.0) next.5 next.6, next.2);
@@ -380,6 +541,17 @@ module _ (encoding path : List ℕ) (i start : ℕ) (part : List ℕ) (d : Desce
         is = d.piece.is ∙ ap (λ b. d.piece.before ++ (b ++ d.piece.after)) inner.is
             ∙ pieces d.piece.before inner.before member inner.after d.piece.after;
       };
+      leads = λ k p rest.
+          let sum : start + (before + k) ≡ start + before + k = omega arith in
+          let next : IsPartAt (index ∷ drop (i + 1) path) part (before + k) p = (before, member, at, k, rest, refl) in
+          subst (λ n. IsPartAt path encoding n p) sum
+          (d.leads (before + k) p (subst (λ q. IsPartAt q part (before + k) p) (sym here) next));
+      alone = λ offset p all.
+          let now = d.alone offset p all in
+          let next : IsPartAt (index ∷ drop (i + 1) path) part now.0 p =
+          subst (λ q. IsPartAt q part now.0 p) here now.1 in
+          let same : member ≡ next.1 = found next.2.tag next.2.content next.1 next.2.is next.2.has in
+          (next.3, subst (λ m. IsPartAt (drop (i + 1) path) m next.3 p) (sym same) next.4);
     }
       where
         pieces : (a b m c e : List ℕ) → a ++ ((b ++ (m ++ c)) ++ e) ≡ (a ++ b) ++ (m ++ (c ++ e))
@@ -408,6 +580,16 @@ module _ (encoding path : List ℕ) (i start : ℕ) (part : List ℕ) (d : Desce
       let last : Some now.0 ≡ Some u = subst (λ p. part_at p now.0 ≡ Some u) nothing now.3 in
       let same : now.0 ≡ u = cc in
       piece_is ∙ now.2 ∙ ap der same
+
+  pub found_here : length path ≤ i
+      → IsPartAt path encoding start (slice_range encoding start (start + length part))
+  found_here ended =
+      let nothing : drop i path ≡ [] = drop_all i path ended in
+      let here : IsPartAt (drop i path) part 0 part =
+      subst (λ q. IsPartAt q part 0 part) (sym nothing) (refl, refl) in
+      let zero_more : start + 0 ≡ start = omega arith in
+      subst (λ p. IsPartAt path encoding start p) (sym piece_is)
+      (subst (λ n. IsPartAt path encoding n part) zero_more (d.leads 0 part here))
 
 -- ---- first members
 

@@ -1,5 +1,5 @@
 -- Readable values are equal exactly if their encodings are.
-use Rattle.std.proofs.Common.{◌≡◌, List, [], Bool, true, sym, ap, ◌∙◌, append-nil}
+use Rattle.std.proofs.Common.{◌≡◌, [], Bool, true, sym, ap, ◌∙◌, append-nil}
 use Rattle.std.specs.Prelude.{◌↔◌}
 use Rattle.picky_der_core.proofs.Unique.{same_tree}
 use Rattle.picky_der_core.specs.Encoding.{der}

@@ -5,7 +5,8 @@ use Rattle.std.specs.List.{AllByRecursion, concat}
 use Rattle.picky_der_core.specs.declared.asn1.wrapper.Wrapper.{Wrapper}
 use Rattle.picky_der_core.specs.declared.asn1.wrapper.Wrapper.TheVariants.{OctetContainer, BitContainer, Explicit}
 use Rattle.picky_der_core.specs.declared.asn1.wrapper.Wrapper.TheVariants.{Implicit, Application, ImplicitList}
-use Rattle.picky_der_core.specs.Element.{length_octets, IsElement}
+use Rattle.picky_der_core.specs.Element.{length_octets, tlv, IsElement}
+use Rattle.picky_der_core.specs.Tag.{number_of, IsTagNumber}
 use Rattle.picky_der_core.specs.Tree.{ListKind, Tree, Trees}
 use Rattle.picky_der_core.specs.Encoding.{der}
 use Rattle.picky_der_core.specs.Shape.{Shape, Layout}
@@ -81,10 +82,39 @@ pub record HasMember (index : ℕ) (bytes member : List ℕ) : Type 0 where
   pub count : length before ≡ index
   pub is : bytes ≡ concat before ++ (member ++ concat after)
 
+-- the bytes are one element, which has this member with the index, after so many bytes
+pub record IsMemberAt (index : ℕ) (element : List ℕ) (offset : ℕ) (member : List ℕ) : Type 0 where
+  pub tag : ℕ
+  pub content : List ℕ
+  pub is : element ≡ tlv tag content
+  pub has : HasMember index content member
+  pub place : offset ≡ 1 + length (length_octets (length content)) + length (concat has.before)
+
+-- the part of an element to which a path leads, by the bytes alone, and how many bytes are before it
+abbrev pub IsPartAt : List ℕ → List ℕ → ℕ → List ℕ → Type 0
+IsPartAt [] element offset part = (offset ≡ 0) × (part ≡ element)
+IsPartAt (n ∷ path) element offset part = (before : ℕ) × (member : List ℕ) × IsMemberAt n element before member
+    × (inner : ℕ) × IsPartAt path member inner part × (offset ≡ before + inner)
+
 -- how many bytes are before this content, and in it
 pub record IsHeaderOf (content : List ℕ) (h : Header) : Type 0 where
   pub len : h.len ≡ 1 + length (length_octets (length content))
   pub content_len : h.content_len ≡ length content
+
+-- the bytes begin with an element, whose header this is
+pub record HasHeader (bytes : List ℕ) (h : Header) : Type 0 where
+  pub tag : ℕ
+  pub content : List ℕ
+  pub rest : List ℕ
+  pub is : bytes ≡ tlv tag content ++ rest
+  pub header : IsHeaderOf content h
+
+-- the bytes begin with a tag of the short form
+pub record HasShortTag (bytes : List ℕ) : Type 0 where
+  pub tag : ℕ
+  pub rest : List ℕ
+  pub is : bytes ≡ tag ∷ rest
+  pub number : IsTagNumber (number_of tag)
 
 -- a piece of the bytes, from this offset on
 pub record IsPiece (bytes : List ℕ) (offset : ℕ) (piece : List ℕ) : Type 0 where

@@ -10,7 +10,9 @@ ghost use Rattle.picky_der_de.specs.Faithful.{others_respect};
 ghost use Rattle.picky_der_de.specs.OtherLaws.{others_of};
 
 use crate::application_tag::ApplicationTag;
-use crate::{Alternatives, Asn1RawDer, Faithful, FaithfulMembers, Inhabited, LaterMembers};
+use crate::{
+    Alternatives, Asn1RawDer, Faithful, FaithfulMembers, Inhabited, LaterMembers, LaterMembersFrom,
+};
 use std::fmt::Debug;
 
 impl<V: Faithful + Debug, const T: u8> Faithful for ApplicationTag<V, T> {
@@ -31,6 +33,14 @@ impl Inhabited for Asn1RawDer {
 }
 
 impl<A: Alternatives> FaithfulMembers for LaterMembers<A> {
+    ghost sameness = { plain_members (λ x y. pointwise (λ a b. pointwise eqb a.0.items b.0.items) x.elements.items y.elements.items
+        ∷ []) (λ it. others_of (λ raw. raw.0.items) it.elements.items)
+        (others_respect (λ raw. raw.0.items) (λ it. it.elements.items)) };
+
+    ghost respects = { Prim.assumption };
+}
+
+impl<const N: u8> FaithfulMembers for LaterMembersFrom<N> {
     ghost sameness = { plain_members (λ x y. pointwise (λ a b. pointwise eqb a.0.items b.0.items) x.elements.items y.elements.items
         ∷ []) (λ it. others_of (λ raw. raw.0.items) it.elements.items)
         (others_respect (λ raw. raw.0.items) (λ it. it.elements.items)) };

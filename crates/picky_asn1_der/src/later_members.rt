@@ -1,12 +1,13 @@
 //! Members of later versions, after the members that a struct knows.
-ghost use Rattle.std.specs.Prelude.{◌≡◌, [], true, false, None, IfOk, IfErr, IfSome, IfNone, OnOk};
+ghost use Rattle.std.specs.Prelude.{◌≡◌, ◌↔◌, [], true, false, None, IsTrue, IfOk, IfErr, IfSome, IfNone, OnOk};
 ghost use Rattle.std.specs.Cmp.Lexicographic.{pointwise};
 ghost use Rattle.picky_der_core.specs.Equality.{IsThatOf};
-ghost use Rattle.picky_der_core.specs.Shape.{Shape, Layout, firsts_of};
+ghost use Rattle.picky_der_core.specs.Shape.{Shape, Layout, contains, firsts_of};
 ghost use Rattle.picky_der_de.specs.MembersFacts.{others_facts};
 ghost use Rattle.picky_der_de.specs.Layouts.{Lacks, RefusesLayout};
 ghost use Rattle.picky_der_de.specs.OtherLaws.{are_outside, others_of};
 ghost use Rattle.picky_der_de.specs.SequenceState.{borrowed_by, outer_of, state_of};
+ghost use Rattle.picky_asn1_der.specs.LaterTags.{in_both_forms, other_form};
 
 use crate::Asn1RawDer;
 use picky_der_core::asn1::Tag;
@@ -22,7 +23,9 @@ use std::marker::PhantomData;
 ///
 /// `A` has the types of the members directly before them that may be absent. After an `Optional<B>` and an
 /// `Optional<C>` it is `OneOf<B, OneOf<C, NoneOf>>`. After a member that is always there it is `NoneOf`. The first
-/// element begins with no byte that begins a value of these types.
+/// element has the tag of no value of these types, whether it is primitive or constructed (25.6, and X.690, 8.1.2.5).
+///
+/// Where the tags are automatic, `LaterMembersFrom` is the type of these members.
 #[derive(Drop)]
 #[derive_where(Debug, PartialEq, Eq)]
 pub struct LaterMembers<A: Alternatives> {
@@ -30,12 +33,31 @@ pub struct LaterMembers<A: Alternatives> {
     pub elements: Vec<Asn1RawDer>,
     #[derive_where(skip)]
     before: PhantomData<A>,
-    ghost outside: { are_outside (firsts_of A.shapes) (λ raw. raw.0.items) elements.items ≡ true },
+    ghost outside: { are_outside (in_both_forms (firsts_of A.shapes)) (λ raw. raw.0.items) elements.items ≡ true },
 }
 
-// Whether the first element begins with no byte that begins a value of `A`.
+// The same tag on an encoding of the other form.
+fn other_form(tag: Tag) -> Tag
+    ensures { result ≡ other_form tag }
+{
+    let byte = tag.inner();
+    Tag::from(if tag.is_constructed() {
+        byte - 0x20
+    } else {
+        byte + 0x20
+    })
+}
+
+// Whether a value of `A` can have this tag, on an encoding of either form.
+fn has_tag<A: Alternatives>(tag: Tag) -> bool
+    ensures { IsTrue result ↔ IsTrue (contains (in_both_forms (firsts_of A.shapes)) tag) }
+{
+    A::begins_with(tag) || A::begins_with(other_form(tag))
+}
+
+// Whether the first element has the tag of no value of `A`.
 fn are_outside<A: Alternatives>(elements: &[Asn1RawDer]) -> bool
-    ensures { result ≡ are_outside (firsts_of A.shapes) (λ raw. raw.0.items) elements.now }
+    ensures { result ≡ are_outside (in_both_forms (firsts_of A.shapes)) (λ raw. raw.0.items) elements.now }
 {
     let Some(first) = elements.first() else {
         return true;
@@ -43,7 +65,7 @@ fn are_outside<A: Alternatives>(elements: &[Asn1RawDer]) -> bool
     let Some(byte) = first.0.first() else {
         return true;
     };
-    !A::begins_with(Tag::from(*byte))
+    !has_tag::<A>(Tag::from(*byte))
 }
 
 impl<A: Alternatives> LaterMembers<A> {
@@ -63,10 +85,10 @@ impl<A: Alternatives> LaterMembers<A> {
         }
     }
 
-    /// These elements, or `None` if the first of them begins with a byte that begins a value of `A`.
+    /// These elements, or `None` if the first of them has the tag of a value of `A`.
     pub fn new(elements: Vec<Asn1RawDer>) -> Option<LaterMembers<A>>
         ensures some { IfSome result (λ it. it.elements ≡ elements) }
-        ensures none { IfNone result (are_outside (firsts_of A.shapes) (λ raw. raw.0.items)
+        ensures none { IfNone result (are_outside (in_both_forms (firsts_of A.shapes)) (λ raw. raw.0.items)
             elements.items ≡ false) }
     {
         if are_outside::<A>(&elements) {
@@ -94,7 +116,7 @@ impl<A: Alternatives> SerializeMembers for LaterMembers<A> {
     }
 }
 
-// Looks at the next byte. One that begins a value of `A` is refused.
+// Looks at the next byte. One of the tag of a value of `A` is refused.
 fn refuse_excluded<A: Alternatives, R: ReadExt>(
     sequence: &mut picky_der_de::Sequence<'_, R>,
 ) -> Result<()>
@@ -104,11 +126,11 @@ fn refuse_excluded<A: Alternatives, R: ReadExt>(
     ensures ok { OnOk result (Lacks (Shape.choice A.shapes) (state_of sequence.old)
         (state_of sequence.new)) }
     ensures err { IfErr result (RefusesLayout ⟦<LaterMembers<A> as SerializeMembers>⟧.members
-        (Layout.others (firsts_of A.shapes)) (state_of sequence.old) (state_of sequence.new)) }
+        (Layout.others (in_both_forms (firsts_of A.shapes))) (state_of sequence.old) (state_of sequence.new)) }
 {
     match sequence.next_tag() {
         Ok(Some(tag)) => {
-            if A::begins_with(tag) {
+            if has_tag::<A>(tag) {
                 return Err(sequence.refuse(Asn1DerError::InvalidData));
             }
             Ok(())
@@ -119,9 +141,10 @@ fn refuse_excluded<A: Alternatives, R: ReadExt>(
 }
 
 impl<A: Alternatives> DeserializeMembers for LaterMembers<A> {
-    ghost layout = { Layout.others (firsts_of A.shapes) };
+    ghost layout = { Layout.others (in_both_forms (firsts_of A.shapes)) };
 
-    ghost facts = { others_facts (λ raw. raw.0.items) (firsts_of A.shapes) (λ it. it.elements.items) (λ it. it.outside) };
+    ghost facts = { others_facts (λ raw. raw.0.items) (in_both_forms (firsts_of A.shapes)) (λ it. it.elements.items)
+        (λ it. it.outside) };
 
     fn deserialize_members<R: ReadExt>(
         sequence: &mut picky_der_de::Sequence<'_, R>,

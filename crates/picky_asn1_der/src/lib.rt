@@ -28,11 +28,13 @@ pub mod ser {
 mod faithful;
 pub mod implicit_list;
 pub mod later_members;
+pub mod later_members_from;
 pub mod parts;
 pub mod raw_der;
 pub mod round_trip;
 
 pub use later_members::LaterMembers;
+pub use later_members_from::LaterMembersFrom;
 pub use parts::{Signed, from_der_signed, part_range};
 pub use picky_der_core::misc::Length;
 pub use picky_der_core::{Asn1DerError, Result, asn1, laws, misc};

@@ -26,6 +26,7 @@ use Rattle.picky_der_de.proofs.Steps.{consumes_beside, fails_beside, fails_after
 use Rattle.picky_der_de.proofs.Refusals.{concerns_after, failed_grows, missing_here, missing_first, consumed_first}
 use Rattle.picky_der_de.proofs.KnownBytes.{front_of, just_consumed, just_missing}
 use Rattle.picky_der_de.proofs.Headers.{is_number, same_byte, length_tlv, header_unread}
+use Rattle.picky_der_de.proofs.PlainRuled.{raw_refuses}
 use Rattle.picky_der_de.proofs.PlainReads.{refuses_header, refuses_cut, reads_plain}
 use Rattle.picky_der_de.specs.PlainKindLaws.{bytes_kind}
 
@@ -114,76 +115,68 @@ refuses_tagged : {a b c : State} {e : Asn1DerError} {tag : ℕ} {x : List ℕ}
     → Consumed (without_implicit_tag a) b (tag ∷ x) → b.consumed ≤ fetched_count c → IsTagNumber (number_of tag)
     → tag < 256
     → RefusesPrimitive (Primitive.bytes tag) (PrimitiveShape.bytes tag) (without_implicit_tag a) c e → RefusesRaw a c e
-refuses_tagged {a} {b} {c} {e} {tag} {x} t g n byte h = record {
-  refuses = record {
-    fails = fails_with_implicit_tag h.refuses.fails;
-    none = λ j end bs w s st.
-        let v = concerns_after t g (concerns_without_implicit_tag w) in
-        let q = at_front_tagged s v.begins st in
-        h.refuses.none (judged_without_implicit_tag j) end bs (concerns_without_implicit_tag w) q.1.0 q.1.1;
-    first = λ j k d l y left i. subst (IsFirst Shape.raw) (sym (consumed_first a.input b.input tag y x left t.input i))
-        (first_of_raw tag n byte);
-  };
-  just = λ j bs k.
-      let q = h.just (judged_without_implicit_tag j) bs k in
-      let f = front_of t k in
-      record {
-        left = q.left;
-        refused = ap (raw_refusal a) f.before
-            ∙ element_plain tag (is_hard a.end) a.until_end (x ++ take b.until_end f.rest) n
-            ∙ ap (refusal_at tag bytes_error (without_implicit_tag a)) (sym f.before) ∙ q.refused;
-        input = q.input;
-        kept = q.kept;
-        used = q.used;
-      };
-}
+refuses_tagged {a} {b} {c} {e} {tag} {x} t g n byte h = raw_refuses (record {
+  fails = fails_with_implicit_tag h.refuses.fails;
+  none = λ j end bs w s st.
+      let v = concerns_after t g (concerns_without_implicit_tag w) in
+      let q = at_front_tagged s v.begins st in
+      h.refuses.none (judged_without_implicit_tag j) end bs (concerns_without_implicit_tag w) q.1.0 q.1.1;
+  first = λ j k d l y left i. subst (IsFirst Shape.raw) (sym (consumed_first a.input b.input tag y x left t.input i))
+      (first_of_raw tag n byte);
+}) (λ j bs k.
+    let q = h.just (judged_without_implicit_tag j) bs k in
+    let f = front_of t k in
+    record {
+      left = q.left;
+      refused = ap (raw_refusal a) f.before
+          ∙ element_plain tag (is_hard a.end) a.until_end (x ++ take b.until_end f.rest) n
+          ∙ ap (refusal_at tag bytes_error (without_implicit_tag a)) (sym f.before) ∙ q.refused;
+      input = q.input;
+      kept = q.kept;
+      used = q.used;
+    })
 
 -- no byte came
 pub raw_missing : {a c : State} {e : Asn1DerError} → Fails (without_implicit_tag a) c e
     → (IsJudged a c e → IsMissing (without_implicit_tag a) e) → Keeps a.input c.input → c.consumed ≡ a.consumed
     → c.peeked ≡ a.peeked → RefusesRaw a c e
-raw_missing {a} {c} {e} f m i t p = record {
-  refuses = record {
-    fails = fails_with_implicit_tag f;
-    none = λ j end bs w s st. none j w s st;
-    first = λ j k d l b left q. absurd (missing_first (without_implicit_tag a) (m j) l q);
-  };
-  just = λ j bs k. just_with_implicit_tag
-      (just_missing (raw_refusal a) (m j) i t p k (λ is. ap (λ x. Some (x, [])) is));
-} where
-  none : IsJudged a c e → {end : ℕ} {bs : List ℕ} → Concerns a c e end bs → (s : List ℕ)
-      → IsAtFront (place_of a) Shape.raw bs end (Tree.raw s) → ⊥
-  none j {end} {bs} w s st =
-      let r : IsElement s = st.readable.0 in
-      let size = ap length (written_raw (place_of a) s ∙ r.is) in
-      let whole = length_tlv r.tag r.content in
-      elim (missing_here (m j) (concerns_without_implicit_tag w)) [
-        | inl here ↦ omega (arith, st.within, size, whole, here)
-        | inr ended ↦ omega (
-          arith,
-          size,
-          whole,
-          ap length (sym st.front.is ∙ ended),
-          length-append (written_at (place_of a) (Tree.raw s)) st.front.rest,
-        )
-      ]
+raw_missing {a} {c} {e} f m i t p = raw_refuses (record {
+  fails = fails_with_implicit_tag f;
+  none = λ j end bs w s st. none j w s st;
+  first = λ j k d l b left q. absurd (missing_first (without_implicit_tag a) (m j) l q);
+}) (λ j bs k. just_with_implicit_tag
+    (just_missing (raw_refusal a) (m j) i t p k (λ is. ap (λ x. Some (x, [])) is)))
+  where
+    none : IsJudged a c e → {end : ℕ} {bs : List ℕ} → Concerns a c e end bs → (s : List ℕ)
+        → IsAtFront (place_of a) Shape.raw bs end (Tree.raw s) → ⊥
+    none j {end} {bs} w s st =
+        let r : IsElement s = st.readable.0 in
+        let size = ap length (written_raw (place_of a) s ∙ r.is) in
+        let whole = length_tlv r.tag r.content in
+        elim (missing_here (m j) (concerns_without_implicit_tag w)) [
+          | inl here ↦ omega (arith, st.within, size, whole, here)
+          | inr ended ↦ omega (
+            arith,
+            size,
+            whole,
+            ap length (sym st.front.is ∙ ended),
+            length-append (written_at (place_of a) (Tree.raw s)) st.front.rest,
+          )
+        ]
 
 -- a tag of the long form was consumed
 pub raw_long_form : {a b c : State} {e : Asn1DerError} {first : ℕ} → Consumed (without_implicit_tag a) b (first ∷ [])
     → 30 < number_of first → Fails b c e → e ≡ UnsupportedValue → c ≡ failed_with b e → RefusesRaw a c e
-raw_long_form {a} {first = first} t past f is same = record {
-  refuses = record {
-    fails = fails_with_implicit_tag (fails_after t f);
-    none = λ j end bs w s st.
-        let v = concerns_after t (failed_grows f) (concerns_without_implicit_tag w) in
-        let q = at_front_tagged s v.begins st in
-        omega (arith, q.0, past);
-    first = λ j k d l b left q. absurd (let r : UnsupportedValue ≡ TruncatedData = sym is ∙ k in cc);
-  };
-  just = λ j bs k. just_with_implicit_tag
-      (just_consumed (raw_refusal a) t same k (λ y. element_long_form first (is_hard a.end) a.until_end y past
-      ∙ ap (λ x. Some (x, y)) (sym is)));
-}
+raw_long_form {a} {first = first} t past f is same = raw_refuses (record {
+  fails = fails_with_implicit_tag (fails_after t f);
+  none = λ j end bs w s st.
+      let v = concerns_after t (failed_grows f) (concerns_without_implicit_tag w) in
+      let q = at_front_tagged s v.begins st in
+      omega (arith, q.0, past);
+  first = λ j k d l b left q. absurd (let r : UnsupportedValue ≡ TruncatedData = sym is ∙ k in cc);
+}) (λ j bs k. just_with_implicit_tag
+    (just_consumed (raw_refusal a) t same k (λ y. element_long_form first (is_hard a.end) a.until_end y past
+    ∙ ap (λ x. Some (x, y)) (sym is))))
 
 -- the length after the tag was refused
 pub raw_no_length : {a b c : State} {e : Asn1DerError} {tag : ℕ} → Consumed (without_implicit_tag a) b (tag ∷ [])

@@ -15,6 +15,7 @@ use Rattle.picky_der_core.proofs.Unique.{same_tree}
 use Rattle.picky_der_de.specs.State.{State}
 use Rattle.picky_der_de.specs.Steps.{Consumed, Fails, IsJudged}
 use Rattle.picky_der_de.specs.Order.{AreInOrder, without_order}
+use Rattle.picky_der_de.specs.RefusesBy.{Rule}
 use Rattle.picky_der_de.specs.Reading.{Concerns, Reads, Refuses}
 use Rattle.picky_der_de.specs.Ends.{EnclosingEnd, Closes, RefusesClose, OpensList, RefusesList}
 use Rattle.picky_der_de.specs.LookAhead.{Peeks, IdentifiesIn, Identifies, RefusesIdentifier}
@@ -212,7 +213,8 @@ layout_none {b} d = record {
 
 module _ {V W : Type 0} (meaning : W → Tree) {s : Shape} {l : Layout} (item : V → Option W) (there : (v : V)
     → IfNone (item v) ⊥) where
-  required_head : (others : V → Trees) {c d : State} {e : Asn1DerError} → RefusesMember meaning s c d e
+  required_head : {rule : Rule} (others : V → Trees) {c d : State} {e : Asn1DerError}
+      → RefusesMember meaning s rule c d e
       → RefusesLayout (λ v. maybe_more meaning (item v) (others v)) (Layout.required s l) c d e
   required_head others {c} r = record { rest = rest_head (λ v p. unread v (item v) (there v) p.1) r }
     where
@@ -321,7 +323,8 @@ module _ {V W U : Type 0} (meaning : W → Tree) (others : U → Trees) (s : Sha
   }
 
   -- no tag was there, or the member was refused
-  maybe_head : {b d : State} {e : Asn1DerError} → b.implicit_tag ≡ None → RefusesOptional meaning s b d e
+  maybe_head : {rule : Rule} {b d : State} {e : Asn1DerError} → b.implicit_tag ≡ None
+      → RefusesOptional meaning s rule b d e
       → RefusesLayout (λ v. maybe_more meaning (part v) (others (rest v))) (Layout.maybe s l) b d e
   maybe_head whole (no_tag h ahead) = indistinct_refused h ahead
   maybe_head whole (no_member mid tag i own r) =
@@ -475,7 +478,8 @@ module _ {V W U : Type 0} (meaning : W → Tree) (left_out : W → Bool) (others
         let never : false ≡ true = sym q ∙ out in
         cc
 
-    default_head : {b d : State} {e : Asn1DerError} → b.implicit_tag ≡ None → RefusesDefault meaning left_out s b d e
+    default_head : {rule : Rule} {b d : State} {e : Asn1DerError} → b.implicit_tag ≡ None
+        → RefusesDefault meaning left_out s rule b d e
         → RefusesLayout (λ v. maybe_more meaning (item v) (others (rest v))) (Layout.maybe s l) b d e
     default_head whole (as_optional h) = maybe_head meaning others s l item rest begins begin whole h
     default_head whole (written_out c x is r _ f) = record {
@@ -515,15 +519,16 @@ module _ {W X : Type 0} {presence : Presence} {prepend : X → Trees → Trees} 
       by_presence always (Some w) t r h = required_read r n
       by_presence perhaps o t r h = maybe_read meaning o whole r h n
 
-  pub layout_member_head : {left_out : W → Bool} → IsLeftOut meaning item left_out
+  pub layout_member_head : (rule : Rule) {left_out : W → Bool} → IsLeftOut meaning item left_out
       → {V : Type 0} {others : V → Trees} {l : Layout} {AreEqual : V → V → Type 0} (first : V → X)
       → AreLayoutMembers others l AreEqual → {b d : State} {e : Asn1DerError} → b.implicit_tag ≡ None
-      → RefusesLayoutMember presence meaning left_out s b d e
+      → RefusesLayoutMember presence meaning left_out s rule b d e
       → RefusesLayout (λ v. prepend (first v) (others v)) (layout_with presence s l) b d e
-  layout_member_head {left_out} left {V} {others} {l} first cs {b} {d} {e} whole h =
+  layout_member_head rule {left_out} left {V} {others} {l} first cs {b} {d} {e} whole h =
       refuses_alike (λ v. c.prepends (first v) (others v)) (by_presence presence c.there h)
     where
-      by_presence : (p : Presence) → ((x : X) → IsThere p (item x)) → RefusesLayoutMember p meaning left_out s b d e
+      by_presence : (p : Presence) → ((x : X) → IsThere p (item x))
+          → RefusesLayoutMember p meaning left_out s rule b d e
           → RefusesLayout (λ v. maybe_more meaning (item (first v)) (others v)) (layout_with p s l) b d e
       by_presence always there h = required_head meaning (λ v. item (first v)) (λ v. there (first v)) others h
       by_presence perhaps there h =

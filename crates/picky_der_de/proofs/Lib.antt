@@ -4,6 +4,7 @@ pub mod Contents
 pub mod Refusals
 pub mod KnownBytes
 pub mod Headers
+pub mod PlainRuled
 pub mod PlainReads
 pub mod Elements
 pub mod Ends
@@ -21,3 +22,7 @@ pub mod LayoutReads
 pub mod OtherReads
 pub mod ListReads
 pub mod SetOrder
+pub mod WrapperRuled
+pub mod MemberRuled
+pub mod ChoiceRuled
+pub mod WholeRuled

@@ -12,6 +12,7 @@ use Rattle.picky_der_ser.specs.Sequences.{IsListTag, list_kind}
 use Rattle.picky_der_de.specs.State.{State}
 use Rattle.picky_der_de.specs.Steps.{Consumed, Fails, IsJudged, place_of}
 use Rattle.picky_der_de.specs.Order.{AreInOrder, without_order}
+use Rattle.picky_der_de.specs.RefusesBy.{Rule}
 use Rattle.picky_der_de.specs.Reading.{Reads, Refuses}
 use Rattle.picky_der_de.specs.Ends.{EnclosingEnd, Closes, RefusesClose, OpensList, RefusesList}
 use Rattle.picky_der_de.specs.Members.{ReadsMember, RefusesMember, HasNoMore, members_encoding, AreBefore}
@@ -85,9 +86,9 @@ leads-all meaning a b vs h = subst (AreInOrder a.sets) (append-nil (encodings (t
 -- ---- refused
 
 -- the next member was refused
-pub all_refused : {V : Type 0} {meaning : V → Tree} {s : Shape} {c d : State} {e : Asn1DerError}
-    → RefusesMember meaning s c d e → IsAhead c → RefusesAll meaning s c d e
-all_refused {V} {meaning} {s} {c} {d} {e} r ahead = record { rest = rest_head unread r; lesser = lesser }
+pub all_refused : {V : Type 0} {meaning : V → Tree} {s : Shape} {rule : Rule} {c d : State} {e : Asn1DerError}
+    → RefusesMember meaning s rule c d e → IsAhead c → RefusesAll meaning s c d e
+all_refused {V} {meaning} {s} {rule} {c} {d} {e} r ahead = record { rest = rest_head unread r; lesser = lesser }
   where
     unread : (vs : List V) → EachIs (IsOf s) (trees (map meaning vs)) → AreReadable (trees (map meaning vs))
         → FirstIsUnread meaning s (IsAhead c) (trees (map meaning vs))
@@ -289,9 +290,9 @@ times_left {V} meaning s {c} {d} {e} f left = record { fails = f; none = none }
     none j (v ∷ vs) of_shape readable order w = of_shape
 
 -- the next member was refused
-pub times_refused : {V : Type 0} {meaning : V → Tree} {s : Shape} {c d : State} {e : Asn1DerError} (n : ℕ)
-    → RefusesMember meaning s c d e → RefusesTimes meaning (suc n) s c d e
-times_refused {V} {meaning} {s} {c} n = rest_head unread
+pub times_refused : {V : Type 0} {meaning : V → Tree} {s : Shape} {rule : Rule} {c d : State} {e : Asn1DerError} (n : ℕ)
+    → RefusesMember meaning s rule c d e → RefusesTimes meaning (suc n) s c d e
+times_refused {V} {meaning} {s} {rule} {c} n = rest_head unread
   where
     unread : (vs : List V) → AreMembersOf (times (suc n) s) (trees (map meaning vs))
         → AreReadable (trees (map meaning vs)) → FirstIsUnread meaning s (IsAhead c) (trees (map meaning vs))
@@ -361,10 +362,11 @@ first_all meaning s {a} {b} n vs same h = record {
 }
 
 -- the next member was refused
-pub first_refused : {V : Type 0} {meaning : V → Tree} {s : Shape} {a b d : State} {e : Asn1DerError} (n : ℕ)
-    (vs : List V) → ReadsFirst meaning s a b vs → length vs < n → RefusesMember meaning s b d e
+pub first_refused : {V : Type 0} {meaning : V → Tree} {s : Shape} {rule : Rule} {a b d : State} {e : Asn1DerError}
+    (n : ℕ)
+    (vs : List V) → ReadsFirst meaning s a b vs → length vs < n → RefusesMember meaning s rule b d e
     → RefusesTimes meaning n s a d e
-first_refused {V} {meaning} {s} {a} {b} {d} {e} n vs h l r =
+first_refused {V} {meaning} {s} {rule} {a} {b} {d} {e} n vs h l r =
     subst (λ m. RefusesTimes meaning m s a d e) (omega arith)
     (h.refuses (suc (n - suc (length vs))) d e (times_refused (n - suc (length vs)) r))
 

@@ -12,7 +12,10 @@ use Rattle.picky_der_core.specs.Shape.{Shape, IsOf, IsFirst}
 use Rattle.picky_der_core.specs.Reading.{Place, written_at, IsAtFront}
 use Rattle.picky_der_de.specs.declared.end.End.TheVariants.{Soft}
 use Rattle.picky_der_de.specs.State.{OpenSets, State}
-use Rattle.picky_der_de.specs.Steps.{Consumed, Fails, IsJudged, place_in, place_of, fetched_count}
+use Rattle.picky_der_de.specs.Steps.{Consumed, Fails, IsJudged, failed_with, place_in, place_of, fetched_count}
+use Rattle.picky_der_de.specs.RefusesBy.{Rule, RefusesBy}
+use Rattle.picky_der_de.proofs.PlainRuled.{same_left}
+use Rattle.picky_der_de.specs.Rules.{field_rule, missing, refused}
 use Rattle.picky_der_de.specs.Order.{order_of, sets_inside, is_out_of_order, with_last, AreInOrder, without_order}
 use Rattle.picky_der_de.specs.Order.{RefusesTest, out_of_order, without_memory}
 use Rattle.picky_der_de.specs.Reading.{Concerns, now, ever, Reads, Refuses}
@@ -51,7 +54,7 @@ pub no_members_in_order : (l : OpenSets) → AreInOrder l (encodings Trees.none)
 unfolding tree_bytes
 no_members_in_order l = order_none l
 
-first_in_order : (l : OpenSets) (t : Tree) (ts : Trees) → AreInOrder l (encodings (Trees.more t ts))
+pub first_in_order : (l : OpenSets) (t : Tree) (ts : Trees) → AreInOrder l (encodings (Trees.more t ts))
     → is_out_of_order l (der t) ≡ false
 first_in_order l t ts h = order_first l (der t) (encodings ts) (subst (AreInOrder l) (encodings-more t ts) h)
 
@@ -111,8 +114,8 @@ pub member_ahead : {s : Shape} {b c : State} {t : Tree} → ReadsMember s b c t 
 member_ahead {t = t} r = omega (arith, (consumes_member r).until_end, length-der t r.reads.readable)
 
 -- it had failed before
-pub member_again : {V : Type 0} {meaning : V → Tree} {s : Shape} {a : State} {e : Asn1DerError}
-    → a.failed ≡ Some (failure_of e) → RefusesMember meaning s a a e
+pub member_again : {V : Type 0} {meaning : V → Tree} {s : Shape} {rule : Rule} {a : State} {e : Asn1DerError}
+    → a.failed ≡ Some (failure_of e) → RefusesMember meaning s rule a a e
 member_again {a = a} {e = e} h =
     let no : a.failed ≡ None → ⊥ = λ w. let q : None ≡ Some (failure_of e) = sym w ∙ h in cc in
     record {
@@ -122,27 +125,28 @@ member_again {a = a} {e = e} h =
         none = λ j. absurd (no j.had_not_failed);
         first =
             λ j. absurd (no j.had_not_failed);
-      });
+      }) (λ j. absurd (no j.had_not_failed));
       implicit_tag = λ w. absurd (no w);
     }
 
 -- its type refused it
-pub member_unread : {V : Type 0} {meaning : V → Tree} {s : Shape} {a c : State} {e : Asn1DerError}
-    → Refuses meaning s a c e → (a.failed ≡ None → a.implicit_tag ≡ None) → RefusesMember meaning s a c e
-member_unread r d = record { fails = r.fails; refuses = no_value r; implicit_tag = d }
+pub member_unread : {V : Type 0} {meaning : V → Tree} {s : Shape} {rule : Rule} {a c : State} {e : Asn1DerError}
+    → Refuses meaning s a c e → RefusesBy rule a c e → (a.failed ≡ None → a.implicit_tag ≡ None)
+    → RefusesMember meaning s rule a c e
+member_unread r by d = record { fails = r.fails; refuses = no_value r by; implicit_tag = d }
 
 test_fails : {m : List ℕ} {b c : State} {e : Asn1DerError} → RefusesTest m b c e → Fails b c e
 test_fails (out_of_order h) = h.fails
 test_fails (without_memory n f is same) = f
 
 -- it was read, and then refused
-pub member_untested : {V : Type 0} {meaning : V → Tree} {s : Shape} {a b c : State} {t : Tree} {e : Asn1DerError}
-    → Reads s a b t → RefusesTest (der t) b c e → (a.failed ≡ None → a.implicit_tag ≡ None)
-    → RefusesMember meaning s a c e
-member_untested {b = b} {t = t} r h d = record {
+pub member_untested : {V : Type 0} {meaning : V → Tree} {s : Shape} {rule : Rule} {a b c : State} {e : Asn1DerError}
+    (v : V) → Reads s a b (meaning v) → RefusesTest (der (meaning v)) b c e
+    → (a.failed ≡ None → a.implicit_tag ≡ None) → RefusesMember meaning s rule a c e
+member_untested {b = b} v r h d = record {
   fails = fails_after r.consumes (test_fails h);
   refuses =
-      after_value b t r h;
+      after_value b v r h;
   implicit_tag = d;
 }
 
@@ -154,14 +158,27 @@ nothing_here meaning v z is (now i r) st = omega (arith, st.within, length-der (
 nothing_here meaning v z is (ever n r d y left i q f) st = n is
 
 -- a member was wanted at the end
-pub member_missing : {V : Type 0} {meaning : V → Tree} {s : Shape} {a b c : State} {e : Asn1DerError} → HasNoMore a b
-    → a.implicit_tag ≡ None → Fails b c e → e ≡ TruncatedData → RefusesMember meaning s a c e
-member_missing {meaning = meaning} {s = s} {a = a} {b = b} {c = c} {e = e} h d f is = member_unread (record {
-  fails = subst (λ z. Fails z c e) h.same f;
-  none = λ j end bs w v st. nothing_here meaning v h.reached is w
-      (subst (λ x. IsAtFront (place_in x a.until_end) s bs end (meaning v)) d st);
-  first = λ j k x l. absurd (omega (arith, h.reached));
-}) (λ w. d)
+pub member_missing : {V : Type 0} {meaning : V → Tree} {s : Shape} (rule : Rule) {a b c : State} {e : Asn1DerError}
+    → HasNoMore a b → a.implicit_tag ≡ None → Fails b c e → e ≡ TruncatedData → c ≡ failed_with b e
+    → RefusesMember meaning s (field_rule rule) a c e
+member_missing {meaning = meaning} {s = s} rule {a = a} {b = b} {c = c} {e = e} h d f is failed =
+    member_unread (record {
+      fails = subst (λ z. Fails z c e) h.same f;
+      none = λ j end bs w v st. nothing_here meaning v h.reached is w
+          (subst (λ x. IsAtFront (place_in x a.until_end) s bs end (meaning v)) d st);
+      first = λ j k x l. absurd (omega (arith, h.reached));
+    }) (λ j bs left k l. missing h.reached is
+    (same_left c.input l (ap (λ (z : State). z.input) failed ∙ ap (λ (z : State). z.input) h.same ∙ k))) (λ w. d)
+
+-- a member that is there was refused
+pub member_field : {V : Type 0} {meaning : V → Tree} {s : Shape} {rule : Rule} {a c : State} {e : Asn1DerError}
+    → 0 < a.until_end → RefusesMember meaning s rule a c e → RefusesMember meaning s (field_rule rule) a c e
+member_field {V} {meaning} {s} {rule} {a} {c} {e} ahead h =
+    record { fails = h.fails; refuses = next h.refuses; implicit_tag = h.implicit_tag }
+  where
+    next : RefusesNext meaning s rule a c e → RefusesNext meaning s (field_rule rule) a c e
+    next (no_value r by) = no_value r (λ j bs left k l. refused ahead (by j bs left k l))
+    next (after_value b v r t) = after_value b v r t
 
 -- ---- members one after another
 
@@ -275,27 +292,30 @@ module _ {V : Type 0} (meaning : V → Tree) {s : Shape} {c d : State} {e : Asn1
         less = ap₂ is_out_of_order (sym m.sets) same ∙ h.less;
       }
 
-  refused_less : RefusesNext meaning s c d e → IsRefusedLess c d e (der (meaning v))
-  refused_less (no_value r) = absurd (unread r)
-  refused_less (after_value b t r h) = untested t r h
+  refused_less : {rule : Rule} → RefusesNext meaning s rule c d e → IsRefusedLess c d e (der (meaning v))
+  refused_less (no_value r by) = absurd (unread r)
+  refused_less (after_value b u r h) = untested (meaning u) r h
 
-pub member_refused_less : {V : Type 0} {meaning : V → Tree} {s : Shape} {c d : State} {e : Asn1DerError} (v : V)
-    (us : Trees) → RefusesMember meaning s c d e → IsJudged c d e → IsOf s (meaning v) → IsReadable (meaning v)
+pub member_refused_less : {V : Type 0} {meaning : V → Tree} {s : Shape} {rule : Rule} {c d : State} {e : Asn1DerError}
+    (v : V)
+    (us : Trees) → RefusesMember meaning s rule c d e → IsJudged c d e → IsOf s (meaning v) → IsReadable (meaning v)
     → AreBefore c d e (members_encoding (Trees.more (meaning v) us)) → IsRefusedLess c d e (der (meaning v))
 member_refused_less {meaning = meaning} v us r j of_shape readable w =
     refused_less meaning v us (r.implicit_tag j.had_not_failed) j of_shape readable w r.refuses
 
 -- so none is there in order
-pub no_member_in_order : {V : Type 0} {meaning : V → Tree} {s : Shape} {c d : State} {e : Asn1DerError} (v : V)
-    (us vs : Trees) → RefusesMember meaning s c d e → IsJudged c d e → IsOf s (meaning v) → IsReadable (meaning v)
+pub no_member_in_order : {V : Type 0} {meaning : V → Tree} {s : Shape} {rule : Rule} {c d : State} {e : Asn1DerError}
+    (v : V)
+    (us vs : Trees) → RefusesMember meaning s rule c d e → IsJudged c d e → IsOf s (meaning v) → IsReadable (meaning v)
     → AreInOrder c.sets (encodings (Trees.more (meaning v) vs))
     → AreBefore c d e (members_encoding (Trees.more (meaning v) us)) → ⊥
 no_member_in_order {meaning = meaning} {c = c} v us vs r j of_shape readable order w =
     true≢false (sym (member_refused_less v us r j of_shape readable w).less
     ∙ first_in_order c.sets (meaning v) vs order)
 
-pub no_member : {V : Type 0} {meaning : V → Tree} {s : Shape} {c d : State} {e : Asn1DerError} (v : V) (us : Trees)
-    → RefusesMember meaning s c d e → IsJudged c d e → IsOf s (meaning v) → IsReadable (meaning v)
+pub no_member : {V : Type 0} {meaning : V → Tree} {s : Shape} {rule : Rule} {c d : State} {e : Asn1DerError} (v : V)
+    (us : Trees)
+    → RefusesMember meaning s rule c d e → IsJudged c d e → IsOf s (meaning v) → IsReadable (meaning v)
     → AreInOrder c.sets (encodings (Trees.more (meaning v) us))
     → AreBefore c d e (members_encoding (Trees.more (meaning v) us)) → ⊥
 no_member v us r j of_shape readable order w = no_member_in_order v us us r j of_shape readable order w

@@ -27,8 +27,9 @@ use Rattle.picky_der_de.specs.State.{State}
 use Rattle.picky_der_de.specs.Steps.{Consumed, ConsumesKept, Fails, IsCut, StopsShort, IsJudged, failed_with, is_hard}
 use Rattle.picky_der_de.specs.Steps.{place_in, place_of, fetched_count}
 use Rattle.picky_der_de.specs.PlainKinds.{IsPlainKind, IsShortKind}
-use Rattle.picky_der_de.specs.Reading.{Concerns, Refuses, refusal_in, refusal_at, IsJustRefused, ReadsJudged}
-use Rattle.picky_der_de.specs.Reading.{RefusesJudged}
+use Rattle.picky_der_de.specs.Reading.{Concerns, Refuses, refusal_in, refusal_at, IsJustRefused, AreJustRefused}
+use Rattle.picky_der_de.specs.Reading.{ReadsJudged, RefusesJudged}
+use Rattle.picky_der_de.proofs.PlainRuled.{plain_by}
 use Rattle.picky_der_de.specs.Headers.{header_bytes, BeginsContent, RefusesBegin, NoElement}
 use Rattle.picky_der_de.proofs.Steps.{consumes_then, fails_after, judged_after}
 use Rattle.picky_der_de.proofs.Refusals.{concerns_after, failed_grows, cut_grows, missing_here, end_below}
@@ -79,7 +80,7 @@ content_at_front (Some number) tag n until_end end s rest t p e a st =
           omega (arith, st.within, size, ap length is);
     }
 
-all_of : (d : Option ℕ) (tag n until_end left : ℕ) → until_end ≡ length (header_bytes d tag n) + left
+pub all_of : (d : Option ℕ) (tag n until_end left : ℕ) → until_end ≡ length (header_bytes d tag n) + left
     → IfSome d (λ number. n ≡ left) → IfSome d (λ number. n ≡ until_end)
 all_of None tag n until_end left r a = tt
 all_of (Some number) tag n until_end left r a = omega arith
@@ -154,7 +155,7 @@ primitive_first k number = contains_numbered (number_of (shape_tag k)) (shape_ta
 pub refuses_header : {V : Type 0} {meaning : V → Primitive} {k : PrimitiveShape} {judge : Judge} {a c : State}
     {e : Asn1DerError} → IsPlainKind meaning k judge → RefusesBegin (shape_tag k) a c e
     → RefusesJudged meaning k judge a c e
-refuses_header {k = k} {judge = judge} {a = a} kind h = record {
+refuses_header {k = k} {judge = judge} {a = a} {c = c} {e = e} kind h = record {
   refuses = record {
     fails = h.fails;
     none = λ j end bs w v st. let r = h.header j in
@@ -163,9 +164,12 @@ refuses_header {k = k} {judge = judge} {a = a} kind h = record {
     first = λ j is d l b left q. subst (IsFirst (Shape.primitive k)) (sym ((h.header j).1.first j is l b left q))
         (primitive_first k kind.number);
   };
-  just = λ j bs i. let r = h.header j in just_map (λ rest x. refused_in a.implicit_tag (shape_tag k) judge a rest x r.0)
-      (r.1.just j bs i);
-}
+  just = just;
+  by = plain_by (shape_tag k) judge just;
+} where
+  just : AreJustRefused (refusal_at (shape_tag k) judge a) a c e
+  just j bs i = let r = h.header j in just_map (λ rest x. refused_in a.implicit_tag (shape_tag k) judge a rest x r.0)
+      (r.1.just j bs i)
 
 -- ---- tags that aren't read
 
@@ -182,15 +186,18 @@ pub refuses_number : {V : Type 0} {meaning : V → Primitive} {k : PrimitiveShap
     → ((v : V) → IsPrimitive k (meaning v) → IsReadablePrimitive (meaning v) → ⊥) → Fails a c e → e ≡ UnsupportedValue
     → c ≡ failed_with a e
     → RefusesJudged meaning k judge a c e
-refuses_number {k = k} {judge = judge} {a = a} n none f is same = record {
+refuses_number {k = k} {judge = judge} {a = a} {c = c} {e = e} n none f is same = record {
   refuses = record {
     fails = f;
     none = λ j end bs w v st. none v st.of_shape st.readable;
     first = λ j cut d l b left q. absurd (let r : UnsupportedValue ≡ TruncatedData = sym is ∙ cut in cc);
   };
-  just = λ j bs known. just_unconsumed (refusal_at (shape_tag k) judge a) same known
-      (λ rest. unsupported_in a.implicit_tag (shape_tag k) judge a rest n ∙ ap (λ x. Some (x, rest)) (sym is));
-}
+  just = just;
+  by = plain_by (shape_tag k) judge just;
+} where
+  just : AreJustRefused (refusal_at (shape_tag k) judge a) a c e
+  just j bs known = just_unconsumed (refusal_at (shape_tag k) judge a) same known
+      (λ rest. unsupported_in a.implicit_tag (shape_tag k) judge a rest n ∙ ap (λ x. Some (x, rest)) (sym is))
 
 -- ---- refused contents
 
@@ -233,7 +240,7 @@ after_header : {V : Type 0} {meaning : V → Primitive} {k : PrimitiveShape} {n 
     → (IsJudged b c e → (bs : List ℕ) → a.input ≡ Some bs
     → IsJustRefused (refusal_at (shape_tag k) judge a) a c e bs)
     → RefusesJudged meaning k judge a c e
-after_header {k = k} {n = n} {a = a} {b = b} kind h f none just = record {
+after_header {k = k} {n = n} {judge = judge} {a = a} {b = b} kind h f none just = record {
   refuses = record {
     fails = fails_after h.consumes f;
     none = λ j end bs w v st. none (judged_after h.consumes j) v st.of_shape
@@ -242,6 +249,7 @@ after_header {k = k} {n = n} {a = a} {b = b} kind h f none just = record {
         (primitive_first k kind.number) h.consumes.input d left l q;
   };
   just = λ j. just (judged_after h.consumes j);
+  by = plain_by (shape_tag k) judge (λ j. just (judged_after h.consumes j));
 }
 
 content_missing : {b c : State} {e : Asn1DerError} {n : ℕ} {t : Tree} → IsCut b c n e → SeenContent b c e n t → ⊥

@@ -11,6 +11,7 @@ use Rattle.picky_der_core.specs.Reading.{written_at, MayBeAt}
 use Rattle.picky_der_de.specs.State.{State}
 use Rattle.picky_der_de.specs.Steps.{Consumed, IsJudged, place_in}
 use Rattle.picky_der_de.specs.Order.{AreInOrder, Follows, without_order}
+use Rattle.picky_der_de.specs.RefusesBy.{Rule}
 use Rattle.picky_der_de.specs.Reading.{Reads, Refuses}
 use Rattle.picky_der_de.specs.Ends.{EnclosingEnd, Closes, RefusesClose, OpensList, RefusesList}
 use Rattle.picky_der_de.specs.Members.{ReadsMember, RefusesMember, HasNoMore, members_encoding, AreUpToEnd, RefusesRest}
@@ -65,8 +66,9 @@ encodings-as : (t u : Tree) (ts : Trees) → der t ≡ der u → encodings (Tree
 unfolding der tree_bytes
 encodings-as t u ts same = ap (λ m. m ∷ encodings ts) same
 
-first_refused : {W : Type 0} {meaning : W → Tree} {s : Shape} {c d : State} {e : Asn1DerError} (ts : Trees)
-    → RefusesMember meaning s c d e → IsJudged c d e → FirstIsUnread meaning s (IsAhead c) ts
+first_refused : {W : Type 0} {meaning : W → Tree} {s : Shape} {rule : Rule} {c d : State} {e : Asn1DerError}
+    (ts : Trees)
+    → RefusesMember meaning s rule c d e → IsJudged c d e → FirstIsUnread meaning s (IsAhead c) ts
     → AreInOrder c.sets (encodings ts) → AreUpToEnd c d e (members_encoding ts) → ⊥
 first_refused ts r j (nothing ahead) order w = none_left (ahead j.had_not_failed) w
 first_refused {meaning = meaning} {c = c} {d = d} {e = e} ts r j (first v t us of_shape readable same) order w =
@@ -86,9 +88,9 @@ follow_first Holds (Trees.more t ts) h = (h, refl)
 
 module _ {V : Type 0} {P : V → Type 0} {members : V → Trees} where
   -- the next member was refused
-  pub rest_head : {W : Type 0} {meaning : W → Tree} {s : Shape} {c d : State} {e : Asn1DerError}
+  pub rest_head : {W : Type 0} {meaning : W → Tree} {s : Shape} {rule : Rule} {c d : State} {e : Asn1DerError}
       → ((v : V) → P v → AreReadable (members v) → FirstIsUnread meaning s (IsAhead c) (members v))
-      → RefusesMember meaning s c d e → RefusesRest P members c d e
+      → RefusesMember meaning s rule c d e → RefusesRest P members c d e
   rest_head unread r =
       record {
         fails = r.fails;

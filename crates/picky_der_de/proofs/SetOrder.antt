@@ -19,6 +19,7 @@ use Rattle.picky_der_core.specs.EncodingLaws.{der-element, same_element}
 use Rattle.picky_der_core.specs.Shape.{Shape}
 use Rattle.picky_der_de.specs.State.{OpenSets, State}
 use Rattle.picky_der_de.specs.Steps.{Consumed, Fails, failed_with, IsJudged, is_hard}
+use Rattle.picky_der_de.specs.RefusesBy.{Rule, RefusesBy}
 use Rattle.picky_der_de.specs.Reading.{Reads, Refuses, now}
 use Rattle.picky_der_de.proofs.Refusals.{front_consumed}
 use Rattle.picky_der_de.specs.Members.{ReadsMember, RefusesMember, members_encoding, AreBefore, BreaksOrder, RefusesAll}
@@ -142,9 +143,16 @@ module _ {before a : State} {less : Bool} (h : SeesMember before a less) (whole 
         first = λ j. q.first (judged_alike k j);
       }
 
-  pub seen_refused : {V : Type 0} {meaning : V → Tree} {s : Shape} {c : State} {e : Asn1DerError}
-      → Refuses meaning s a c e → RefusesMember meaning s before c e
-  seen_refused r = member_unread (refuses_before r) (λ w. was_whole)
+  refused_before : (rule : Rule) {c : State} {e : Asn1DerError} → RefusesBy rule a c e → RefusesBy rule before c e
+  refused_before rule {c} {e} by j bs left k l =
+      let kept_sets : OpenSets = sets_seen less before.sets h.member in
+      let q : RefusesBy rule (record before { sets = sets_seen less before.sets h.member }) c e =
+      subst (λ (z : State). RefusesBy rule z c e) h.same by in
+      q (judged_alike kept_sets j) bs left k l
+
+  pub seen_refused : {V : Type 0} {meaning : V → Tree} {s : Shape} {rule : Rule} {c : State} {e : Asn1DerError}
+      → Refuses meaning s a c e → RefusesBy rule a c e → RefusesMember meaning s rule before c e
+  seen_refused {rule = rule} r by = member_unread (refuses_before r) (refused_before rule by) (λ w. was_whole)
 
 pub seen_reads : {before a c : State} {s : Shape} {t : Tree} → SeesMember before a false → a.implicit_tag ≡ None
     → Reads s a c t → ReadsMember s before c t
@@ -163,15 +171,16 @@ seen_reads {before} {a} {c} {s} {t} h whole r =
       };
     }
 
-pub seen_less : {V : Type 0} {meaning : V → Tree} {before a c d : State} {s : Shape} {t : Tree} {e : Asn1DerError}
-    → SeesMember before a true → a.implicit_tag ≡ None → Reads s a c t → Fails c d e → e ≡ InvalidData
-    → d ≡ failed_with c e → RefusesMember meaning s before d e
-seen_less {before = before} {a = a} {c = c} {s = s} {t = t} h whole r f is same =
+pub seen_less : {V : Type 0} {meaning : V → Tree} {before a c d : State} {s : Shape} {rule : Rule} {e : Asn1DerError}
+    (v : V) → SeesMember before a true → a.implicit_tag ≡ None → Reads s a c (meaning v) → Fails c d e → e ≡ InvalidData
+    → d ≡ failed_with c e → RefusesMember meaning s rule before d e
+seen_less {meaning = meaning} {before = before} {a = a} {c = c} {s = s} v h whole r f is same =
+    let t : Tree = meaning v in
     let sets : c.sets ≡ before.sets = r.consumes.sets ∙ ap (λ (z : State). z.sets) h.same in
     let less : is_out_of_order c.sets (der t) ≡ true = ap (λ x. is_out_of_order x (der t)) sets
     ∙ ap (λ x. is_out_of_order before.sets x) (seen_is_read h whole r) ∙ h.order in
     let q : Reads s before c t = subst (λ (z : State). Reads s z c t) h.same r in
-    member_untested q (out_of_order (record { fails = f; less = less; error = is; same = same }))
+    member_untested v q (out_of_order (record { fails = f; less = less; error = is; same = same }))
     (λ w. was_whole h whole)
 
 -- ---- sets whose members are out of order, as they are refused

@@ -8,6 +8,7 @@ use Rattle.picky_der_de.specs.declared.alternatives.OneOf.{OneOf}
 use Rattle.picky_der_de.specs.Firsts.{IsBegunBy}
 use Rattle.picky_der_de.specs.Choices.{chosen_of, equal_this_or_other, AreInjective, begins_this_or_other}
 use Rattle.picky_der_de.specs.Choices.{this_or_other_has_shape, this_or_other_injective, choice_injective}
+use Rattle.picky_der_de.specs.Rules.{ChoiceRule, no_alternative_rule, alternative_rule, choice_rule}
 use Rattle.picky_der_de.specs.Facts.{Facts, Proved, is_lawful}
 
 -- what holds of values of alternatives, if the chosen ones mean these trees
@@ -23,12 +24,15 @@ pub record AreLawful {V : Type 0} (ss : Shapes) (chosen : V → Tree) (eq : V �
 -- It follows from the premise, that of the alternatives.
 pub record ChoiceFacts (V : Type 0) (ss : Shapes) (chosen : V → Tree) : Type 1 where
   pub eq : V → V → Bool
+  -- with which error bytes are refused that begin with a byte
+  pub rule : ChoiceRule
   pub Premise : Type 0
   pub follows : Premise → AreLawful ss chosen eq
 
 abbrev pub no_choice_facts : {V : Type 0} (chosen : V → Tree) → (V → ⊥) → ChoiceFacts V Shapes.none chosen
 no_choice_facts chosen none = record {
   eq = λ v w. absurd (none v);
+  rule = no_alternative_rule;
   Premise = ⊤;
   follows = λ o. record {
     begun = λ v. absurd (none v);
@@ -44,6 +48,7 @@ abbrev pub this_or_other_facts : {A B : Type 0} {s : Shape} {ss : Shapes} {chose
     → ChoiceFacts (OneOf A B) (Shapes.more s ss) (chosen_of means chosen)
 this_or_other_facts {s = s} {ss = ss} {chosen = chosen} a means equal b = record {
   eq = equal_this_or_other equal b.eq;
+  rule = alternative_rule (firsts s) a.rule b.rule;
   Premise = Proved a means equal × b.Premise;
   follows = λ o.
       let this = is_lawful a o.0 in
@@ -75,6 +80,7 @@ module _ {V P : Type 0} {ss : Shapes} {chosen : P → Tree} (c : ChoiceFacts P s
   choice_facts eq same = record {
     meaning = λ v. Tree.choice (chosen (parts v));
     eq = eq;
+    rule = choice_rule c.rule;
     Premise = c.Premise;
     follows = λ o. let are = c.follows o in record {
       has_shape = λ v. are.has_shape (parts v);

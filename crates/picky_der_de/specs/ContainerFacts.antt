@@ -10,11 +10,13 @@ use Rattle.picky_der_de.specs.Firsts.{option_begun}
 use Rattle.picky_der_de.specs.InjectiveLaws.{option_injective, option_has_shape, list_injective, items_of_shape}
 use Rattle.picky_der_de.specs.WrappedLaws.{wrapped_injective, wrapped_has_shape}
 use Rattle.picky_der_de.specs.ArrayLaws.{array_of, array_sound, array_has_shape, array_injective}
+use Rattle.picky_der_de.specs.RefusesBy.{unsaid}
+use Rattle.picky_der_de.specs.Rules.{list_of_rule, wrapped_rule}
 use Rattle.picky_der_de.specs.Facts.{Facts, facts_by}
 
 module _ {A : Type 0} {s : Shape} (a : Facts A s) (means : A → Tree) (equal : A → A → Bool) where
   abbrev pub option_facts : Facts (Option A) (Shape.optional s)
-  option_facts = facts_by a means equal (option_meaning means) (option_eq equal) (λ is. record {
+  option_facts = facts_by a means equal a.rule (option_meaning means) (option_eq equal) (λ is. record {
     has_shape = option_has_shape means s is.has_shape;
     injective = option_injective means s equal is.injective;
     sound = is.sound;
@@ -23,7 +25,7 @@ module _ {A : Type 0} {s : Shape} (a : Facts A s) (means : A → Tree) (equal : 
 
   abbrev pub list_facts : {V : Type 0} (k : ListKind) (items : V → List A) → Facts V (Shape.list_of k s)
   list_facts k items =
-      facts_by a means equal (λ v. Tree.list k (trees (map means (items v))))
+      facts_by a means equal (list_of_rule means s k a.rule) (λ v. Tree.list k (trees (map means (items v))))
       (λ x y. pointwise equal (items x) (items y)) (λ is. record {
         has_shape = λ v r. (refl, items_of_shape means s is.has_shape (items v) r.1);
         injective = λ x y p q r e. list_injective means s equal is.injective (items x) (items y) p.1 q.1 r.1 e;
@@ -33,7 +35,7 @@ module _ {A : Type 0} {s : Shape} (a : Facts A s) (means : A → Tree) (equal : 
 
   abbrev pub array_facts : {V : Type 0} (n : ℕ) (items : V → List A) → Facts V (array_of n s)
   array_facts n items =
-      facts_by a means equal (λ v. array_meaning n means (items v)) (λ x y. pointwise equal (items x) (items y))
+      facts_by a means equal unsaid (λ v. array_meaning n means (items v)) (λ x y. pointwise equal (items x) (items y))
       (λ is. record {
         has_shape = λ v. array_has_shape means s n is.has_shape (items v);
         injective = λ x y. array_injective means s n equal is.injective (items x) (items y);
@@ -42,7 +44,8 @@ module _ {A : Type 0} {s : Shape} (a : Facts A s) (means : A → Tree) (equal : 
       })
 
   abbrev pub wrapped_facts : {V : Type 0} (w : Wrapper) (part : V → A) → Facts V (Shape.wrapped w s)
-  wrapped_facts w part = facts_by a means equal (λ v. Tree.wrapped w (means (part v))) (λ x y. equal (part x) (part y))
+  wrapped_facts w part = facts_by a means equal (wrapped_rule means s w a.rule) (λ v. Tree.wrapped w (means (part v)))
+      (λ x y. equal (part x) (part y))
       (λ is. record {
         has_shape = λ v r. wrapped_has_shape w (λ x. means (part x)) s (λ x. is.has_shape (part x)) v r;
         injective = λ x y. wrapped_injective w means s equal is.injective (part x) (part y);

@@ -8,6 +8,8 @@ use Rattle.picky_der_core.specs.Shape.{Shape}
 use Rattle.picky_der_core.specs.Refusal.{Refusal, element_refusal}
 use Rattle.picky_der_de.specs.State.{State}
 use Rattle.picky_der_de.specs.Steps.{Consumed, is_hard}
+use Rattle.picky_der_de.specs.RefusesBy.{RefusesBy}
+use Rattle.picky_der_de.specs.PlainRules.{raw_rule}
 use Rattle.picky_der_de.specs.Reading.{Reads, Refuses, AreNotRefused, AreJustRefused}
 
 -- how an element is refused there, if it is; it keeps its header directly under an implicit tag
@@ -36,3 +38,4 @@ pub record ReadsRaw (old new : State) (bytes : List ℕ) : Type 0 where
 pub record RefusesRaw (old new : State) (e : Asn1DerError) : Type 0 where
   pub refuses : Refuses Tree.raw Shape.raw old new e
   pub just : AreJustRefused (raw_refusal old) old new e
+  pub by : RefusesBy raw_rule old new e

@@ -11,7 +11,11 @@ use Rattle.picky_der_core.specs.Tree.{Tree}
 use Rattle.picky_der_core.specs.Shape.{Shape, IsSound, firsts}
 use Rattle.picky_der_core.specs.Integer.{int_tree, unsigned_tree}
 use Rattle.picky_der_core.specs.UnsignedTreeLaws.{unsigned_tree-is_of}
+use Rattle.picky_der_core.specs.Refusal.{int_error}
 use Rattle.picky_der_de.specs.Firsts.{IsBegunBy, unsigned_begun}
+use Rattle.picky_der_de.specs.RefusesBy.{Rule, unsaid}
+use Rattle.picky_der_de.specs.PlainRules.{plain_rule, primitive_rule, raw_rule}
+use Rattle.picky_der_de.specs.Rules.{tested_rule}
 use Rattle.picky_der_de.specs.InjectiveLaws.{IsInjective, HasShape, character_has_shape, boolean_injective}
 use Rattle.picky_der_de.specs.InjectiveLaws.{unsigned_injective, int_injective, bytes_injective, raw_injective}
 use Rattle.picky_der_de.specs.InjectiveLaws.{text_injective, character_injective}
@@ -33,6 +37,8 @@ pub record Facts (V : Type 0) (s : Shape) : Type 1 where
   pub meaning : V → Tree
   -- the `==` of the type
   pub eq : V → V → Bool
+  -- with which error bytes are refused, and what is left then
+  pub rule : Rule
   pub Premise : Type 0
   pub follows : Premise → IsLawful s meaning eq
 
@@ -60,18 +66,22 @@ module _ {V : Type 0} {s : Shape} (facts : Facts V s) {meaning : V → Tree} {eq
 
 module _ {V : Type 0} {s : Shape} where
   abbrev pub plain_facts : (meaning : V → Tree) (eq : V → V → Bool) → IsLawful s meaning eq → Facts V s
-  plain_facts meaning eq is = record { meaning = meaning; eq = eq; Premise = ⊤; follows = λ o. is }
+  plain_facts meaning eq is = record { meaning = meaning; eq = eq; rule = unsaid; Premise = ⊤; follows = λ o. is }
+
+  -- with this rule
+  abbrev pub ruled : Rule → Facts V s → Facts V s
+  ruled rule facts =
+      record { meaning = facts.meaning; eq = facts.eq; rule = rule; Premise = facts.Premise; follows = facts.follows }
 
 abbrev pub boolean_facts : Facts Bool (Shape.primitive PrimitiveShape.boolean)
-boolean_facts =
-    plain_facts (λ v. Tree.primitive (Primitive.boolean v)) beq
-    (record {
+boolean_facts = ruled (primitive_rule PrimitiveShape.boolean)
+    (plain_facts (λ v. Tree.primitive (Primitive.boolean v)) beq (record {
       has_shape = λ v r. tt;
       injective = λ x y p q r e. boolean_injective x y e;
       sound = tt;
       begun =
           λ v b h. h;
-    })
+    }))
 
 -- a type whose values have a number each, up to a greatest one
 abbrev pub number_facts : {V : Type 0} (most : ℕ) → nat_lt most (2 ^ 128) ≡ true → (number : V → ℕ) (eq : V → V → Bool)
@@ -86,67 +96,67 @@ number_facts most small number eq same = plain_facts (λ v. unsigned_tree most (
 
 abbrev pub unsigned_facts : (most : ℕ) → nat_lt most (2 ^ 128) ≡ true
     → Facts ℕ (Shape.primitive (PrimitiveShape.unsigned most))
-unsigned_facts most small = number_facts most small (λ n. n) nat_eq (λ x y h. h)
+unsigned_facts most small =
+    ruled (primitive_rule (PrimitiveShape.unsigned most)) (number_facts most small (λ n. n) nat_eq (λ x y h. h))
 
 -- an integer type, by the numbers that it has
 abbrev pub int_facts : (fits : ℤ → Bool) → Facts ℤ (Shape.primitive (PrimitiveShape.bytes 0x02))
-int_facts fits =
-    plain_facts (int_tree fits) int_eq
+int_facts fits = ruled (plain_rule 0x02 (int_error fits)) (plain_facts (int_tree fits) int_eq
     (record {
       has_shape = λ z r. (refl, r.1);
       injective = λ x y p q r e. int_injective fits x y e;
       sound = tt;
       begun =
           λ v b h. h;
-    })
+    }))
 
 abbrev pub null_facts : {V : Type 0} → Facts V (Shape.primitive PrimitiveShape.null)
-null_facts =
-    plain_facts (λ v. Tree.primitive Primitive.null) (λ x y. true)
-    (record { has_shape = λ v r. tt; injective = λ x y p q r e. refl; sound = tt; begun = λ v b h. h })
+null_facts = ruled (primitive_rule PrimitiveShape.null)
+    (plain_facts (λ v. Tree.primitive Primitive.null) (λ x y. true)
+    (record { has_shape = λ v r. tt; injective = λ x y p q r e. refl; sound = tt; begun = λ v b h. h }))
 
 abbrev pub character_facts : Facts ℕ (Shape.primitive PrimitiveShape.character)
-character_facts = plain_facts (λ v. Tree.primitive (Primitive.text (encode_utf8 v))) nat_eq
-    (record {
+character_facts = ruled (primitive_rule PrimitiveShape.character)
+    (plain_facts (λ v. Tree.primitive (Primitive.text (encode_utf8 v))) nat_eq (record {
       has_shape = character_has_shape;
       injective = λ x y p q r e. character_injective x y e;
       sound = tt;
       begun =
           λ v b h. h;
-    })
+    }))
 
 module _ {V : Type 0} (bytes : V → List ℕ) where
   abbrev pub text_facts : Facts V (Shape.primitive PrimitiveShape.text)
-  text_facts = plain_facts (λ v. Tree.primitive (Primitive.text (bytes v))) (λ x y. pointwise eqb (bytes x) (bytes y))
-      (record {
+  text_facts = ruled (primitive_rule PrimitiveShape.text)
+      (plain_facts (λ v. Tree.primitive (Primitive.text (bytes v))) (λ x y. pointwise eqb (bytes x) (bytes y)) (record {
         has_shape = λ v r. r;
         injective = λ x y p q r e. text_injective (bytes x) (bytes y) e;
         sound =
             tt;
         begun = λ v b h. h;
-      })
+      }))
 
   abbrev pub raw_facts : Facts V Shape.raw
-  raw_facts = plain_facts (λ v. Tree.raw (bytes v)) (λ x y. pointwise eqb (bytes x) (bytes y))
+  raw_facts = ruled raw_rule (plain_facts (λ v. Tree.raw (bytes v)) (λ x y. pointwise eqb (bytes x) (bytes y))
       (record {
         has_shape = λ v r. r.1;
         injective = λ x y p q r e. raw_injective (bytes x) (bytes y) e;
         sound =
             tt;
         begun = λ v b h. h;
-      })
+      }))
 
 abbrev pub bytes_facts : {V : Type 0} (tag : ℕ) (bytes : V → List ℕ)
     → Facts V (Shape.primitive (PrimitiveShape.bytes tag))
-bytes_facts tag bytes =
-    plain_facts (λ v. Tree.primitive (Primitive.bytes tag (bytes v))) (λ x y. pointwise eqb (bytes x) (bytes y))
+bytes_facts tag bytes = ruled (primitive_rule (PrimitiveShape.bytes tag))
+    (plain_facts (λ v. Tree.primitive (Primitive.bytes tag (bytes v))) (λ x y. pointwise eqb (bytes x) (bytes y))
     (record {
       has_shape = λ v r. (refl, r.1);
       injective = λ x y p q r e. bytes_injective (bytes x) (bytes y) e;
       sound =
           tt;
       begun = λ v b h. h;
-    })
+    }))
 
 -- ---- values that have a part of another type
 
@@ -165,21 +175,31 @@ abbrev pub facts_as : {V A : Type 0} {s : Shape} → Facts A s → (part : V →
 facts_as a part = record {
   meaning = λ v. a.meaning (part v);
   eq = λ x y. a.eq (part x) (part y);
+  rule = a.rule;
   Premise = a.Premise;
   follows = λ o. of_part part (a.follows o);
 }
 
+-- where some values of the other type are none of this one
+abbrev pub tested_facts : {V A : Type 0} {s : Shape} → Facts A s → (means : A → Tree) (part : V → A) → Facts V s
+tested_facts {s = s} a means part = ruled (tested_rule means s part a.rule) (facts_as a part)
+
 -- by what the type, a parameter, says of itself
 module _ {A : Type 0} {s : Shape} (a : Facts A s) (means : A → Tree) (equal : A → A → Bool) where
-  abbrev pub facts_by : {V : Type 0} {u : Shape} (meaning : V → Tree) (eq : V → V → Bool)
+  abbrev pub facts_by : {V : Type 0} {u : Shape} (rule : Rule) (meaning : V → Tree) (eq : V → V → Bool)
       → (IsLawful s means equal → IsLawful u meaning eq) → Facts V u
-  facts_by meaning eq so = record {
+  facts_by rule meaning eq so = record {
     meaning = meaning;
     eq = eq;
+    rule = rule;
     Premise = Proved a means equal;
     follows =
         λ t. so (is_lawful a t);
   }
 
   abbrev pub part_facts : {V : Type 0} (part : V → A) → Facts V s
-  part_facts part = facts_by (λ v. means (part v)) (λ x y. equal (part x) (part y)) (of_part part)
+  part_facts part = facts_by a.rule (λ v. means (part v)) (λ x y. equal (part x) (part y)) (of_part part)
+
+  -- where some of that type's values are none of this one
+  abbrev pub tested_part_facts : {V : Type 0} (part : V → A) → Facts V s
+  tested_part_facts part = ruled (tested_rule means s part a.rule) (part_facts part)

@@ -34,6 +34,7 @@ module _ {A B C D E : Type 0} where
         (this_or_other_facts c means_c equal_c (this_or_other_facts d means_d equal_d e))) in
         record {
           eq = λ x y. all.eq (one_by_one x) (one_by_one y);
+          rule = all.rule;
           Premise = all.Premise;
           follows = λ o. let are = all.follows o in record {
             begun = λ v. are.begun (one_by_one v);

@@ -12,6 +12,7 @@ use Rattle.picky_der_de.specs.Steps.{Consumed, Fails}
 use Rattle.picky_der_de.specs.Order.{AreInOrder, without_order}
 use Rattle.picky_der_de.specs.Refusing.{FailsAs}
 use Rattle.picky_der_de.specs.LookAhead.{Peeks, Identifies, RefusesIdentifier}
+use Rattle.picky_der_de.specs.RefusesBy.{Rule}
 use Rattle.picky_der_de.specs.Members.{ReadsMember, RefusesMember, HasNoMore, members_encoding, AreUpToEnd, RefusesRest}
 
 -- ---- one member that may be missing
@@ -22,19 +23,20 @@ pub data Lacks (s : Shape) (old new : State) : Type 0 where
   begins_otherwise : (tag : ℕ) → Identifies old new tag → (IsFirst s tag → ⊥) → Lacks s old new
 
 -- No tag could be peeked, though the end isn't here; or a value begins there as values of the type do, and was refused.
-pub data RefusesOptional {V : Type 0} (meaning : V → Tree) (s : Shape) (old new : State) (e : Asn1DerError) : Type 0
-  where
-    no_tag : RefusesIdentifier old new e → (old.failed ≡ None → 0 < old.until_end) → RefusesOptional meaning s old new e
-    no_member : (mid : State) (tag : ℕ) → Identifies old mid tag → IsFirst s tag → RefusesMember meaning s mid new e
-        → RefusesOptional meaning s old new e
+pub data RefusesOptional {V : Type 0} (meaning : V → Tree) (s : Shape) (rule : Rule) (old new : State)
+    (e : Asn1DerError) : Type 0 where
+  no_tag : RefusesIdentifier old new e → (old.failed ≡ None → 0 < old.until_end)
+      → RefusesOptional meaning s rule old new e
+  no_member : (mid : State) (tag : ℕ) → Identifies old mid tag → IsFirst s tag → RefusesMember meaning s rule mid new e
+      → RefusesOptional meaning s rule old new e
 
 -- It was refused as a member that may be missing is. Or the default is there and was read, which is `InvalidData`: no
 -- default is written out.
-pub data RefusesDefault {V : Type 0} (meaning : V → Tree) (left_out : V → Bool) (s : Shape) (old new : State)
-    (e : Asn1DerError) : Type 0 where
-  as_optional : RefusesOptional meaning s old new e → RefusesDefault meaning left_out s old new e
+pub data RefusesDefault {V : Type 0} (meaning : V → Tree) (left_out : V → Bool) (s : Shape) (rule : Rule)
+    (old new : State) (e : Asn1DerError) : Type 0 where
+  as_optional : RefusesOptional meaning s rule old new e → RefusesDefault meaning left_out s rule old new e
   written_out : (mid : State) (v : V) → IsTrue (left_out v) → ReadsMember s old mid (meaning v)
-      → FailsAs InvalidData mid e new → Fails mid new e → RefusesDefault meaning left_out s old new e
+      → FailsAs InvalidData mid e new → Fails mid new e → RefusesDefault meaning left_out s rule old new e
 
 -- ---- one member, always there or not
 
@@ -48,7 +50,7 @@ layout_with always = Layout.required
 layout_with perhaps = Layout.maybe
 
 -- why it wasn't read: one that is always there is no default
-abbrev pub RefusesLayoutMember : {V : Type 0} → Presence → (V → Tree) → (V → Bool) → Shape → State → State
+abbrev pub RefusesLayoutMember : {V : Type 0} → Presence → (V → Tree) → (V → Bool) → Shape → Rule → State → State
     → Asn1DerError → Type 0
 RefusesLayoutMember always meaning left_out = RefusesMember meaning
 RefusesLayoutMember perhaps meaning left_out = RefusesDefault meaning left_out

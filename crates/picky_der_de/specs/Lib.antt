@@ -7,6 +7,9 @@ pub mod PlainKindLaws
 pub mod TextLaws
 pub mod Headers
 pub mod Refusing
+pub mod RefusesBy
+pub mod PlainRules
+pub mod Rules
 pub mod TagNumbers
 pub mod LookAhead
 pub mod Elements

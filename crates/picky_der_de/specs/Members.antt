@@ -14,6 +14,7 @@ use Rattle.picky_der_de.specs.Steps.{Consumed, Fails, IsJudged, failed_with}
 use Rattle.picky_der_de.specs.Headers.{header_bytes}
 use Rattle.picky_der_de.specs.Order.{AreInOrder, without_order, SeesMember, Follows, RefusesTest}
 use Rattle.picky_der_de.specs.Reading.{Reads, Refuses, Concerns}
+use Rattle.picky_der_de.specs.RefusesBy.{Rule, RefusesBy}
 
 -- ---- one member
 
@@ -24,26 +25,29 @@ pub record ReadsMember (s : Shape) (old new : State) (t : Tree) : Type 0 where
   pub implicit_tag : old.implicit_tag ≡ None
   pub follows : Follows (der t) mid new
 
--- why none may come next: no value of the type is there, or one is there that was read and then refused
-pub data RefusesNext {V : Type 0} (meaning : V → Tree) (s : Shape) (old new : State) (e : Asn1DerError) : Type 0 where
-  no_value : Refuses meaning s old new e → RefusesNext meaning s old new e
-  after_value : (mid : State) (t : Tree) → Reads s old mid t → RefusesTest (der t) mid new e
-      → RefusesNext meaning s old new e
+-- why none may come next: no value of the type is there, and its rule says so, or one is there that was read and then
+-- refused
+pub data RefusesNext {V : Type 0} (meaning : V → Tree) (s : Shape) (rule : Rule) (old new : State)
+    (e : Asn1DerError) : Type 0 where
+  no_value : Refuses meaning s old new e → RefusesBy rule old new e → RefusesNext meaning s rule old new e
+  after_value : (mid : State) (v : V) → Reads s old mid (meaning v) → RefusesTest (der (meaning v)) mid new e
+      → RefusesNext meaning s rule old new e
 
 -- No member was read, and none is there that may come next.
-pub record RefusesMember {V : Type 0} (meaning : V → Tree) (s : Shape) (old new : State) (e : Asn1DerError) : Type 0
+pub record RefusesMember {V : Type 0} (meaning : V → Tree) (s : Shape) (rule : Rule) (old new : State)
+    (e : Asn1DerError) : Type 0
   where
     pub fails : Fails old new e
-    pub refuses : RefusesNext meaning s old new e
+    pub refuses : RefusesNext meaning s rule old new e
     pub implicit_tag : old.failed ≡ None → old.implicit_tag ≡ None
 
 -- the same, from before the member was seen
 abbrev pub ReadsSeen : Bool → Shape → State → State → Tree → Type 0
 ReadsSeen less s old new t = (before : State) → SeesMember before old less → ReadsMember s before new t
 
-abbrev pub RefusesSeen : {V : Type 0} → Bool → (V → Tree) → Shape → State → State → Asn1DerError → Type 0
-RefusesSeen less meaning s old new e = (before : State) → SeesMember before old less
-    → RefusesMember meaning s before new e
+abbrev pub RefusesSeen : {V : Type 0} → Bool → (V → Tree) → Shape → Rule → State → State → Asn1DerError → Type 0
+RefusesSeen less meaning s rule old new e = (before : State) → SeesMember before old less
+    → RefusesMember meaning s rule before new e
 
 -- the end is here, and nothing was done
 pub record HasNoMore (old new : State) : Type 0 where

@@ -15,6 +15,8 @@ use Rattle.picky_der_de.specs.InjectiveLaws.{list_members, both}
 use Rattle.picky_der_de.specs.Layouts.{Presence, always, perhaps, layout_with}
 use Rattle.picky_der_de.specs.LayoutLaws.{IsLayoutMember, AreLayoutMembers, same_unless_default, no_layout_members}
 use Rattle.picky_der_de.specs.LayoutLaws.{after, lead}
+use Rattle.picky_der_de.specs.RefusesBy.{Rule, unsaid}
+use Rattle.picky_der_de.specs.Rules.{layout_rule, fields_rule, end_rule}
 use Rattle.picky_der_de.specs.Facts.{Facts, Proved, is_lawful}
 use Rattle.picky_der_de.specs.FirstTests.{are_members_distinct, members_distinct}
 use Rattle.picky_der_de.specs.OtherLaws.{others_of, are_outside, others_are}
@@ -64,6 +66,8 @@ pub record MemberFacts (V : Type 0) {W : Type 0} (presence : Presence) (s : Shap
   pub eq : V → V → Bool
   -- whether one that is always there can't be absent, as one with no encoding is
   pub there : Bool
+  -- with which error bytes are refused where an item begins
+  pub rule : Rule
   pub Premise : Type 0
   pub follows : Premise → (prepend : V → Trees → Trees)
       → ((v : V) (ts : Trees) → prepend v ts ≡ maybe_more meaning (item v) ts)
@@ -87,6 +91,7 @@ module _ {A : Type 0} {s : Shape} (a : Facts A s) (means : A → Tree) (equal : 
   always_facts = record {
     eq = equal;
     there = is_there s;
+    rule = a.rule;
     Premise = Proved a means equal;
     follows = λ t prepend prepends. record {
       prepends = prepends;
@@ -102,6 +107,7 @@ module _ {A : Type 0} {s : Shape} (a : Facts A s) (means : A → Tree) (equal : 
   element_facts part = record {
     eq = λ x y. equal (part x) (part y);
     there = true;
+    rule = a.rule;
     Premise = Proved a means equal;
     follows = λ t prepend prepends. record {
       prepends = prepends;
@@ -117,6 +123,7 @@ module _ {A : Type 0} {s : Shape} (a : Facts A s) (means : A → Tree) (equal : 
   perhaps_facts item = record {
     eq = λ x y. option_eq equal (item x) (item y);
     there = is_there s;
+    rule = a.rule;
     Premise = Proved a means equal;
     follows = λ t prepend prepends. record {
       prepends = prepends;
@@ -133,6 +140,7 @@ module _ {A : Type 0} {s : Shape} (a : Facts A s) (means : A → Tree) (equal : 
   default_facts left_out same one value = record {
     eq = λ x y. equal (value x) (value y);
     there = is_there s;
+    rule = a.rule;
     Premise = Proved a means equal × ((x y : A) → same x y ≡ true → equal x y ≡ true);
     follows = λ o prepend prepends. record {
       prepends = prepends;
@@ -150,6 +158,8 @@ pub record MembersFacts (P : Type 0) (l : Layout) : Type 1 where
   pub tests : P → P → List Bool
   -- whether each member that is always there can't be absent
   pub there : Bool
+  -- with which error bytes are refused up to the end, after which nothing may be left over
+  pub rule : Rule
   pub Premise : Type 0
   -- two lists of readable members with the same trees pass them, where the first byte distinguishes missing members
   pub follows : Premise → AreLayoutMembers members l (λ x y. AreTrue (tests x y))
@@ -169,6 +179,7 @@ none_facts = record {
   members = λ x. Trees.none;
   tests = λ x y. [];
   there = true;
+  rule = end_rule;
   Premise = ⊤;
   follows =
       λ o. no_layout_members;
@@ -177,12 +188,14 @@ none_facts = record {
 module _ {P : Type 0} {l : Layout} where
   -- one member before others
   abbrev pub member_facts : {X W : Type 0} {presence : Presence} {s : Shape} {meaning : W → Tree} {equal : W → W
-      → Bool} {item : X → Option W} (first : P → X) → MemberFacts X presence s meaning equal item → (X → Trees → Trees)
+      → Bool} {item : X → Option W} (first : P → X) → MemberFacts X presence s meaning equal item → (W → Bool)
+      → (X → Trees → Trees)
       → MembersFacts P l → MembersFacts P (layout_with presence s l)
-  member_facts first a prepend others = record {
+  member_facts {presence = presence} {s = s} {meaning = meaning} first a left_out prepend others = record {
     members = λ x. prepend (first x) (others.members x);
     tests = λ x y. a.eq (first x) (first y) ∷ others.tests x y;
     there = a.there && others.there;
+    rule = layout_rule presence meaning left_out s a.rule others.rule;
     Premise = ProvedMember a prepend × others.Premise;
     follows = λ o. lead first (layout_member a o.0) (others.follows o.1);
   }
@@ -190,7 +203,7 @@ module _ {P : Type 0} {l : Layout} where
   abbrev pub required_facts : {A : Type 0} {s : Shape} (first : P → A) → Facts A s → (A → Tree) → (A → A → Bool)
       → MembersFacts P l → MembersFacts P (Layout.required s l)
   required_facts first a means equal others =
-      member_facts first (always_facts a means equal) (λ v. Trees.more (means v)) others
+      member_facts first (always_facts a means equal) (λ v. false) (λ v. Trees.more (means v)) others
 
   -- where they are a part, and mean these trees
   abbrev pub members_facts : {V : Type 0} (part : V → P) → MembersFacts P l → (P → Trees) → MembersFacts V l
@@ -198,6 +211,7 @@ module _ {P : Type 0} {l : Layout} where
     members = λ x. members (part x);
     tests = λ x y. facts.tests (part x) (part y);
     there = facts.there;
+    rule = facts.rule;
     Premise = ProvedMembers facts members;
     follows = λ t. after part (layout_members facts t);
   }
@@ -211,6 +225,7 @@ module _ {P E : Type 0} (bytes : E → List ℕ) (excluded : List ℕ) (elements
     members = λ p. others_of bytes (elements p);
     tests = λ x y. pointwise (λ a b. pointwise eqb (bytes a) (bytes b)) (elements x) (elements y) ∷ [];
     there = true;
+    rule = unsaid;
     Premise = ⊤;
     follows = λ o. others_are bytes excluded elements outside;
   }
@@ -235,6 +250,7 @@ module _ {P S : Type 0} {l : Layout} (facts : MembersFacts P l) where
   sequence_facts distinct parts eq same = record {
     meaning = sequence_of facts.members parts;
     eq = eq;
+    rule = fields_rule ListKind.sequence facts.rule;
     Premise = facts.Premise;
     follows = λ o. let are = facts.follows o in record {
       has_shape = λ v r. (refl, are.has_layout (parts v) r.1);

@@ -11,6 +11,8 @@ use Rattle.picky_der_core.specs.Reading.{written_at, MayBeAt, IsAtFront}
 use Rattle.picky_der_core.specs.Refusal.{Judge, Refusal, plain_refusal, inside_refusal, int_error, content_error}
 use Rattle.picky_der_de.specs.State.{State}
 use Rattle.picky_der_de.specs.Steps.{Consumed, Fails, IsJudged, fetched_count, mendable_limit, place_of, is_hard}
+use Rattle.picky_der_de.specs.RefusesBy.{RefusesBy}
+use Rattle.picky_der_de.specs.PlainRules.{plain_rule}
 
 -- a tree of the shape was read
 pub record Reads (s : Shape) (old new : State) (t : Tree) : Type 0 where
@@ -86,6 +88,7 @@ pub record RefusesPlain {V : Type 0} (meaning : V → Tree) (tag : ℕ) (judge :
     (e : Asn1DerError) : Type 0 where
   pub refuses : Refuses meaning s old new e
   pub just : AreJustRefused (refusal_at tag judge old) old new e
+  pub by : RefusesBy (plain_rule tag judge) old new e
 
 -- ---- the kinds of plain values
 

@@ -3,6 +3,7 @@ ghost use Rattle.std.specs.Prelude.{◌↔◌, IsTrue, IfOk, IfErr};
 ghost use Rattle.picky_der_core.specs.Tree.{Tree};
 ghost use Rattle.picky_der_core.specs.Shape.{Shapes, firsts_of, contains};
 ghost use Rattle.picky_der_core.specs.Equality.{IsThatOf};
+ghost use Rattle.picky_der_de.specs.RefusesBy.{RefusesBy};
 ghost use Rattle.picky_der_de.specs.Choices.{ReadsAfter, RefusesAfter, chosen_of, equal_this_or_other};
 ghost use Rattle.picky_der_de.specs.ChoiceFacts.{ChoiceFacts, no_choice_facts, this_or_other_facts};
 
@@ -56,7 +57,8 @@ pub trait Alternatives: Sized {
     /// `InvalidData` if no alternative begins with it. Any other error is the alternative's.
     fn deserialize_alternative<R: ReadExt>(tag: Tag, de: &mut Deserializer<R>) -> Result<Self>
         ensures ok { IfOk result (λ value. ReadsAfter shapes tag de.old de.new (chosen value)) }
-        ensures err { IfErr result (RefusesAfter chosen shapes tag de.old de.new) };
+        ensures err { IfErr result (RefusesAfter chosen shapes tag de.old de.new) }
+        ensures refused_by { IfErr result (RefusesBy (facts.rule tag) de.old de.new) };
 
     // The premise, proved.
     ghost premise: { facts.Premise };

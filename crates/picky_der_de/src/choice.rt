@@ -3,6 +3,8 @@ ghost use Rattle.std.specs.Prelude.{◌≡◌, true, IfOk, IfErr};
 ghost use Rattle.picky_der_core.specs.Shape.{Shape};
 ghost use Rattle.picky_der_core.specs.Tree.{Tree};
 ghost use Rattle.picky_der_de.specs.Reading.{Reads, Refuses};
+ghost use Rattle.picky_der_de.specs.RefusesBy.{RefusesBy};
+ghost use Rattle.picky_der_de.specs.Rules.{choice_rule};
 ghost use Rattle.picky_der_de.specs.ChoiceFacts.{are_distinct};
 
 use crate::{Alternatives, Deserializer};
@@ -35,6 +37,8 @@ pub fn deserialize_choice_as<T: Choice, R: ReadExt>(de: &mut Deserializer<R>) ->
     ensures err { IfErr result (Refuses
         (λ value. Tree.choice (T.Alternatives.chosen (T.parts value)))
         (Shape.choice T.Alternatives.shapes) de.old de.new) }
+    ensures refused_by { IfErr result (RefusesBy (choice_rule T.Alternatives.facts.rule)
+        de.old de.new) }
 {
     let tag = match de.deserialize_enum("", &[]) {
         Ok(tag) => tag,

@@ -2,6 +2,7 @@
 ghost use Rattle.picky_der_de.specs.declared.entry.TheConstants.{DEFAULT_MAX_LEN};
 ghost use Rattle.std.specs.Prelude.{◌≡◌, length, IfOk, IfErr};
 ghost use Rattle.picky_der_de.specs.Entry.{IsFront, HasNoFront, ReadsFront, RefusesFront, view_of};
+ghost use Rattle.picky_der_de.specs.Rules.{RefusesFrontBy, RefusesSliceBy};
 
 use crate::{Deserialize, Deserializer};
 use picky_der_core::Result;
@@ -17,6 +18,8 @@ fn read_from<T: Deserialize, R: ReadExt>(alloc: Global, reader: R, max_len: usiz
         (view_of R.remaining R.faults reader) (view_of R.remaining R.faults result.1)) }
     ensures err { IfErr result.0 (RefusesFront T.meaning T.shape max_len
         (view_of R.remaining R.faults reader) (view_of R.remaining R.faults result.1)) }
+    ensures refused_by { IfErr result.0 (RefusesFrontBy T.facts.rule max_len
+        (view_of R.remaining R.faults reader) (view_of R.remaining R.faults result.1)) }
     ensures same_references { R.references result.1 ≡ R.references reader }
 {
     let mut de = Deserializer::new_from_reader(alloc, reader, max_len);
@@ -27,10 +30,12 @@ fn read_from<T: Deserialize, R: ReadExt>(alloc: Global, reader: R, max_len: usiz
 /// The value at the front of a slice. Bytes after it are ignored.
 ///
 /// An error other than `OutOfMemory` means that no readable value of the type's shape is at the front. It is
-/// `TruncatedData` if more bytes after the slice could make one. Any other error is final.
+/// `TruncatedData` if more bytes after the slice could make one. Any other error is final. It is the error of the
+/// type's rule.
 pub fn from_bytes<T: Deserialize>(alloc: Global, bytes: &[u8]) -> Result<T>
     ensures ok { IfOk result (IsFront T.meaning T.shape T.eq bytes.now (length bytes.now)) }
     ensures err { IfErr result (HasNoFront T.meaning T.shape bytes.now (length bytes.now)) }
+    ensures refused_by { IfErr result (RefusesSliceBy T.facts.rule bytes.now) }
 {
     let mut de = Deserializer::new_from_reader(alloc, bytes, bytes.len());
     let result = T::deserialize(&mut de);
@@ -45,11 +50,14 @@ pub fn from_bytes<T: Deserialize>(alloc: Global, bytes: &[u8]) -> Result<T>
 /// readable value of the type's shape is there within the limit.
 ///
 /// `Other` comes only if the reader failed. Unless the error is `TruncatedData`, no more bytes after the consumed ones
-/// could make a value. What was consumed isn't given back.
+/// could make a value. What was consumed isn't given back. Unless the reader or an allocation failed, it is the error
+/// of the type's rule.
 pub fn from_reader<T: Deserialize, R: ReadExt>(alloc: Global, reader: &mut R) -> Result<T>
     ensures ok { IfOk result (ReadsFront T.meaning T.shape T.eq DEFAULT_MAX_LEN
         (view_of R.remaining R.faults reader.old) (view_of R.remaining R.faults reader.new)) }
     ensures err { IfErr result (RefusesFront T.meaning T.shape DEFAULT_MAX_LEN
+        (view_of R.remaining R.faults reader.old) (view_of R.remaining R.faults reader.new)) }
+    ensures refused_by { IfErr result (RefusesFrontBy T.facts.rule DEFAULT_MAX_LEN
         (view_of R.remaining R.faults reader.old) (view_of R.remaining R.faults reader.new)) }
     ensures same_references { R.references reader.new ≡ R.references reader.old }
 {
@@ -65,6 +73,8 @@ pub fn from_reader_with_max_len<T: Deserialize, R: ReadExt>(
     ensures ok { IfOk result (ReadsFront T.meaning T.shape T.eq max_len
         (view_of R.remaining R.faults reader.old) (view_of R.remaining R.faults reader.new)) }
     ensures err { IfErr result (RefusesFront T.meaning T.shape max_len
+        (view_of R.remaining R.faults reader.old) (view_of R.remaining R.faults reader.new)) }
+    ensures refused_by { IfErr result (RefusesFrontBy T.facts.rule max_len
         (view_of R.remaining R.faults reader.old) (view_of R.remaining R.faults reader.new)) }
     ensures same_references { R.references reader.new ≡ R.references reader.old }
 {

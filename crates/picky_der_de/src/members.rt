@@ -2,7 +2,7 @@
 //! of them.
 ghost use Rattle.std.specs.Prelude.{◌≡◌, Bool, false, Option, Some, IfOk, IfErr, IfSome, IfNone, true, None};
 ghost use Rattle.picky_der_core.specs.Shape.{Shape, Layout};
-ghost use Rattle.picky_der_core.specs.Tree.{Tree};
+ghost use Rattle.picky_der_core.specs.Tree.{ListKind, Tree};
 ghost use Rattle.picky_der_ser.specs.Meaning.{unless_default};
 ghost use Rattle.picky_der_de.specs.Members.{ReadsMember};
 ghost use Rattle.picky_der_de.specs.Layouts.{Presence, always, perhaps, Lacks, RefusesLayoutMember, ReadsLayout};
@@ -12,6 +12,8 @@ ghost use Rattle.picky_der_de.specs.MembersFacts.{MemberFacts, ProvedMember, alw
 ghost use Rattle.picky_der_de.specs.MembersFacts.{perhaps_facts, default_facts, MembersFacts, ProvedMembers};
 ghost use Rattle.picky_der_de.specs.MembersFacts.{none_facts, sequence_of, sequence_shape};
 ghost use Rattle.picky_der_de.specs.Reading.{Reads, Refuses};
+ghost use Rattle.picky_der_de.specs.RefusesBy.{RefusesBy};
+ghost use Rattle.picky_der_de.specs.Rules.{field_rule, fields_rule, LeadsTo, RefusesBefore};
 ghost use Rattle.picky_der_de.specs.FirstTests.{are_members_distinct};
 
 use crate::{Begins, Deserialize, Deserializer, Sequence};
@@ -59,7 +61,7 @@ pub trait DeserializeMember: SerializeMember + PartialEq + Drop + Sized {
         ensures none { IfOk result (λ member. IfNone (item member)
             (Lacks shape (state_of sequence.old) (state_of sequence.new))) }
         ensures err { IfErr result (RefusesLayoutMember presence item_meaning left_out shape
-            (state_of sequence.old) (state_of sequence.new)) };
+            (field_rule facts.rule) (state_of sequence.old) (state_of sequence.new)) };
 
     // The tree determines which values are never written.
     ghost distinguished: { IsLeftOut item_meaning item left_out };
@@ -200,6 +202,10 @@ pub trait DeserializeMembers: SerializeMembers + PartialEq + Drop + Sized {
         ensures ok { IfOk result (λ it. ReadsLayout layout (state_of sequence.old)
             (state_of sequence.new) (Self.members it)) }
         ensures err { IfErr result (RefusesLayout Self.members layout (state_of sequence.old)
+            (state_of sequence.new)) }
+        ensures leads { IfOk result (λ _. LeadsTo facts.rule (state_of sequence.old)
+            (state_of sequence.new)) }
+        ensures refused_by { IfErr result (RefusesBefore facts.rule (state_of sequence.old)
             (state_of sequence.new)) };
 
     // The premise, and that the members mean the same to `SerializeMembers`.
@@ -246,6 +252,8 @@ pub fn deserialize_struct_as<T: Struct, R: ReadExt>(de: &mut Deserializer<R>) ->
         (sequence_of T.Members.members T.parts value)) }
     ensures err { IfErr result (Refuses (sequence_of T.Members.members T.parts)
         (sequence_shape T.Members.layout) de.old de.new) }
+    ensures refused_by { IfErr result (RefusesBy (fields_rule ListKind.sequence T.Members.facts.rule)
+        de.old de.new) }
 {
     let mut sequence = de.begin_list(Tag::SEQUENCE)?;
     let members = T::Members::deserialize_members(&mut sequence)?;

@@ -41,6 +41,7 @@ impl<'a, R: ReadExt> Sequence<'a, R> {
     ghost use Rattle.picky_der_de.specs.Ends.{OpensLazily, Closes, RefusesClose};
     ghost use Rattle.picky_der_de.specs.LookAhead.{Identifies, RefusesIdentifier};
     ghost use Rattle.picky_der_de.specs.Members.{ReadsMember, RefusesMember, HasNoMore, ReadsAll, RefusesAll};
+    ghost use Rattle.picky_der_de.specs.Rules.{field_rule, RefusesEachBy};
     ghost use Rattle.picky_der_ser.specs.Meaning.{unless_default};
     ghost use Rattle.picky_der_de.specs.Layouts.{Lacks, RefusesOptional, RefusesDefault};
 
@@ -70,7 +71,7 @@ impl<'a, R: ReadExt> Sequence<'a, R> {
             (T.meaning value))) }
         ensures none { IfOk result (λ next. IfNone next
             (HasNoMore (state_of self.old) (state_of self.new))) }
-        ensures err { IfErr result (RefusesMember T.meaning T.shape (state_of self.old)
+        ensures err { IfErr result (RefusesMember T.meaning T.shape T.facts.rule (state_of self.old)
             (state_of self.new)) }
         ensures ahead { IfErr result (λ e. (state_of self.old).failed ≡ None
             → 0 < (state_of self.old).until_end) }
@@ -88,8 +89,8 @@ impl<'a, R: ReadExt> Sequence<'a, R> {
         ensures outer { outer_of self.new ≡ outer_of self.old }
         ensures ok { IfOk result (λ value. ReadsMember T.shape (state_of self.old)
             (state_of self.new) (T.meaning value)) }
-        ensures err { IfErr result (RefusesMember T.meaning T.shape (state_of self.old)
-            (state_of self.new)) }
+        ensures err { IfErr result (RefusesMember T.meaning T.shape (field_rule T.facts.rule)
+            (state_of self.old) (state_of self.new)) }
         ensures at_end { (state_of self.old).failed ≡ None → (state_of self.old).until_end ≡ 0
             → (result ≡ Err Asn1DerError.TruncatedData)
             × ((state_of self.new) ≡ failed_with (state_of self.old) Asn1DerError.TruncatedData) }
@@ -108,7 +109,7 @@ impl<'a, R: ReadExt> Sequence<'a, R> {
         ensures outer { outer_of self.new ≡ outer_of self.old }
         ensures ok { IfOk result (λ value. ReadsMember T.shape (state_of self.old)
             (state_of self.new) (T.meaning value)) }
-        ensures err { IfErr result (RefusesMember T.meaning T.shape (state_of self.old)
+        ensures err { IfErr result (RefusesMember T.meaning T.shape T.facts.rule (state_of self.old)
             (state_of self.new)) }
     {
         self.de.next_member()
@@ -149,8 +150,8 @@ impl<'a, R: ReadExt> Sequence<'a, R> {
             (T.meaning value))) }
         ensures none { IfOk result (λ next. IfNone next
             (Lacks T.shape (state_of self.old) (state_of self.new))) }
-        ensures err { IfErr result (RefusesOptional T.meaning T.shape (state_of self.old)
-            (state_of self.new)) }
+        ensures err { IfErr result (RefusesOptional T.meaning T.shape (field_rule T.facts.rule)
+            (state_of self.old) (state_of self.new)) }
     {
         match self.next_tag() {
             Ok(Some(tag)) => {
@@ -176,8 +177,8 @@ impl<'a, R: ReadExt> Sequence<'a, R> {
             (T.meaning other))) }
         ensures none { IfOk result (λ value. IfNone (unless_default D.left_out value)
             (Lacks T.shape (state_of self.old) (state_of self.new))) }
-        ensures err { IfErr result (RefusesDefault T.meaning D.left_out T.shape (state_of self.old)
-            (state_of self.new)) }
+        ensures err { IfErr result (RefusesDefault T.meaning D.left_out T.shape (field_rule T.facts.rule)
+            (state_of self.old) (state_of self.new)) }
     {
         match self.next_optional::<T>()? {
             Some(value) => {
@@ -200,6 +201,8 @@ impl<'a, R: ReadExt> Sequence<'a, R> {
             (state_of self.new) values.items) }
         ensures err { IfErr result (RefusesAll T.meaning T.shape (state_of self.old)
             (state_of self.new)) }
+        ensures refused_by { IfErr result (RefusesEachBy T.meaning T.shape T.facts.rule
+            (state_of self.old) (state_of self.new)) }
     {
         let mut values = Vec::new(self.de.alloc());
         while !self.de.is_at_end()? {
@@ -249,6 +252,8 @@ impl<R: ReadExt> Deserializer<R> {
     ghost use Rattle.picky_der_de.specs.Ends.{OpensList};
     ghost use Rattle.picky_der_de.specs.Lending.{LendsList};
     ghost use Rattle.picky_der_de.specs.Members.{RefusesUnordered};
+    ghost use Rattle.picky_der_de.specs.RefusesBy.{RefusesBy};
+    ghost use Rattle.picky_der_de.specs.Rules.{list_of_rule};
 
     /// Begins to read a sequence (X.690, 8.9 and 8.10). Directly under an implicit tag the header is that of the tag.
     /// The tag's end is a soft one then, until the sequence is closed.
@@ -334,6 +339,8 @@ impl<R: ReadExt> Deserializer<R> {
             self.new) }
         ensures order { tag ≡ 0x31 → IfErr result (RefusesUnordered T.meaning T.shape self.old
             self.new) }
+        ensures refused_by { IfErr result (RefusesBy
+            (list_of_rule T.meaning T.shape (list_kind tag) T.facts.rule) self.old self.new) }
     {
         let mut members = self.begin_list(tag)?;
         let values = members.remaining::<T>()?;

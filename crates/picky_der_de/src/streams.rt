@@ -6,6 +6,7 @@ ghost use Rattle.picky_der_de.specs.Reading.{Reads, Refuses};
 ghost use Rattle.picky_der_core.specs.Reading.{Place, IsMendable};
 ghost use Rattle.picky_der_de.specs.Steps.{IsJudged, IsOther};
 ghost use Rattle.picky_der_de.specs.Entry.{IsFront, HasNoFront, ReadsFront, HasNoneLeft, RefusesNextValue};
+ghost use Rattle.picky_der_de.specs.Rules.{RefusesSliceBy};
 ghost use Rattle.picky_der_de.specs.Entry.{view_of, any_length};
 
 use crate::{Deserialize, Deserializer, from_bytes, from_reader_with_max_len};
@@ -23,6 +24,7 @@ pub fn next_from_bytes<T: Deserialize>(alloc: Global, bytes: &[u8]) -> Result<(T
     ensures consumed { IfOk result (λ next. next.1 ≡ length (der (T.meaning next.0))) }
     ensures within { IfOk result (λ next. next.1 ≤ length bytes.now) }
     ensures err { IfErr result (HasNoFront T.meaning T.shape bytes.now (length bytes.now)) }
+    ensures refused_by { IfErr result (RefusesSliceBy T.facts.rule bytes.now) }
 {
     let mut rest = bytes;
     let value = from_reader_with_max_len::<T, &[u8]>(alloc, &mut rest, bytes.len())?;

@@ -1,6 +1,8 @@
 //! Types that are read as values of another type.
 ghost use Rattle.std.specs.Prelude.{◌≡◌, IfOk, IfErr};
 ghost use Rattle.picky_der_de.specs.Reading.{Reads, Refuses};
+ghost use Rattle.picky_der_de.specs.RefusesBy.{RefusesBy};
+ghost use Rattle.picky_der_de.specs.Rules.{tested_rule};
 ghost use Rattle.picky_der_de.specs.Twins.{IsNoValue};
 
 use crate::{Deserialize, Deserializer};
@@ -30,6 +32,7 @@ pub fn deserialize_as<T: Via, R: ReadExt>(de: &mut Deserializer<R>) -> Result<T>
         (T.As.meaning (T.parts value))) }
     ensures err { IfErr result (Refuses (λ value. T.As.meaning (T.parts value)) T.As.shape de.old
         de.new) }
+    ensures refused_by { IfErr result (RefusesBy T.As.facts.rule de.old de.new) }
 {
     Ok(T::from_parts(T::As::deserialize(de)?))
 }
@@ -59,6 +62,8 @@ pub fn try_deserialize_as<T: TryVia, R: ReadExt>(de: &mut Deserializer<R>) -> Re
         (T.As.meaning (T.parts value))) }
     ensures err { IfErr result (Refuses (λ value. T.As.meaning (T.parts value)) T.As.shape de.old
         de.new) }
+    ensures refused_by { IfErr result (RefusesBy (tested_rule T.As.meaning T.As.shape T.parts
+        T.As.facts.rule) de.old de.new) }
 {
     let twin = T::As::deserialize(de)?;
     match T::try_from_parts(twin) {

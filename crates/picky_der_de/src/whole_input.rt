@@ -1,6 +1,7 @@
 //! Whole inputs: bytes that are the encoding of one value and nothing else.
 ghost use Rattle.std.specs.Prelude.{◌≡◌, ◌↔◌, length, IsTrue, IfOk, IfErr};
 ghost use Rattle.picky_der_core.specs.Equality.{IsKept};
+ghost use Rattle.picky_der_de.specs.Rules.{RefusesWholeBy};
 ghost use Rattle.picky_der_de.specs.Whole.{IsWhole, IsNoEncoding};
 
 use crate::{Deserialize, Deserializer};
@@ -46,10 +47,14 @@ impl From<DecodeError> for Asn1DerError {
 /// An error other than `OutOfMemory` means that they aren't the encoding of a value. Unless it is `TruncatedData`, no
 /// bytes after them could make them one. Bytes after the encoding of a value are `InvalidData`, at the position after
 /// it.
+///
+/// The error and the position are those of the type's rule.
 pub fn from_der<T: Deserialize>(alloc: Global, bytes: &[u8]) -> Result<T, DecodeError>
     ensures ok { IfOk result (IsWhole T.meaning T.shape T.eq bytes.now) }
     ensures err { IfErr result (λ refusal. IsNoEncoding T.meaning T.shape bytes.now
         refusal.error refusal.position) }
+    ensures refused_by { IfErr result (λ refusal. RefusesWholeBy T.meaning T.shape T.facts.rule
+        bytes.now refusal.error refusal.position) }
 {
     let mut de = Deserializer::new_from_reader(alloc, bytes, bytes.len());
     let outcome = T::deserialize(&mut de);

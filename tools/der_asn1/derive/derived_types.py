@@ -104,7 +104,7 @@ def _struct(file: RustFile, it: Item, notes: Notes, module: str) -> StructDeclar
     """A SEQUENCE, or the members of a SET."""
     parameters = {one.argument for one in it.generics.parameters}
     fields = [_member(file, part, parameters) for part in it.parts]
-    later = fields.pop() if fields[-1].type.name == "LaterMembers" else None
+    later = fields.pop() if fields[-1].type.name in ("LaterMembers", "LaterMembersFrom") else None
     if len(fields) > MOST_MEMBERS or not fields:
         raise file.source.error(it.line, f"`{it.name}` has {len(fields)} members, and not 1 to {MOST_MEMBERS}")
     unused = parameters - set().union(*(one.type.words() for one in [*fields, *([later] if later else [])]))

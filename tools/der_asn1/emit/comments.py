@@ -12,7 +12,14 @@ def sentence(text: str) -> str:
 def difference_note(declared: Declaration) -> list[str]:
     """A paragraph that says so if the values differ from the notation's."""
     found = declared.differences()
+    if declared.levels and not found:
+        return ["///", *comment("", "///", f"Its values have {levels_text(declared.levels)}.")]
     return ["///", *comment("", "///", f"Its values differ from the notation's. The crate lacks: {'; '.join(found)}.")] if found else []
+
+
+def levels_text(levels: int) -> str:
+    """How many levels values have that may be in each other."""
+    return "one level" if levels == 1 else f"at most {levels} levels"
 
 
 def default_note(it: Field) -> str:

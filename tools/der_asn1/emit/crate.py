@@ -4,7 +4,7 @@ from pathlib import Path
 from typing import Iterable
 
 from ..meaning.causes import Cause
-from ..meaning.declarations import AliasDeclaration, ChoiceDeclaration, Declaration, Declarations, EnumDeclaration
+from ..meaning.declarations import AliasDeclaration, ChoiceDeclaration, Declaration, Declarations, EnumDeclaration, SetDeclaration
 from ..meaning.library_table import LIBRARY_NAMES
 from ..meaning.terms import names_of
 from ..parse import tree
@@ -92,7 +92,7 @@ class Crate:
 
     def context(self) -> Context:
         """What the files of types depend on."""
-        fields = {part.name for it in self.types.values() if not isinstance(it, AliasDeclaration) for part in it.parts()}
+        fields = {part.name for it in self.types.values() if not isinstance(it, (AliasDeclaration, SetDeclaration)) for part in it.parts()}
         return Context(self.name, self.homes(), PrivateNames([*self.homes(), *LIBRARY_NAMES, *fields]), self.types)
 
     def homes(self) -> dict[str, str]:
@@ -170,7 +170,7 @@ def named_in_types(declared: Declaration) -> set[str]:
     """The names of the types that a declaration is made of."""
     if isinstance(declared, AliasDeclaration):
         return declared.type.names()
-    if isinstance(declared, EnumDeclaration):
+    if isinstance(declared, (EnumDeclaration, SetDeclaration)):
         return set()
     return set().union(*(it.type.names() for it in declared.parts()))
 

@@ -218,7 +218,7 @@ def serialize_impl(declared: EnumDeclaration) -> list[str]:
 
 def deserialize_impl(declared: EnumDeclaration) -> list[str]:
     """The implementation of `Deserialize`."""
-    facts = f"contents_facts {tag_text(declared)} {content_term(declared)} ⟦<Self as PartialEq>⟧.eq ⟦<Self as Contents>⟧.same"
+    facts = f"contents_facts {tag_text(declared)} {content_term(declared)} ⟦<Self as PartialEq>⟧.eq ⟦<Self as Contents>⟧.is_content ⟦<Self as Contents>⟧.same"
     return [
         f"impl Deserialize for {declared.name} {{",
         f"{STEP}ghost shape = {{ contents_shape {tag_text(declared)} }};",

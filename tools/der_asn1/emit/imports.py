@@ -21,6 +21,9 @@ _TERM_ORDER = [
     "Rattle.picky_der_de.specs.ChoiceFacts",
     "Rattle.picky_der_de.specs.Faithful",
     "Rattle.picky_der_de.specs.MembersFacts",
+    "Rattle.der_types.specs.Alphabets",
+    "Rattle.der_types.specs.CharacterSetLaws",
+    "Rattle.der_types.specs.ContentTypes",
     "Rattle.der_types.specs.ContentsFacts",
     "Rattle.der_types.specs.Notation",
     "Rattle.der_types.specs.Exact",
@@ -29,6 +32,7 @@ _TERM_ORDER = [
     "Rattle.der_types.specs.ExactDefaults",
     "Rattle.der_types.specs.ExactEnumerated",
     "Rattle.der_types.specs.ExactMembers",
+    "Rattle.der_types.specs.ExactStrings",
     "Rattle.der_types.specs.Sameness",
     "Rattle.der_types.specs.SampleTrees",
 ]

@@ -21,8 +21,10 @@ def natural(name: str) -> list[tuple[int, int, str]]:
 
 
 def tuple_lines(indent: str, before: str, items: list[str], after: str) -> list[str]:
-    """A tuple, of types or of values: on one line if that fits, or else with each item on its own."""
+    """A tuple, of types or of values: on one line if that fits, or else with each item on its own. One item alone is no tuple."""
     inner = ", ".join(items)
+    if len(items) == 1:
+        return [f"{indent}{before}{inner}{after}"]
     line = f"{indent}{before}({inner}){after}"
     if len(line) <= WIDTH and len(inner) <= TUPLE_WIDTH:
         return [line]

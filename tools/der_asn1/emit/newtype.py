@@ -79,13 +79,15 @@ def alike_impl(declared: NewtypeDeclaration) -> list[str]:
     ]
 
 
-def deserialize_impl(declared: NewtypeDeclaration, function: str = "deserialize_as") -> list[str]:
+def deserialize_impl(declared: NewtypeDeclaration, function: str = "deserialize_as", tested: bool = False) -> list[str]:
     """The implementation of `Deserialize`: as the type inside, by this function."""
+    inner = f"{quoted(declared, 'Deserialize')}.facts"
+    facts = f"tested_facts {inner} {quoted(declared, 'Serialize')}.meaning" if tested else f"facts_as {inner}"
     return [
         f"impl Deserialize for {declared.name} {{",
         f"{STEP}ghost shape = {{ {quoted(declared, 'Deserialize')}.shape }};",
         "",
-        f"{STEP}ghost facts = {{ facts_as {quoted(declared, 'Deserialize')}.facts (λ it. it.{declared.part}) }};",
+        f"{STEP}ghost facts = {{ {facts} (λ it. it.{declared.part}) }};",
         "",
         f"{STEP}ghost proved = {{ Prim.assumption }};",
         "",

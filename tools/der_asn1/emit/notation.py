@@ -7,6 +7,7 @@ from ..meaning.terms import default_tags, names_of
 from ..meaning.wording import snake
 from ..parse import tree
 from ..parse.tree import TagMode
+from .comments import levels_text
 from .imports import imports
 from .layout import natural
 from .terms import definition
@@ -84,7 +85,8 @@ def mode_lines(module: tree.Module) -> list[str]:
 def type_lines(declared: Declaration) -> list[str]:
     """A type as a term."""
     text = getattr(declared, "notation", "") if not declared.term.group() else ""
-    return definition(declared.name, declared.term, [f"{declared.source} of {declared.module}{f': {text}' if text else ''}"])
+    levels = f", with {levels_text(declared.levels)}" if declared.inner else ""
+    return definition(declared.name, declared.term, [f"{declared.source} of {declared.module}{levels}{f': {text}' if text else ''}"])
 
 
 def notation_file(types: list[Declaration], homes: dict[str, str], crate: str) -> list[str]:

@@ -144,8 +144,12 @@ class _Printer:
         if word in ("any-content", "content-under"):
             tag = int(given[0].word, 16)
             return f"[{_CLASS_BITS[tag & 0xC0]}{tag & 0x1F}] IMPLICIT {self.type(given[1]) if len(given) > 1 else 'OCTET STRING'}"
+        if word == "beyond-depth":
+            return "OCTET STRING (SIZE (1..0))"
         if word == "SIZE":
             return self.sized(given)
+        if word == "FROM":
+            return f"{self.type(given[1])} (FROM ({' | '.join(map(characters, parts_of(given[0])[:-1]))}))"
         if word in _LISTS:
             return f"{_LISTS[word]} OF {self.type(given[0])}"
         if word in _CONTAINERS:
@@ -169,6 +173,8 @@ class _Printer:
             return f"INTEGER ({numbers[0]}..{numbers[1]})"
         if word == "INTEGER-from-minus-to":
             return f"INTEGER (-{numbers[0]}..{numbers[1]})"
+        if word == "INTEGER-in":
+            return f"INTEGER ({' | '.join(map(interval, parts_of(given[0])[:-1]))})"
         if word == "INTEGER-named":
             return f"INTEGER ({' | '.join(it.word for it in parts_of(given[0])[:-1])})"
         if word == "ENUMERATED":
@@ -201,7 +207,7 @@ class _Printer:
         if term.word == "default":
             return f"{self.type(term.arguments[1])} DEFAULT {value(term.arguments[0])}"
         if term.word == "default-of":
-            return f"{self.type(term.arguments[1])} DEFAULT {term.arguments[0].word}"
+            return f"{self.type(term.arguments[1])} DEFAULT {value(term.arguments[0])}"
         return f"{self.type(term.arguments[0])}{_PRESENCES[term.word]}"
 
     def alternatives(self, parts: list[Applied]) -> str:
@@ -215,6 +221,18 @@ def value(term: Applied) -> str:
     if term.word == "number":
         return term.arguments[0].word
     return f"-{term.arguments[0].word}" if term.word == "minus" else term.word
+
+
+def interval(term: Applied) -> str:
+    """Numbers from one to another, from one on, or up to one."""
+    ends = [value(it) for it in term.arguments]
+    return {"from-to": "{0}..{1}", "from-on": "{0}..MAX", "up-to": "MIN..{0}"}[term.word].format(*(ends * 2))
+
+
+def characters(term: Applied) -> str:
+    """A range of characters, each as the group, plane, row and cell of its number (X.680, 41.7)."""
+    ends = [int(term.word.rstrip(",")), int(term.arguments[0].word)]
+    return "..".join(f"{{{it >> 24}, {it >> 16 & 0xFF}, {it >> 8 & 0xFF}, {it & 0xFF}}}" for it in ends)
 
 
 def parts_of(term: Applied) -> list[Applied]:

@@ -26,8 +26,8 @@ deserialize_struct_as Begins Tag List Notated NotatedMembers Exact ExactMembers"
 
 
 def chunks(items: list[Field]) -> list[list[Field]]:
-    """The members in tuples of eight."""
-    return [items[it : it + CHUNK] for it in range(0, len(items), CHUNK)]
+    """The members in tuples of eight. A struct of members of later versions alone has one tuple, of none."""
+    return [items[it : it + CHUNK] for it in range(0, len(items), CHUNK)] or [[]]
 
 
 def tuple_names(declared: StructDeclaration, names: PrivateNames) -> list[str]:
@@ -160,7 +160,7 @@ def ghost_tuple(before: str, parts: list[list[Field]], after: str, value: str, l
     """The members as a term: nested tuples, each on one line if that fits."""
     items = [member_part(it, value) for it in parts[0]]
     rest = nested(parts[1:], value, last)
-    line = f"{before}({', '.join([*items, rest])}){after}"
+    line = f"{before}({', '.join([*items, rest])}){after}" if items else f"{before}{rest}{after}"
     if len(line) <= GHOST_WIDTH:
         return [line]
     indent = " " * (len(before) - len(before.lstrip()) + 2)
@@ -198,7 +198,7 @@ def bound(it: Field) -> str:
 
 def binding(items: list[str], source: str) -> list[str]:
     """One tuple that is taken apart."""
-    pattern = f"{_TWO}let ({', '.join(items)}) ="
+    pattern = f"{_TWO}let ({', '.join(items)}) =" if len(items) > 1 else f"{_TWO}let {items[0]} ="
     if len(f"{pattern} {source};") <= WIDTH:
         return [f"{pattern} {source};"]
     if len(pattern) <= WIDTH:
@@ -247,6 +247,8 @@ def last_reference(declared: StructDeclaration, before: str) -> str:
 def called(items: list[str], method: str, argument: str) -> list[str]:
     """A call of a tuple's method: broken at the argument if the tuple is short enough for one line, or else after the tuple."""
     inner = ", ".join(items)
+    if len(items) == 1:
+        return [f"{_TWO}{items[0].removeprefix('&')}.{method}({argument})"]
     lines = tuple_lines(_TWO, "", items, f".{method}({argument})")
     if len(lines) == 1:
         return lines
@@ -338,7 +340,7 @@ def member_paths(declared: StructDeclaration) -> list[str]:
 def after_last(declared: StructDeclaration) -> str:
     """Where what comes after the last member is in the tuples."""
     tuples = chunks(declared.fields)
-    return f"m{f'.{CHUNK}' * (len(tuples) - 1)}.{len(tuples[-1])}"
+    return f"m{f'.{CHUNK}' * (len(tuples) - 1)}.{len(tuples[-1])}" if declared.fields else "m"
 
 
 def member_value(it: Field, path: str) -> str:

@@ -15,7 +15,7 @@ _NAMES = """Constrained ReadExt WriteExt Deserialize Deserializer Result Seriali
 def tested_uses(declared: TestedDeclaration) -> Uses:
     """What the items of a type with a test name, without what its test names."""
     _, _, terms = determined(declared)
-    used = {"Rattle.std.proofs.Common": {"ap"}, "Rattle.picky_der_de.specs.Facts": {"facts_as"}}
+    used = {"Rattle.std.proofs.Common": {"ap"}, "Rattle.picky_der_de.specs.Facts": {"tested_facts"}}
     found = Uses({*_NAMES, declared.name, declared.function, *declared.type.names()}, terms=used)
     found.add(Uses(terms={PRELUDE: {"◌≡◌", "true", "false", "IfSome", "IfNone"}}))
     found.add(Uses(terms={home: set(names) for home, names in terms.items()}))
@@ -31,7 +31,7 @@ def tested_impls(declared: TestedDeclaration) -> list[str]:
         "",
         *constrained_impl(declared),
         "",
-        *deserialize_impl(declared, "deserialize_constrained_as"),
+        *deserialize_impl(declared, "deserialize_constrained_as", tested=True),
         "",
         *begins_impl(declared),
     ]

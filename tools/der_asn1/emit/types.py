@@ -1,9 +1,11 @@
 """The files of a crate's types: which file each type is in, and the lines of a file."""
 from dataclasses import dataclass, field
 
-from ..meaning.declarations import AliasDeclaration, ChoiceDeclaration, Declaration, EnumDeclaration, NewtypeDeclaration, StructDeclaration
+from ..meaning.declarations import AliasDeclaration, ChoiceDeclaration, Declaration, EnumDeclaration, NewtypeDeclaration, SetDeclaration
+from ..meaning.declarations import StructDeclaration
 from ..meaning.examples import has_example
 from ..meaning.wording import snake
+from .character_set import set_lines, set_uses
 from .choice import choice_lines, choice_uses
 from .comments import difference_note, sentence
 from .enum import TERMS_FILE, enum_lines, enum_uses
@@ -71,6 +73,8 @@ def uses_of(declared: Declaration, context: Context) -> Uses:
         return choice_uses(declared)
     if isinstance(declared, EnumDeclaration):
         return enum_uses(declared, context.crate)
+    if isinstance(declared, SetDeclaration):
+        return set_uses(declared)
     return Uses(declared.type.names())
 
 
@@ -85,12 +89,12 @@ def lines_of(declared: Declaration, stem: str, context: Context) -> list[str]:
         return choice_lines(declared, context.names, home)
     if isinstance(declared, EnumDeclaration):
         return enum_lines(declared, home)
-    return alias_lines(declared)
+    return set_lines(declared) if isinstance(declared, SetDeclaration) else alias_lines(declared)
 
 
 def promises(declared: Declaration, stem: str, context: Context) -> list[tuple[Uses, list[str]]]:
     """What says that a type's `==` is sameness of encodings, and that a value of it is readable. A name of another type has what that has."""
-    if isinstance(declared, AliasDeclaration) and not isinstance(declared, NewtypeDeclaration):
+    if isinstance(declared, SetDeclaration) or isinstance(declared, AliasDeclaration) and not isinstance(declared, NewtypeDeclaration):
         return []
     inner = context.names.of(declared, "Parts") if isinstance(declared, (StructDeclaration, ChoiceDeclaration)) else ""
     terms = f"Rattle.{context.crate}.specs.{TERMS_FILE}"

@@ -97,7 +97,8 @@ class Field:
 class Declaration:
     """A type that has a name: where it is defined, under which name, and with which comment.
 
-    `root` is the name of the assignment that it is all or a part of.
+    `root` is the name of the assignment that it is all or a part of. `levels` is how many it has at most, if it contains itself, and `inner`
+    says that another type of that assignment has more.
     `term` is the type that an assignment defines, as a term of der_types. What is only a part of one has none.
     """
 
@@ -110,6 +111,8 @@ class Declaration:
     lacks: list = field(default_factory=list)
     term: object = field(default=None, compare=False)
     root: str = ""
+    levels: int = 0
+    inner: bool = False
 
     def differences(self) -> list[str]:
         """Why its values, or the values of a part, differ from the notation's. An open type is any element, as the notation says."""
@@ -210,6 +213,18 @@ class TestedDeclaration(NewtypeDeclaration):
     by_reference: bool = False
     test: str = ""
     ghost: str = ""
+
+
+@dataclass
+class SetDeclaration(Declaration):
+    """A permitted alphabet: a set of characters of a string type, `base`, whose numbers are of `ranges`."""
+
+    base: object = None
+    ranges: tuple = ()
+
+    def parts(self) -> object:
+        """The string type, and which of its characters it has."""
+        return self.base, self.ranges
 
 
 class Declarations:

@@ -3,7 +3,6 @@ from typing import Mapping
 
 from ..parse.tree import Presence
 from .declarations import AliasDeclaration, ChoiceDeclaration, Declaration, EnumDeclaration, StructDeclaration
-from .library import ONE_BYTE
 from .rust_types import RustType
 
 # lists, of which one without members is readable
@@ -32,10 +31,8 @@ def of_type(type_: RustType, types: Mapping[str, Declaration]) -> bool:
     if type_.name in _LISTS:
         return True
     parts = [it for it in type_.arguments if isinstance(it, RustType)]
-    if type_.name in ("WithSize", "InRange"):
+    if type_.name == "WithSize":
         least, most = (_bound(str(it)) for it in type_.arguments[1:])
-        if type_.name == "InRange":
-            return least <= most and least in ONE_BYTE and of_type(parts[0], types)
         items = parts[0].arguments if least and parts[0].name in _LISTS else ()
         return least <= min(most, _MOST_ITEMS) and all(of_type(it, types) for it in (*items, parts[0]) if isinstance(it, RustType))
     return all(of_type(it, types) for it in parts)

@@ -3,15 +3,16 @@ from enum import Enum, IntEnum
 
 
 class Level(IntEnum):
-    """How well a type of the library expresses a type of the notation, the best level first. The first two are written without a flag."""
+    """How well a type of the library expresses a type of the notation, the best level first. The first three are written without a flag."""
 
     EXACT = 0  # it is written, and its encodings are exactly those of the notation's values
     OPEN = 1  # it is written, and an open type in it is any element, also one that its table doesn't allow
-    BY_HAND = 2  # it would be exact with types that are written by hand, and wider ones are written in their place
-    WIDER = 3  # all of it has a type, and some values differ: a default, an extension
-    PARTLY_RAW = 4  # something in it is kept as bytes
-    RAW = 5  # all of it is kept as bytes
-    REFUSED = 6  # there is no type
+    TO_DEPTH = 2  # it is written, and has the values in which a type isn't in itself more often than a flag says
+    BY_HAND = 3  # it would be exact with types that are written by hand, and wider ones are written in their place
+    WIDER = 4  # all of it has a type, and some values differ: a default, an extension
+    PARTLY_RAW = 5  # something in it is kept as bytes
+    RAW = 6  # all of it is kept as bytes
+    REFUSED = 7  # there is no type
 
     @property
     def shown(self) -> str:
@@ -21,7 +22,7 @@ class Level(IntEnum):
     @property
     def is_plain(self) -> bool:
         """Whether a type of this level is written without `--allow-raw` and `--allow-wider`."""
-        return self <= Level.OPEN
+        return self <= Level.TO_DEPTH
 
 
 class Feature(Enum):
@@ -70,7 +71,8 @@ class Note(Enum):
     ALPHABET = "a `CharacterSet` of its own"
     DEFAULT = "a `DefaultOf` of its own"
     OPEN = "an open type without a table, which is any element: that is all that the notation says"
-    CHARACTERS = "TeletexString or GeneralString, whose characters aren't checked"
+    DEPTH = "a type that contains itself, to a depth"
+    CHARACTERS = "a string of any bytes, as TeletexString or GeneralString, whose characters aren't checked"
     USER_CONSTRAINT = "CONSTRAINED BY, which says something in words alone"
 
     @property
@@ -86,4 +88,6 @@ class Note(Enum):
     @property
     def level(self) -> Level:
         """The level that a type has for it."""
+        if self is Note.DEPTH:
+            return Level.TO_DEPTH
         return Level.BY_HAND if self.is_own else Level.EXACT

@@ -4,6 +4,7 @@ from typing import Optional
 
 from ..parse import tree
 from ..parse.source import NotationError, Place
+from .alphabets import CHARACTERS
 from .members import members_of, selected
 from .scopes import Binding, Found, Program, Scope, resolve
 from .subtypes import Limits, Reader, only_contents, resolve_with_constraints
@@ -14,17 +15,6 @@ _DEPTH = 40
 # a type isn't shown by its text if this is longer
 _LONGEST = 60
 
-_DIGITS = frozenset("0123456789 ")
-_LETTERS = frozenset("ABCDEFGHIJKLMNOPQRSTUVWXYZabcdefghijklmnopqrstuvwxyz")
-_ASCII = frozenset(map(chr, range(128)))
-# the characters that a string may have (X.680, 41.2, 41.4 and table 8), for those that have few
-CHARACTERS = {
-    "NumericString": _DIGITS,
-    "PrintableString": _DIGITS | _LETTERS | frozenset("'()+,-./:=?"),
-    "IA5String": _ASCII,
-    "VisibleString": frozenset(map(chr, range(32, 127))),
-    "ISO646String": frozenset(map(chr, range(32, 127))),
-}
 # strings whose characters aren't those of ISO/IEC 10646, so that a value of one is none of another string type
 _OTHER_CHARACTERS = frozenset(("TeletexString", "T61String", "VideotexString", "GraphicString", "GeneralString"))
 STRINGS = frozenset((*CHARACTERS, *_OTHER_CHARACTERS, "UTF8String", "BMPString", "UniversalString"))

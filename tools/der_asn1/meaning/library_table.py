@@ -52,14 +52,11 @@ def types_of_rows(table: dict[str, list[dict[str, Any]]]) -> Iterator[LibraryTyp
 _ROWS = tuple(types_of_rows(ROWS))
 # what the library has no type for, as long as it has no row
 _OTHERS = (
-    LibraryType("ObjectDescriptor", 0x07, lacks=Note.ALPHABET),
     LibraryType("EXTERNAL", 0x28),
     LibraryType("REAL", 0x09, lacks=Feature.RARE),
     LibraryType("EMBEDDED PDV", 0x2B, lacks=Feature.RARE),
     LibraryType("SEQUENCE", 0x30),
     LibraryType("SET", 0x31),
-    LibraryType("VideotexString", 0x15, lacks=Note.ALPHABET),
-    LibraryType("GraphicString", 0x19, lacks=Note.ALPHABET),
     LibraryType("CHARACTER STRING", 0x3D, lacks=Feature.RARE),
 )
 TYPES = (*_ROWS, *(it for it in _OTHERS if it.name not in {row.name for row in _ROWS}))
@@ -68,16 +65,16 @@ UNIVERSAL_TAGS = {it.name: it.tag for it in TYPES}
 
 # the other names of the library that a crate may import, by their modules, in the order of imports
 _NAMES = {
-    _TYPES: """Asn1Set Contents Exact ExactAlternatives ExactContents ExactDefault ExactMembers InRange NamedBits Notated NotatedAlternatives NotatedDefault NotatedMembers OtherThan ImplicitPrimitive
-        ImplicitSet TagOrdered WithSize deserialize_contents_as""",
+    _TYPES: """Ascii Asn1Set AtLeast AtMost CharacterSet Contents Exact ExactAlternatives ExactContents ExactDefault ExactMembers InRange Minus NamedBits Notated NotatedAlternatives NotatedDefault NotatedMembers NotatedSet OtherThan Outside Plus
+        ImplicitPrimitive ImplicitSet RestrictedString TagOrdered Unicode Width WithSize deserialize_contents_as""",
     "picky_asn1_der::application_tag": "ApplicationTag",
     _ASN1: """Asn1SequenceOf Asn1SetOf BitStringAsn1Container ExplicitContextTag ImplicitContextTag OctetStringAsn1Container ImplicitList
         TaggedBytes Tag""",
     "picky_asn1_der::de": "Begins Faithful FaithfulAlternatives FaithfulDefault FaithfulMembers Inhabited deserialize_choice_as",
     "picky_asn1_der::misc": "ReadExt WriteExt",
     "picky_asn1_der::ser": "DefaultOf Defaulted DefaultedRef False Number Optional OptionalRef Sequence SignedNumber True",
-    _ROOT: """Via Alternatives Asn1RawDer Choice Deserialize DeserializeMembers Deserializer LaterMembers List NoneOf OneOf Choice4 Result
-        Serialize SerializeMembers Serializer Struct deserialize_as deserialize_struct_as""",
+    _ROOT: """Via Alternatives Asn1RawDer Choice Deserialize DeserializeMembers Deserializer LaterMembers LaterMembersFrom List NoneOf OneOf Choice4
+        Result Serialize SerializeMembers Serializer Struct deserialize_as deserialize_struct_as""",
 }
 _NUMBERED = re.compile(r"(ExplicitContextTag|ImplicitContextTag|ImplicitList)\d+$")
 _HOMES = {
@@ -93,9 +90,10 @@ LIBRARY_NAMES = frozenset(_HOMES)
 _TERMS = {
     "ContentForms": "BIT-STRING-named",
     "Notation": "INTEGER-named ENUMERATED any-content content-under end none optional required",
-    "NotationForms": """ANY APPLICATION AUTOMATIC BIT-STRING-CONTAINING CHOICE CONTEXT EXPLICIT FALSE IMPLICIT INTEGER-from-minus-to
-        INTEGER-from-to MAX Mode OCTET-STRING-CONTAINING PRIVATE SEQUENCE SEQUENCE-OF SET SET-OF SIZE TRUE UNIVERSAL added default
-        default-as-optional default-of wider later-alternatives-refused later-members later-members-refused minus number ◌⨾◌ ◌∣◌""",
+    "NotationForms": """ANY APPLICATION AUTOMATIC BIT-STRING-CONTAINING beyond-depth CHOICE CONTEXT EXPLICIT FALSE FROM IMPLICIT INTEGER-from-minus-to
+        INTEGER-from-to INTEGER-in MAX Mode OCTET-STRING-CONTAINING PRIVATE SEQUENCE SEQUENCE-OF SET SET-OF SIZE TRUE UNIVERSAL added default
+        default-as-optional default-of wider from-on from-to later-alternatives-refused later-members later-members-automatic
+        later-members-refused minus number up-to ◌⨾◌ ◌∣◌""",
 }
 _OWN_TERMS = {
     "ContentForms": [it.term for it in TYPES if it.is_checked],

@@ -39,9 +39,13 @@ def members_of(program: Program, type_: tree.Type, scope: Scope, depth: int = 0)
     found = []
     for it in written:
         found += [ResolvedMember(it, scope)] if isinstance(it, tree.Member) else _components(program, it, type_, scope, depth)
-    if scope.module.tag_default is tree.TagMode.AUTOMATIC and not any(it.type.tags for it in written if isinstance(it, tree.Member)):
-        found = _automatically_tagged(found)
-    return found
+    return _automatically_tagged(found) if is_automatic(type_, scope) else found
+
+
+def is_automatic(type_: tree.Type, scope: Scope) -> bool:
+    """Whether the tags of its members are automatic: its module says so, and no member has one in the text (X.680, 25.7)."""
+    written = type_.members if isinstance(type_, tree.StructureType) else type_.alternatives
+    return scope.module.tag_default is tree.TagMode.AUTOMATIC and not any(it.type.tags for it in written if isinstance(it, tree.Member))
 
 
 def _components(program: Program, included: tree.ComponentsOf, type_: tree.Type, scope: Scope, depth: int) -> list[ResolvedMember]:

@@ -8,13 +8,13 @@ from .causes import Where
 from .declarations import ChoiceDeclaration, Declaration, EnumDeclaration, Field, Hint, Item, StructDeclaration
 from .features import Feature, Level, Note
 from .intervals import Intervals
-from .library import ANY_FIRST, DEFAULT_SIGNED, DEFAULT_UNSIGNED, MOST_MEMBERS, ONE_BYTE, U64_MAX, Core, Rust, any_element, parts_type, tagged_bytes
+from .library import ANY_FIRST, DEFAULT_SIGNED, DEFAULT_UNSIGNED, MOST_MEMBERS, ONE_BYTE, Core, Rust, any_element, are_bounds, parts_type, tagged_bytes, written
 from .library_table import UNIVERSAL_TAGS
 from .meaning import Meaning, lacks
-from .members import ResolvedMember, is_extensible, members_of
+from .members import ResolvedMember, is_automatic, is_extensible, members_of
 from .rust_types import UNIT, RustType, of
 from .scopes import Program, Scope, resolve
-from .terms import Item as TermItem, Term, number_list
+from .terms import Item as TermItem, Term, number_list, value_word
 from .values import enumerated_numbers, integer_of, named_numbers, value_of
 from .wording import snake, variant
 
@@ -24,7 +24,7 @@ if TYPE_CHECKING:
 
 # the words of a term after the last member of an extensible type
 _OF_CHOICE = "X.680, 29.3"
-LATER, NO_LATER = "later-members", "later-members-refused"
+LATER, LATER_AUTOMATIC, NO_LATER = "later-members", "later-members-automatic", "later-members-refused"
 
 
 @dataclass(frozen=True)
@@ -38,6 +38,10 @@ class Part:
     def firsts(self) -> frozenset[int]:
         """The bytes that its encoding may begin with."""
         return self.meaning.rust.firsts
+
+    def begins_otherwise(self) -> bool:
+        """Whether the type in its place, which has no values, begins with one of several bytes alone."""
+        return self.meaning.rust.term.head.startswith("beyond-depth") and len(self.firsts) > 1
 
     def is_unknown(self) -> bool:
         """Whether nothing is known of its tag, since its type isn't given."""
@@ -68,7 +72,7 @@ def structure(meanings: "Meanings", type_: tree.StructureType, scope: Scope, hin
     except NotationError as error:
         meanings.program.problems.add(error.problem)
         return Meaning(tagged_bytes(first), Level.RAW).lacking(Feature.UNDEFINED)
-    if not parts:
+    if not parts and last_word(type_, scope, parts) != LATER_AUTOMATIC:
         return empty(type_, scope, first)
     if any(it.meaning.rust is None for it in parts):
         return _raw(tagged_bytes(first), parts)
@@ -115,7 +119,7 @@ def declared_struct(meanings: "Meanings", type_: tree.StructureType, scope: Scop
         found = found.lacking(*default.features).noting(*default.notes).placed(of_part(hint, it))
         fields.append(field_of(it, default))
     end = last_word(type_, scope, parts)
-    later = later_field(parts, fields) if end == LATER else None
+    later = later_field(parts, fields, end) if end in (LATER, LATER_AUTOMATIC) else None
     if end == NO_LATER:
         found = found.lacking(Feature.EXTENSION)
     fields = unique(fields if later is None else [*fields, later])
@@ -140,8 +144,10 @@ def last_word(type_: tree.StructureType, scope: Scope, parts: list[Part]) -> str
     """
     if not is_extensible(type_, scope):
         return "end"
-    is_any = any(it.firsts >= ANY_FIRST for it in before_later(parts))
-    return NO_LATER if type_.form is tree.Form.SET or type_.continues or is_any else LATER
+    is_any = any(it.firsts >= ANY_FIRST or it.begins_otherwise() for it in before_later(parts))
+    if type_.form is tree.Form.SET or type_.continues or is_any:
+        return NO_LATER
+    return LATER_AUTOMATIC if is_automatic(type_, scope) else LATER
 
 
 def before_later(parts: list[Part]) -> list[Part]:
@@ -150,11 +156,16 @@ def before_later(parts: list[Part]) -> list[Part]:
     return parts[last:]
 
 
-def later_field(parts: list[Part], fields: list[Field]) -> Field:
-    """The field of the members of later versions. Its type has those of the members directly before that may be absent."""
-    before = fields[len(parts) - len(before_later(parts)) :]
-    types = parts_type([it.type for it in before])
-    return Field("later_members", of("LaterMembers", types), notation="...", comment="The members of later versions, in their order.")
+def later_field(parts: list[Part], fields: list[Field], end: str) -> Field:
+    """The field of the members of later versions.
+
+    Its type has the number of all members if the tags are automatic, and else the types of the members directly before that may be absent.
+    """
+    type_ = of("LaterMembersFrom", str(len(parts)))
+    if end == LATER:
+        before = fields[len(parts) - len(before_later(parts)) :]
+        type_ = of("LaterMembers", parts_type([it.type for it in before]))
+    return Field("later_members", type_, notation="...", comment="The members of later versions, in their order.")
 
 
 def item_text(part: Part) -> str:
@@ -187,6 +198,8 @@ def declare(meanings: "Meanings", declared: Declaration, type_: tree.Type, scope
         wanted = f"{hint.text}-{suffix}" if hint.key else hint.text
         declared.name = meanings.declarations.fresh(wanted, (*scope.key, str(type_.place)), declared.module)
     declared.comment, declared.root, declared.level, declared.lacks = hint.comment, hint.root, meaning.level, lacks(meaning)
+    if hint.key and meanings.levels():
+        declared.source, declared.levels, declared.inner = hint.root, meanings.levels(), bool(meanings.depth_suffix())
     meanings.declarations.add(declared)
     return declared.name
 
@@ -380,17 +393,18 @@ def number_default(outer: Rust, rust: Rust, number: int) -> Default:
     """The default of an INTEGER, which may be under tags."""
     allowed, name = (DEFAULT_UNSIGNED, "Number") if rust.core is Core.UNSIGNED else (DEFAULT_SIGNED, "SignedNumber")
     if rust.core is not Core.NUMBER and number in allowed and not rust.bounded:
-        return Default(of(name, str(number)), word=f"default ({f'number {number}' if number >= 0 else f'minus {-number}'})")
-    others = other_than(outer, number) if rust.core is not Core.SIGNED and 0 <= number <= U64_MAX else None
-    if others and not (rust.core is Core.NUMBER and rust.bounded):
-        return Default(others=others, word=f"default-of {number}")
+        return Default(of(name, str(number)), word=f"default ({value_word(number)})")
+    others = other_than(outer, number) if are_bounds(("OtherThan", number)) else None
+    if others and not (rust.bounded and not rust.around):
+        return Default(others=others, word=f"default-of ({value_word(number)})")
     return Default(features=(Feature.DEFAULT_CONSTRAINED if rust.bounded or rust.core is not Core.NUMBER else Feature.DEFAULT_INTEGER,))
 
 
 def other_than(rust: Rust, number: int) -> Optional[RustType]:
     """The type of the other numbers, below the tags. None if the type with its tags has another name."""
     if rust.core not in (Core.EXPLICIT, Core.IMPLICIT):
-        return of("OtherThan", rust.type, str(number))
+        name, arguments = written(("OtherThan", number) if number >= 0 else ("Outside", number, number))
+        return of(name, rust.type, *arguments)
     inner = other_than(rust.inner, number) if rust.inner.type in rust.type.arguments else None
     return inner and rust.type.replaced(rust.inner.type, inner)
 

@@ -3,6 +3,7 @@ from dataclasses import dataclass, field, replace
 from typing import Optional
 
 from ..parse import tree
+from .alphabets import alphabet_of, set_of_type
 from .intervals import ALL, INFINITY, NATURAL, Intervals
 from .scopes import Program, Scope, target_of
 from .values import integer_of, value_of
@@ -22,13 +23,13 @@ class ScopedConstraint:
 class Limits:
     """What is left of a type's values.
 
-    `numbers` and `size` are intervals. `alphabet` says that some characters are left out, `other` that values are left out by
-    something else, and `unknown` that a name in a constraint leads nowhere.
+    `numbers`, `size` and `alphabet`, the numbers of characters, are intervals. `other` says that values are left out by something else, and
+    `unknown` that a name in a constraint leads nowhere.
     """
 
     numbers: Intervals = ALL
     size: Intervals = NATURAL
-    alphabet: bool = False
+    alphabet: Intervals = NATURAL
     other: bool = False
     unknown: bool = False
 
@@ -37,7 +38,7 @@ class Limits:
         return Limits(
             self.numbers.intersection(more.numbers),
             self.size.intersection(more.size),
-            self.alphabet or more.alphabet,
+            self.alphabet.intersection(more.alphabet),
             self.other or more.other,
             self.unknown or more.unknown,
         )
@@ -50,7 +51,7 @@ class Limits:
         if self.only("size") and more.only("size"):
             return Limits(size=self.size.union(more.size), unknown=unknown)
         if self.only("alphabet") and more.only("alphabet"):
-            return Limits(alphabet=True, unknown=unknown)
+            return Limits(alphabet=self.alphabet.union(more.alphabet), unknown=unknown)
         return replace(NONE, other=True, unknown=unknown)
 
     def only(self, name: str) -> bool:
@@ -124,10 +125,10 @@ class Reader:
         return Limits(numbers=Intervals.of((low + element.low_open, high - element.high_open)))
 
     def of_characters(self, element: tree.ValueRange, scope: Scope) -> Limits:
-        """A range of characters, as in FROM, or of a name that leads nowhere."""
+        """A range of texts, or of a name that leads nowhere."""
         ends = [value_of(self.program, it, scope)[0] for it in (element.low, element.high) if it is not None]
         if all(isinstance(it, (tree.TextValue, tree.BraceValue)) for it in ends):
-            return Limits(alphabet=True)
+            return Limits(other=True)
         return replace(NONE, other=True, unknown=not any(isinstance(it, tree.RealValue) for it in ends))
 
     def bound(self, value: Optional[tree.Value], scope: Scope, infinite: float) -> Optional[float]:
@@ -140,16 +141,20 @@ class Reader:
         if found.type is None:
             return replace(NONE, unknown=True)
         own = Reader(self.program, getattr(found.type, "named", [])).limits(found.constraints)
-        if isinstance(found.type, tree.SimpleType) and found.type.name.endswith("String") and found.type.name != self.base:
-            return replace(own, alphabet=True)
-        return own
+        if not isinstance(found.type, tree.SimpleType) or not found.type.name.endswith("String") or found.type.name == self.base:
+            return own
+        characters = set_of_type(found.type.name)
+        return replace(own, other=True) if characters is None else replace(own, alphabet=own.alphabet.intersection(characters))
 
     def of_sizeconstraint(self, element: tree.SizeConstraint, scope: Scope, depth: int) -> Limits:
         inner = self.of_set(element.inner, scope, depth)
         return Limits(size=inner.numbers.intersection(NATURAL), unknown=inner.unknown)
 
     def of_alphabet(self, element: tree.Alphabet, scope: Scope, depth: int) -> Limits:
-        return NONE if element.inner.extensible else Limits(alphabet=True)
+        if element.inner.extensible:
+            return NONE
+        found = alphabet_of(self.program, element.inner.root, scope)
+        return Limits(other=True) if found is None else Limits(alphabet=found)
 
     def of_innersubtyping(self, element: tree.InnerSubtyping, scope: Scope, depth: int) -> Limits:
         return Limits(other=True)

@@ -1,10 +1,11 @@
 """The types of the library for tags (X.680, 31.2; X.690, 8.14)."""
 from dataclasses import replace
+from typing import Optional
 
 from ..parse import tree
 from ..parse.tree import TagClass, TagMode
 from .features import Feature, Level, Note
-from .library import MAX_TAG, Core, Rust, context_tag, retagged, tagged_bytes
+from .library import MAX_TAG, Core, Rust, context_tag, are_bounds, numbers_of, range_types, retagged, tagged_bytes, without_values, written
 from .library_table import UNIVERSAL_TAGS
 from .meaning import Meaning
 from .rust_types import RustType, of, tuple_of
@@ -23,11 +24,13 @@ def wrapped(meaning: Meaning, tag_class: tree.TagClass, number: int, mode: tree.
     inner = meaning.rust
     if mode is TagMode.EXPLICIT or inner.is_open:
         return meaning.as_(explicit(inner, tag_class, number))
-    if inner.core in (Core.IMPLICIT, Core.RETAGGED):
+    if inner.core in (Core.IMPLICIT, Core.RETAGGED) and not (inner.around and tag_class is TagClass.CONTEXT):
         inner = inner.inner
     if inner.core in (Core.EXPLICIT, Core.APPLICATION):
         return meaning.as_(explicit(inner.inner, tag_class, number))
     tag = tag_class.value | number
+    if inner.core is Core.BYTES and inner.around:
+        return meaning.as_(without_values(tag | (_CONSTRUCTED if inner.is_constructed() else 0)))
     if inner.core is Core.BYTES:
         return meaning.as_(tagged_bytes(tag | (_CONSTRUCTED if inner.is_constructed() else 0))).called(None)
     if inner.core is Core.SET:
@@ -67,25 +70,47 @@ def explicit(inner: Rust, tag_class: tree.TagClass, number: int) -> Rust:
 
 
 def primitive(meaning: Meaning, inner: Rust, tag: int) -> Meaning:
-    """An IMPLICIT tag of another class than context over a primitive type."""
-    firsts = frozenset((tag,))
-    if inner.core is Core.OCTETS:
-        found = meaning.as_(tagged_bytes(tag))
-        return found.noting(Note.CONSTRAINT) if inner.bounded else found.called(None)
-    if inner.core in (Core.BOOL, Core.NULL):
+    """An IMPLICIT tag of another class than context over a primitive type. The types of constraints are around it."""
+    if inner.core is Core.BOOL:
         return meaning.as_(replace(tagged_bytes(tag), bounded=True)).noting(Note.CONSTRAINT)
-    if inner.core in (Core.UNSIGNED, Core.SIGNED):
-        term = content_under(tag, Term("INTEGER"))
-        rust = Rust(of("ImplicitPrimitive", of("Integer"), f"0x{tag:02X}"), Core.IMPLICIT, firsts, inner, bounded=True, is_foreign=True, term=term)
-        return meaning.as_(rust).noting(Note.CONSTRAINT)
-    if inner.core in (Core.CONTENTS, Core.NUMBER):
-        content = inner.inner if inner.bounded and inner.inner else inner
-        around = of("ImplicitPrimitive", content.type, f"0x{tag:02X}")
-        rust = Rust(around, Core.IMPLICIT, firsts, inner, bounded=inner.bounded, is_foreign=True)
-        if inner.bounded:
-            return meaning.as_(rust).called(content_under(tag, content.term)).noting(Note.CONSTRAINT)
-        return meaning.as_(rust)
-    return kept(meaning, tag, Feature.FOREIGN_TAG)
+    content = _under(inner, tag)
+    if content is None:
+        return kept(meaning, tag, Feature.FOREIGN_TAG)
+    around = _around(inner)
+    if around is None:
+        return meaning.as_(replace(content, bounded=True, term=content_under(tag, Term("INTEGER")))).noting(Note.CONSTRAINT)
+    for name, bounds in around:
+        content = content.constrained(name, *bounds)
+    return meaning.as_(replace(content, inner=inner, is_foreign=True)).called(None)
+
+
+def _under(inner: Rust, tag: int) -> Optional[Rust]:
+    """The type of any content of a primitive type under a tag, or None if the library has none."""
+    if inner.core in (Core.OCTETS, Core.NULL):
+        return replace(tagged_bytes(tag), core=Core.IMPLICIT)
+    while inner.bounded and inner.inner:
+        inner = inner.inner
+    if inner.core in (Core.UNSIGNED, Core.SIGNED, Core.NUMBER):
+        inner = replace(inner, type=of("Integer"))
+    if inner.core not in (Core.UNSIGNED, Core.SIGNED, Core.NUMBER, Core.CONTENTS):
+        return None
+    return Rust(of("ImplicitPrimitive", inner.type, f"0x{tag:02X}"), Core.IMPLICIT, frozenset((tag,)), inner, is_foreign=True, term=inner.term)
+
+
+def _around(inner: Rust) -> Optional[tuple]:
+    """The constraints around a content: those of the type, one for its width if it is that of a number, or that a NULL has no content.
+
+    None if the type of a constraint can't have the bounds of the width.
+    """
+    if inner.core is Core.NULL:
+        return (("WithSize", ("0", "0")),)
+    if inner.core not in (Core.UNSIGNED, Core.SIGNED) or inner.around and inner.around[0][0] != "Outside":
+        return inner.around
+    width = inner
+    while width.inner:
+        width = width.inner
+    around = range_types(*numbers_of(str(width.type)))
+    return (*map(written, around), *inner.around) if all(map(are_bounds, around)) else None
 
 
 def kept(meaning: Meaning, tag: int, feature: Feature) -> Meaning:

@@ -83,6 +83,11 @@ def content_under(tag: int, inner: Term) -> Term:
     return Term(f"content-under 0x{tag:02X}", inner)
 
 
+def value_word(number: int) -> str:
+    """A number as the value of a default or a bound."""
+    return f"number {number}" if number >= 0 else f"minus {-number}"
+
+
 def sized(low: int, high: Union[int, str], inner: Term) -> Term:
     """A type with a size."""
     return Term(f"SIZE {low} {high}", inner)

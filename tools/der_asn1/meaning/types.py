@@ -7,14 +7,18 @@ from ..parse.modules import read_text
 from ..parse.source import Problems
 from .bounds import bounded, integer, whole_number_limits
 from .causes import Cause, Where, counts
+from .character_sets import has_all, own_set
 from .checks import Checks
 from .declarations import AliasDeclaration, Declaration, Declarations, Hint, NewtypeDeclaration
 from .features import Feature, Level, Note
-from .library import Core, Rust, any_element, tagged_bytes
+from .library import Core, Rust, any_element, tagged_bytes, without_values
 from .library_table import BY_NAME, UNIVERSAL_TAGS, LibraryType
+from .intervals import NATURAL
 from .meaning import Meaning, lacks
 from .members import selected
 from .objects import BUILT_IN_CLASSES, ObjectSet, class_named, set_of
+from . import recursion as recursive
+from .recursion import NONE, Recursion, recursion_of
 from .rust_types import UNIT, of
 from .scopes import BUILT_IN_ANY, Binding, Found, Program, Resolved, Scope, resolve, target_of
 from .structures import choice, enumeration, named_integer, structure
@@ -56,11 +60,11 @@ def instance_name(found: Found) -> str:
     return "-".join(it for it in [found.assignment.name, *given] if it)
 
 
-def hint_of(found: Found, key: tuple) -> Hint:
-    """What the type of an assignment is called after."""
+def hint_of(found: Found, key: tuple, suffix: str = "") -> Hint:
+    """What the type of an assignment is called after, which has a suffix if it is in itself."""
     name = found.assignment.name
     where = Where(found.assignment.place, found.scope.module.name, name)
-    return Hint(instance_name(found), key, " ".join(found.assignment.comment), name, where)
+    return Hint(instance_name(found) + suffix, key, " ".join(found.assignment.comment), name, where)
 
 
 def type_name(type_: tree.Type) -> str:
@@ -72,6 +76,18 @@ def type_name(type_: tree.Type) -> str:
 def library_type(found: LibraryType) -> Rust:
     """A type of the library by its row of the table."""
     return Rust(of(found.rust) if found.rust != "()" else UNIT, found.core, frozenset((found.tag,)), term=Term(found.term))
+
+
+def recursion_in(program: Program, depth: int = recursive.DEPTH) -> Recursion:
+    """Which types of a program contain themselves. What is wrong with them is said later."""
+    silent = Program(program.modules, Problems(), program.all_modules[len(program.modules) :])
+    silent.by_import = program.by_import
+    probe = Meanings(silent)
+    for module in silent.all_modules if depth else ():
+        for it in module.assignments:
+            if isinstance(it, tree.TypeAssignment) and not it.parameters:
+                probe.of_assignment(it, module)
+    return recursion_of(probe.edges, depth)
 
 
 # of which a struct of its own may be made: what has no parts, and so no trait of its own but `Begins`
@@ -90,8 +106,10 @@ def alias(name: str, found: Found, type_: tree.Type, meaning: Meaning, kind: typ
 class Meanings:
     """The meanings of the types of a program. Each assignment is worked out once."""
 
-    def __init__(self, program: Program, declarations: Optional[Declarations] = None, distinct: Iterable[str] = ()) -> None:
-        self.program = program
+    def __init__(self, program: Program, declarations: Optional[Declarations] = None, distinct: Iterable[str] = (), recursion: Recursion = NONE) -> None:
+        self.program, self.recursion = program, recursion
+        self.level: Optional[recursive.Level] = None  # where the type is that is being worked out
+        self.edges: dict[tuple, set[tuple]] = {}  # which assignments each names
         self.distinct = frozenset(distinct)  # the names of types that are structs of their own, in place of names of others
         self.declarations = declarations or Declarations()
         self.known, self.busy = {}, []
@@ -105,22 +123,46 @@ class Meanings:
         return self.of_found(Found(assignment, self.program.scope_of(module)), assignment.type)
 
     def of_found(self, found: Found, type_: tree.Type) -> Meaning:
-        """The meaning of what a name stands for, with this name. The edge back of a recursion is raw."""
-        key = (*found.scope.key, found.assignment.name)
+        """The meaning of what a name stands for, with this name. What is in itself too often has no values, or is raw without a depth."""
+        plain = (*found.scope.key, found.assignment.name)
+        if self.busy:
+            self.edges.setdefault(self.busy[-1][0], set()).add(plain)
+        level = self.recursion.level(plain, self.level)
+        if level and level.left == 0:
+            return self.beyond(type_, found.scope)
+        key = (plain, level and level.left)
         if key in self.known:
             return self.known[key]
         if key in self.busy:
             return self.raw(type_, found.scope, Feature.RECURSION)
-        self.checks.assignment(found)
+        if level is None or level.left == self.recursion.depth:
+            self.checks.assignment(found)
+        before, self.level = self.level, level
         self.busy.append(key)
         try:
-            meaning = self.of_type(type_, found.scope, hint_of(found, key))
+            meaning = self.of_type(type_, found.scope, hint_of(found, key, self.depth_suffix()))
         finally:
             self.busy.pop()
         if meaning.rust:
             meaning = self.named(meaning, key, found, type_)
-        self.known[key] = meaning
-        return meaning
+        self.level = before
+        self.known[key] = meaning.noting(Note.DEPTH) if level else meaning
+        return self.known[key]
+
+    def levels(self) -> int:
+        """How many levels a type has that contains itself, or 0."""
+        return self.level.left if self.level else 0
+
+    def depth_suffix(self) -> str:
+        """What the name of a type has after it that is in itself: how many times it may still be."""
+        return "" if self.level is None or self.level.left == self.recursion.depth else str(self.level.left)
+
+    def beyond(self, type_: tree.Type, scope: Scope) -> Meaning:
+        """The type in place of one that is in itself too often: it begins alike, and has no values."""
+        firsts = first_bytes(self.program, type_, scope)
+        if not firsts:
+            return self.raw(type_, scope, Feature.RECURSION)
+        return Meaning(replace(without_values(min(firsts)), firsts=firsts)).noting(Note.DEPTH)
 
     def named(self, meaning: Meaning, key: tuple, found: Found, type_: tree.Type) -> Meaning:
         """The same under the name of its assignment, which is declared if the type has another name or none."""
@@ -128,10 +170,14 @@ class Meanings:
         if declared and declared.place == type_.place:
             declared.term = meaning.rust.term
             return meaning.called(Term(declared.name))
-        name = self.declarations.fresh(instance_name(found), key, found.scope.module.name)
+        name = self.declarations.fresh(instance_name(found) + self.depth_suffix(), key, found.scope.module.name)
         rust = replace(meaning.rust, type=of(name), term=Term(name))
+        if rust.core in (Core.UNSIGNED, Core.SIGNED) and rust.inner is None:
+            rust = replace(rust, inner=meaning.rust)
         if found.assignment.name not in self.distinct:
-            self.declarations.add(alias(name, found, type_, meaning, AliasDeclaration))
+            declared = alias(name, found, type_, meaning, AliasDeclaration)
+            declared.levels, declared.inner = self.levels(), bool(self.depth_suffix())
+            self.declarations.add(declared)
             return meaning.as_(rust)
         if rust.core not in _SIMPLE:
             text = f"`{found.assignment.name}` has parts or a tag, and is no struct of its own"
@@ -216,7 +262,14 @@ class Meanings:
         meaning = Meaning(library_type(found) if found.rust else tagged_bytes(found.tag))
         if isinstance(found.lacks, Feature):
             return meaning.lacking(found.lacks)
-        return self.checked(meaning.noting(*filter(None, [found.lacks])), type_, scope, constraints)
+        meaning = meaning.noting(*filter(None, [found.lacks]))
+        limits = self.limits(constraints, type_, scope)
+        permitted = own_set(self.declarations, type_, limits.alphabet, hint, scope)
+        if permitted:
+            meaning = replace(meaning.as_(permitted), notes=meaning.notes - {Note.CHARACTERS})
+        if permitted or has_all(type_.name, limits.alphabet):
+            limits = replace(limits, alphabet=NATURAL)
+        return bounded(in_words(meaning, constraints), limits)
 
     def of_integertype(self, type_: tree.IntegerType, scope: Scope, hint: Hint, constraints: tuple[ScopedConstraint, ...]) -> Meaning:
         limits = self.limits(constraints, type_, scope)
@@ -290,13 +343,16 @@ class Meanings:
         base = resolve(self.program, target.type, target.scope)
         if isinstance(base.type, (tree.StructureType, tree.ChoiceType)):
             return self.checked(self.of_found(found, target.type), base.type, base.scope, constraints)
-        key = (*target.scope.key, found.assignment.name)
+        plain = (*target.scope.key, found.assignment.name)
+        if self.busy:
+            self.edges.setdefault(self.busy[-1][0], set()).add(plain)
+        key = (plain, self.level and self.level.left)
         if key in self.busy:
             return self.raw(target.type, target.scope, Feature.RECURSION)
         self.checks.assignment(found)
         self.busy.append(key)
         try:
-            hint = Hint(found.assignment.name, root=found.assignment.name, where=where)
+            hint = Hint(found.assignment.name + self.depth_suffix(), root=found.assignment.name, where=where)
             return self.of_type(target.type, target.scope, hint, constraints)
         finally:
             self.busy.pop()

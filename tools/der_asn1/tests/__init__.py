@@ -1,6 +1,7 @@
 """Tests of the compiler. What they expect is worked out from the standards, and written before it is run."""
 from ..meaning.scopes import Program
-from ..meaning.types import Meanings
+from ..meaning.recursion import DEPTH
+from ..meaning.types import Meanings, recursion_in
 from ..parse.modules import read_text
 from ..parse.source import Problems
 
@@ -37,11 +38,11 @@ def value_of(case, notation, type_="INTEGER"):
 class Given:
     """Modules that see each other, and the meanings of their types."""
 
-    def __init__(self, *texts):
+    def __init__(self, *texts, depth=DEPTH):
         self.problems = Problems()
         modules = [it for number, text in enumerate(texts) for it in read_text(text, f"{number}.asn1", self.problems)]
         self.program = Program(modules, self.problems)
-        self.meanings = Meanings(self.program)
+        self.meanings = Meanings(self.program, recursion=recursion_in(self.program, depth))
 
     def assignment(self, name, module=0):
         """An assignment with its module."""

@@ -4,10 +4,12 @@ It compares the types as they are read: it goes through names, COMPONENTS OF, au
 asks nothing of what the compiler makes of them. Left out are names of members, items, bits and numbers. `CONSTRAINED BY {}` in the printed
 type says that the library's values differ: another constraint may be there then, and any default where `DEFAULT {}` is.
 """
+import re
 from dataclasses import dataclass, replace
 from typing import Optional
 
 from ..emit.printed import Terms, printed
+from ..meaning.character_sets import characters_of
 from ..meaning.members import is_extensible, members_of, selected
 from ..meaning.objects import BUILT_IN_CLASSES
 from ..meaning.scopes import BUILT_IN_ANY, Found, Program, Scope, target_of
@@ -57,10 +59,10 @@ class Side:
         return any(isinstance(it.constraint, tree.UserConstraint) for it in self.all())
 
     def limits(self) -> tuple:
-        """The numbers and sizes that the constraints leave, and whether they say more than that."""
+        """The numbers, the sizes and the characters that the constraints leave, and whether they say more than that."""
         base = self.type.name if isinstance(self.type, tree.SimpleType) else ""
         found = Reader(self.program, getattr(self.type, "named", []), base).limits(self.all())
-        return found.numbers, found.size, found.alphabet or found.other or found.unknown
+        return (found.numbers, found.size, characters_of(base).intersection(found.alphabet)), found.other or found.unknown
 
 
 class Agreement:
@@ -104,11 +106,12 @@ class Agreement:
         return mine.is_wide() and (bool(tags) or isinstance(mine.type, tree.AnyType))
 
     def is_same_name(self, mine: Side, other: Side) -> bool:
-        """Whether both are names of one type."""
+        """Whether both are names of one type, of which the printed one may have fewer levels."""
         if not all(isinstance(it.type, tree.ReferenceType) and not it.type.tags for it in (mine, other)):
             return False
         found = other.program.find(other.type.name, other.scope, other.type.module)
-        return isinstance(found, Found) and self.names.get((found.scope.module.name, found.assignment.name)) == mine.type.name
+        name = isinstance(found, Found) and self.names.get((found.scope.module.name, found.assignment.name))
+        return bool(name) and re.fullmatch(rf"{name}\d*", mine.type.name) is not None
 
     def tags(self, mine: Side, other: Side) -> Optional[str]:
         """How the outermost tags differ. One that says none is as the heading says, or EXPLICIT by a rule that the text doesn't show."""
@@ -122,11 +125,11 @@ class Agreement:
         return None if same else f"the tags differ: `{mine.type.text}`, `{other.type.text}`"
 
     def constraints(self, mine: Side, other: Side) -> Optional[str]:
-        """How ranges and sizes differ. What else a constraint says has to make the printed type a wider one."""
-        numbers, sizes, more = zip(mine.limits(), other.limits())
+        """How ranges, sizes and alphabets differ. What else a constraint says has to make the printed type a wider one."""
+        limits, more = zip(mine.limits(), other.limits())
         if mine.is_wide():
             return None
-        if numbers[0] != numbers[1] or sizes[0] != sizes[1] or more[1]:
+        if limits[0] != limits[1] or more[1]:
             return f"the constraints differ: `{mine.type.text}`, `{other.type.text}`"
         return None
 

@@ -9,6 +9,8 @@ from pathlib import Path
 GOLDEN = Path(__file__).resolve().parent / "golden"
 _HEADING = re.compile(r"^==> (.*) <==\n", re.MULTILINE)
 
+# more options of a module
+_OPTIONS = {"filter": ["--depth", "3"]}
 # the modules that are over the crate of another one, which comes before them in the order of names
 _OVER = {"stamp": ("Request", "request")}
 
@@ -24,7 +26,7 @@ def golden_options(name: str, folder: str) -> list[str]:
     if name in _OVER:
         module, crate = _OVER[name]
         words += ["--crate", f"{module}={crate}", "--import", str(GOLDEN / f"{crate}.asn1")]
-    return [*words, str(GOLDEN / f"{name}.asn1")]
+    return [*words, *_OPTIONS.get(name, []), str(GOLDEN / f"{name}.asn1")]
 
 
 def files_below(folder: str) -> dict[str, str]:

@@ -174,7 +174,7 @@ class Writing(unittest.TestCase):
 
     def test_a_readable_value(self):
         self.assertIn("impl Inhabited for A {", derived(struct_of("a: u8,", note="exact")))
-        self.assertNotIn("Inhabited", derived(struct_of("a: InRange<u8, 200, 210>,", note="exact")))
+        self.assertNotIn("Inhabited", derived(struct_of("a: WithSize<ByteBuf, 2000, 2000>,", note="exact")))
         self.assertNotIn("Inhabited", derived(struct_of("a: u8,", note="faithful")))
 
     def test_a_choice(self):

@@ -281,10 +281,10 @@ class Comments(unittest.TestCase):
         self.assertIn("    /// `BOOLEAN DEFAULT TRUE`.\n", text)
 
     def test_a_default_that_isnt_one(self):
-        text = crate_of("A ::= SEQUENCE { a INTEGER DEFAULT -1 }", "A").files()["src/types.rt"]
-        wanted = "as a SEQUENCE.\n///\n/// Its values differ from the notation's. The crate lacks: DEFAULT of an INTEGER without bounds.\n#[derive"
+        text = crate_of("A ::= SEQUENCE { a NULL DEFAULT NULL }", "A").files()["src/types.rt"]
+        wanted = "as a SEQUENCE.\n///\n/// Its values differ from the notation's. The crate lacks: DEFAULT of bits, strings,"
         self.assertIn(wanted, text)
-        self.assertIn("/// `INTEGER DEFAULT -1`. A default that is written out is read, too.\n    pub a: Option<Integer>,\n", text)
+        self.assertIn("/// `NULL DEFAULT NULL`. A default that is written out is read, too.\n    pub a: Option<()>,\n", text)
 
     def test_a_default_of_which_the_other_numbers_are_a_type(self):
         body = "A ::= SEQUENCE { v [0] V DEFAULT v1, n [1] INTEGER (0..9) DEFAULT 5, m [2] INTEGER (0..65535) DEFAULT 256 } V ::= INTEGER { v1(0) }"
@@ -299,8 +299,8 @@ class Comments(unittest.TestCase):
         self.assertNotIn("aren't exactly", crate_of("A ::= SEQUENCE { a ANY }", "A").files()["src/types.rt"])
 
     def test_another_name_of_a_type_that_has_more_values(self):
-        text = crate_of("A ::= INTEGER (0..MAX)", "A").files()["src/types.rt"]
-        self.assertIn("/// Its values differ from the notation's. The crate lacks: a type of its own with `Constrained`.\npub type A = Integer;\n", text)
+        text = crate_of("A ::= UTCTime (SIZE (13))", "A").files()["src/types.rt"]
+        self.assertIn("/// Its values differ from the notation's. The crate lacks: a type of its own with `Constrained`.\npub type A = UtcTime;\n", text)
 
 
 class Names(unittest.TestCase):
@@ -361,7 +361,7 @@ class Golden(unittest.TestCase):
 
     def test_each(self):
         names = golden_names()
-        self.assertEqual(10, len(names))
+        self.assertEqual(12, len(names))
         with tempfile.TemporaryDirectory() as there:
             for it in names:
                 with self.subTest(it):

@@ -26,6 +26,25 @@ EXACT = [
     ("INTEGER (0..10) (5..20)", "InRange<u8, 5, 10>"),
     ("INTEGER (0..10 EXCEPT 9..10)", "InRange<u8, 0, 8>"),
     ("INTEGER (0..10, ...)", "Integer"),
+    ("INTEGER (-5..5)", "AtMost<AtLeast<i8, Minus<5>>, Plus<5>>"),
+    ("INTEGER (-1..200)", "AtMost<AtLeast<i16, Minus<1>>, Plus<200>>"),
+    ("INTEGER (-60..-50)", "AtMost<AtLeast<i8, Minus<60>>, Minus<50>>"),
+    ("INTEGER (-32768..32767)", "i16"),
+    (f"INTEGER (1..{2**64 - 1})", f"InRange<u64, 1, {2**64 - 1}>"),
+    ("INTEGER (0..MAX)", "AtLeast<Integer, Plus<0>>"),
+    ("INTEGER (MIN..-1)", "AtMost<Integer, Minus<1>>"),
+    ("INTEGER (64 | 128)", "Outside<InRange<u8, 64, 128>, Plus<65>, Plus<127>>"),
+    ("INTEGER (-9 | 0..7 | 9..MAX)", "Outside<Outside<AtLeast<Integer, Minus<9>>, Minus<8>, Minus<1>>, Plus<8>, Plus<8>>"),
+    ("INTEGER (0..255 EXCEPT 7)", "Outside<u8, Plus<7>, Plus<7>>"),
+    ("INTEGER (MIN..0 | 2..MAX)", "Outside<Integer, Plus<1>, Plus<1>>"),
+    ('PrintableString (FROM ("A".."Z"))', "RestrictedString<TCharacters>"),
+    ('IA5String (SIZE (2)) (FROM ("a" | "b".."d"))', "WithSize<RestrictedString<TCharacters>, 2, 2>"),
+    ("GeneralString (IA5String)", "RestrictedString<TCharacters>"),
+    ('NumericString (FROM ("0".."9" | " "))', "NumericString"),
+    ("VisibleString (IA5String)", "VisibleString"),
+    ("GraphicString", "GraphicString"),
+    ("VideotexString", "VideotexString"),
+    ("ObjectDescriptor", "ObjectDescriptor"),
     ("INTEGER (MIN..MAX)", "Integer"),
     ("INTEGER { top(9) } (0..top)", "InRange<u8, 0, 9>"),
     ("OBJECT IDENTIFIER", "ObjectIdentifier"),
@@ -73,6 +92,20 @@ EXACT = [
     ("[APPLICATION 3] IMPLICIT OBJECT IDENTIFIER", "ImplicitPrimitive<ObjectIdentifier, 0x43>"),
     ("[PRIVATE 3] IMPLICIT INTEGER", "ImplicitPrimitive<Integer, 0xC3>"),
     ("[APPLICATION 3] IMPLICIT OCTET STRING", "TaggedBytes<0x43>"),
+    ("[APPLICATION 3] IMPLICIT OCTET STRING (SIZE (4))", "WithSize<TaggedBytes<0x43>, 4, 4>"),
+    ("[APPLICATION 3] IMPLICIT BIT STRING (SIZE (4))", "WithSize<ImplicitPrimitive<BitString, 0x43>, 4, 4>"),
+    ("[APPLICATION 3] IMPLICIT INTEGER (0..4294967295)", "InRange<ImplicitPrimitive<Integer, 0x43>, 0, 4294967295>"),
+    (f"[APPLICATION 6] IMPLICIT INTEGER (0..{2**64 - 1})", f"InRange<ImplicitPrimitive<Integer, 0x46>, 0, {2**64 - 1}>"),
+    ("[APPLICATION 3] IMPLICIT INTEGER (0..255 EXCEPT 7)", "Outside<InRange<ImplicitPrimitive<Integer, 0x43>, 0, 255>, Plus<7>, Plus<7>>"),
+    ("[APPLICATION 3] IMPLICIT INTEGER (-9..-8)", "AtMost<AtLeast<ImplicitPrimitive<Integer, 0x43>, Minus<9>>, Minus<8>>"),
+    ("[APPLICATION 3] IMPLICIT INTEGER (-128..127)", "AtMost<AtLeast<ImplicitPrimitive<Integer, 0x43>, Minus<128>>, Plus<127>>"),
+    ("[APPLICATION 3] IMPLICIT INTEGER (0..MAX)", "AtLeast<ImplicitPrimitive<Integer, 0x43>, Plus<0>>"),
+    ("[APPLICATION 3] IMPLICIT INTEGER (1 | 3)", "Outside<InRange<ImplicitPrimitive<Integer, 0x43>, 1, 3>, Plus<2>, Plus<2>>"),
+    ("[APPLICATION 3] IMPLICIT NULL", "WithSize<TaggedBytes<0x43>, 0, 0>"),
+    ("[1] IMPLICIT [APPLICATION 3] IMPLICIT INTEGER (-3..3)", "ImplicitContextTag1<AtMost<AtLeast<ImplicitPrimitive<Integer, 0x43>, Minus<3>>, Plus<3>>>"),
+    ("[PRIVATE 1] IMPLICIT [APPLICATION 3] IMPLICIT INTEGER (-3..3)", "AtMost<AtLeast<ImplicitPrimitive<Integer, 0xC1>, Minus<3>>, Plus<3>>"),
+    ("[PRIVATE 1] IMPLICIT [APPLICATION 3] IMPLICIT NULL", "WithSize<TaggedBytes<0xC1>, 0, 0>"),
+    ("[1] IMPLICIT INTEGER (-3..3)", "ImplicitContextTag1<AtMost<AtLeast<i8, Minus<3>>, Plus<3>>>"),
     ("[PRIVATE 3] EXPLICIT NULL", "ImplicitList<((),), 0xE3>"),
     ("[1] IMPLICIT [2] EXPLICIT NULL", "ExplicitContextTag1<()>"),
     ("[1] IMPLICIT [2] IMPLICIT NULL", "ImplicitContextTag1<()>"),
@@ -90,6 +123,10 @@ EXACT = [
     ("SEQUENCE { a INTEGER { v1(0) } (0..255) DEFAULT v1 }", "T"),
     ("SEQUENCE { a [0] IMPLICIT INTEGER (-128..127) DEFAULT -128 }", "T"),
     ("SEQUENCE { a INTEGER OPTIONAL, b NULL OPTIONAL }", "T"),
+    ("SEQUENCE { a INTEGER DEFAULT -1 }", "T"),
+    ("SEQUENCE { a INTEGER { v1(-5) } DEFAULT v1 }", "T"),
+    ("SEQUENCE { a INTEGER (-2147483648..2147483647) DEFAULT 256 }", "T"),
+    ("SEQUENCE { a [0] INTEGER (0..MAX) DEFAULT 0 }", "T"),
 ]
 
 # a type that needs a type of a crate's own for it to be exact
@@ -98,25 +135,24 @@ OWN = [
     ("ENUMERATED { a(-1), b }", Note.WIDE_ENUMERATION),
     ("ENUMERATED { a(127) }", Note.ENUMERATION),
     ("ENUMERATED { a(128) }", Note.WIDE_ENUMERATION),
-    ("INTEGER (-5..5)", Note.CONSTRAINT),
-    ("INTEGER (0..MAX)", Note.CONSTRAINT),
-    ("INTEGER (1 | 5)", Note.CONSTRAINT),
+    (f"INTEGER (-{2**64}..MAX)", Note.CONSTRAINT),
+    (f"INTEGER (1..{2**64})", Note.CONSTRAINT),
     ("OCTET STRING (SIZE (1 | 5))", Note.CONSTRAINT),
     ("UTCTime (SIZE (13))", Note.CONSTRAINT),
-    ('PrintableString (FROM ("A".."Z"))', Note.ALPHABET),
-    ("GeneralString (IA5String)", Note.ALPHABET),
-    ("GraphicString", Note.ALPHABET),
+    ('UTF8String (FROM ("A".."Z"))', Note.ALPHABET),
+    ('IA5String ("a" | "b")', Note.CONSTRAINT),
     ("BOOLEAN (TRUE)", Note.CONSTRAINT),
     ("OCTET STRING (CONTAINING INTEGER) (SIZE (3))", Note.CONSTRAINT),
     ("SEQUENCE { a NULL OPTIONAL } (WITH COMPONENTS { a PRESENT })", Note.CONSTRAINT),
-    ("[APPLICATION 1] IMPLICIT INTEGER (0..255)", Note.CONSTRAINT),
-    ("[APPLICATION 1] IMPLICIT NULL", Note.CONSTRAINT),
+    ("[APPLICATION 1] IMPLICIT BOOLEAN", Note.CONSTRAINT),
+    (f"[APPLICATION 1] IMPLICIT INTEGER (0..{2**128 - 1})", Note.CONSTRAINT),
     ("SEQUENCE { a ENUMERATED { x(500), y } DEFAULT x }", Note.DEFAULT),
     ("ANY", Note.OPEN),
     ("SEQUENCE { a OBJECT IDENTIFIER, b ANY DEFINED BY a OPTIONAL }", Note.OPEN),
     ("EXTERNAL", Note.OPEN),
     ("TeletexString", Note.CHARACTERS),
     ("GeneralString", Note.CHARACTERS),
+    ("[0] IMPLICIT GraphicString", Note.CHARACTERS),
     ("INTEGER (CONSTRAINED BY {})", Note.USER_CONSTRAINT),
 ]
 
@@ -127,9 +163,7 @@ MISSING = [
     ("SET { a NULL, ... }", Level.WIDER, Feature.EXTENSION),
     ("SET { ... }", Level.WIDER, Feature.EXTENSION),
     ("CHOICE { a NULL, ... }", Level.WIDER, Feature.EXTENSION),
-    ("SEQUENCE { a INTEGER DEFAULT -1 }", Level.WIDER, Feature.DEFAULT_INTEGER),
-    ("SEQUENCE { a INTEGER { v1(-5) } DEFAULT v1 }", Level.WIDER, Feature.DEFAULT_INTEGER),
-    ("SEQUENCE { a INTEGER (-2147483648..2147483647) DEFAULT 256 }", Level.WIDER, Feature.DEFAULT_CONSTRAINED),
+    (f"SEQUENCE {{ a INTEGER DEFAULT {2**64} }}", Level.WIDER, Feature.DEFAULT_INTEGER),
     ("SEQUENCE { a BIT STRING { x(0) } DEFAULT {} }", Level.WIDER, Feature.DEFAULT_OTHER),
     ("OCTET STRING (CONTAINING INTEGER ENCODED BY { 2 1 1 })", Level.WIDER, Feature.ENCODING),
     ("BIT STRING { a(0) } (SIZE (1..9))", Level.WIDER, Feature.NAMED_BITS_SIZE),
@@ -137,7 +171,6 @@ MISSING = [
     ("CHARACTER STRING", Level.RAW, Feature.RARE),
     ("SEQUENCE { a CHARACTER STRING }", Level.PARTLY_RAW, Feature.RARE),
     ("SEQUENCE { a Missing }", Level.PARTLY_RAW, Feature.UNDEFINED),
-    ("SEQUENCE { a T OPTIONAL }", Level.PARTLY_RAW, Feature.RECURSION),
     ("[31] NULL", Level.REFUSED, Feature.LONG_TAG),
     ("SEQUENCE { a [31] NULL }", Level.RAW, Feature.LONG_TAG),
     ("SEQUENCE { a NULL OPTIONAL, b NULL }", Level.RAW, Feature.AMBIGUOUS),
@@ -229,9 +262,27 @@ class Parts(unittest.TestCase):
         )
 
     def test_a_recursion_keeps_the_tag_of_its_edge(self):
-        one = given("T ::= CHOICE { a [0] IMPLICIT SET OF T, b [1] NULL }")
-        self.assertEqual(({Feature.RECURSION}, Level.PARTLY_RAW), (set(one.meaning("T").features), one.meaning("T").level))
-        self.assertEqual({0xA0, 0xA1}, one.meaning("T").rust.firsts)
+        body = "T ::= CHOICE { a [0] IMPLICIT SET OF T, b [1] NULL }"
+        for depth, level, features in ((3, Level.TO_DEPTH, set()), (0, Level.PARTLY_RAW, {Feature.RECURSION})):
+            found = Given(module_text(body), depth=depth).meaning("T")
+            self.assertEqual((features, level, {0xA0, 0xA1}), (set(found.features), found.level, found.rust.firsts))
+
+    def test_a_type_for_each_level(self):
+        one = Given(module_text("T ::= SEQUENCE { a INTEGER, t [0] IMPLICIT T OPTIONAL }"), depth=3)
+        one.meaning("T")
+        found = {name: str(it.fields[1].type) for name, it in one.meanings.declarations.by_name.items()}
+        last = "WithSize<TaggedBytes<0xA0>, 1, 0>"
+        self.assertEqual({"T": "ImplicitList0<T2>", "T2": "ImplicitList0<T1>", "T1": last}, found)
+
+    def test_types_that_contain_each_other(self):
+        one = Given(module_text("A ::= SEQUENCE { b B OPTIONAL }\nB ::= SEQUENCE { a A OPTIONAL }\nC ::= SEQUENCE { b B }"), depth=2)
+        self.assertEqual([Level.TO_DEPTH] * 3, [one.meaning(it).level for it in "CBA"])
+        self.assertEqual(["A", "A1", "B", "B1", "C"], sorted(one.meanings.declarations.by_name))
+
+    def test_a_type_that_is_in_itself_beside_others_that_may_follow(self):
+        """A choice that isn't there may begin with each of its bytes, and so may a later member."""
+        one = Given(module_text("A ::= CHOICE { a [0] NULL, b [1] S }\nS ::= SEQUENCE { a A OPTIONAL, ... }"), depth=1)
+        self.assertEqual({Feature.EXTENSION}, set(one.meaning("A").features))
 
     def test_a_module_that_isnt_given(self):
         one = Given("M DEFINITIONS ::= BEGIN IMPORTS U FROM N; T ::= SEQUENCE { a U } END")

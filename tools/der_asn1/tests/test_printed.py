@@ -29,17 +29,19 @@ PRINTED = [
     ("wider (content-under 0x41 INTEGER)", "[APPLICATION 1] IMPLICIT INTEGER (CONSTRAINED BY {})"),
     ("ENUMERATED (3 ∷ 0 ∷ [])", "ENUMERATED { item1(3), item2(0) }"),
     ("INTEGER-named (0 ∷ 1 ∷ [])", "INTEGER (0 | 1)"),
+    ("INTEGER-in (up-to (minus 9) ∷ from-to (number 1) (number 2) ∷ from-on (number 5) ∷ [])", "INTEGER (MIN..-9 | 1..2 | 5..MAX)"),
+    ("FROM ((65, 66) ∷ (97, 97) ∷ []) IA5String", "IA5String (FROM ({0, 0, 0, 65}..{0, 0, 0, 66} | {0, 0, 0, 97}..{0, 0, 0, 97}))"),
     ("OCTET-STRING-CONTAINING ANY", "OCTET STRING (CONTAINING ANY)"),
     ("CHOICE (NULL ∣ BOOLEAN ∣ later-alternatives-refused)", "CHOICE { alternative1 NULL, alternative2 BOOLEAN, ... }"),
     (
-        "SEQUENCE (required NULL ⨾ default (minus 1) INTEGER ⨾ added BOOLEAN ⨾ default-of 7 INTEGER ⨾ later-members)",
+        "SEQUENCE (required NULL ⨾ default (minus 1) INTEGER ⨾ added BOOLEAN ⨾ default-of (number 7) INTEGER ⨾ later-members)",
         "SEQUENCE { member1 NULL, member2 INTEGER DEFAULT -1, ..., member3 BOOLEAN, member4 INTEGER DEFAULT 7 }",
     ),
     ("SET (optional NULL ⨾ default-as-optional IA5String ⨾ later-members)", "SET { member1 NULL OPTIONAL, member2 IA5String DEFAULT {}, ... }"),
 ]
 
 # the types with additions in brackets, which are there together or not at all: the first member of which terms don't say that
-GROUPED = {("Lease", "Lease"): "garden"}
+GROUPED = {("Lease", "Lease"): "garden", ("Leases", "Lease-2"): "garden", ("Leases", "Lease-3"): "garden", ("Parcels", "Parcel-2"): "sender"}
 
 # a module's type, and another one in place of a part of its term
 ALTERED = [
@@ -56,7 +58,9 @@ ALTERED = [
     ("ENUMERATED { a(1), b(2) }", "1 ∷ 2", "1 ∷ 3"),
     ("BIT STRING { a(0) }", "BIT-STRING-named", "BIT-STRING"),
     ("IA5String (SIZE (1..8))", "SIZE 1 8", "SIZE 1 9"),
-    ("IA5String (FROM (\"a\"))", "wider IA5String", "IA5String"),
+    ("IA5String (FROM (\"a\"))", "97, 97", "97, 98"),
+    ("INTEGER (0..MAX)", "number 0", "number 1"),
+    ("IA5String (\"a\")", "wider IA5String", "IA5String"),
     ("UTF8String", "UTF8String", "IA5String"),
     ("ANY", "ANY", "NULL"),
 ]

@@ -42,9 +42,9 @@ class Reports(unittest.TestCase):
 
     def test_the_table(self):
         first, module, total = report.table(self.found)
-        self.assertEqual("types exact open by hand wider partly raw raw refused".split(), first.split())
-        self.assertEqual("M 6 2 0 0 1 1 0 2".split(), module.split())
-        self.assertEqual("in all 6 2 0 0 1 1 0 2".split(), total.split())
+        self.assertEqual("types exact open to depth by hand wider partly raw raw refused".split(), first.split())
+        self.assertEqual("M 6 2 0 0 0 1 1 0 2".split(), module.split())
+        self.assertEqual("in all 6 2 0 0 0 1 1 0 2".split(), total.split())
 
     def test_the_greedy_list(self):
         self.assertEqual(["2", "3", "4", "5"], [it.split()[0] for it in report.greedy(self.found)])
@@ -65,7 +65,7 @@ class Reports(unittest.TestCase):
 
     def test_types_without_a_readable_value_are_named(self):
         problems = Problems()
-        body = "A ::= INTEGER (200..210)\nB ::= SEQUENCE { a INTEGER (300..400), b NULL }\nC ::= SEQUENCE { a A OPTIONAL }\nD ::= OCTET STRING (SIZE (3))"
+        body = "A ::= OCTET STRING (SIZE (2000))\nB ::= SEQUENCE { a OCTET STRING (SIZE (2000)), b NULL }\nC ::= SEQUENCE { a A OPTIONAL }\nD ::= OCTET STRING (SIZE (3))"
         found = report.without_inhabited(report.report_of(read_text(module_text(body), "m.asn1", problems), problems))
         self.assertEqual("2 of 4 (50.0 %) with `Inhabited`", found[0])
         self.assertEqual(["M.A has none: no readable value is found", "M.B has none: no readable value is found"], [it.strip() for it in found[1:]])
@@ -179,17 +179,17 @@ class Command(unittest.TestCase):
 
     def test_one_error_for_each_cause(self):
         """The member is named, and all types that contain it are counted."""
-        texts = {"m.asn1": module_text("T ::= SEQUENCE { a INTEGER (-5..5), b Missing }\nU ::= SEQUENCE { a T, b Missing }\nV ::= U")}
+        texts = {"m.asn1": module_text("T ::= SEQUENCE { a BOOLEAN (TRUE), b Missing }\nU ::= SEQUENCE { a T, b Missing }\nV ::= U")}
         with tempfile.TemporaryDirectory() as folder:
             status, _, err = self.run_on(texts, "--out", folder)
             wanted = f"`a` of `T` would have other values than the notation: {CONSTRAINED}; 3 types contain it. `--allow-wider T` allows it"
             self.assertEqual(
-                (1, [f"m.asn1:2:18: error: {wanted} (docs/ASN1.md)", "m.asn1:2:39: error: `Missing` isn't defined; 3 types contain it (X.680, 14.1)"]),
+                (1, [f"m.asn1:2:18: error: {wanted} (docs/ASN1.md)", "m.asn1:2:38: error: `Missing` isn't defined; 3 types contain it (X.680, 14.1)"]),
                 (status, err.splitlines()),
             )
 
     def test_what_is_allowed_for_one_type(self):
-        texts = {"m.asn1": module_text("T ::= SEQUENCE { a INTEGER (-5..5) }\nU ::= SEQUENCE { a T, b INTEGER (-7..7) }")}
+        texts = {"m.asn1": module_text("T ::= SEQUENCE { a BOOLEAN (TRUE) }\nU ::= SEQUENCE { a T, b BOOLEAN (FALSE) }")}
         for words, wanted in ((["T"], [3]), (["U"], [2]), (["T,U"], []), (["T", "--allow-wider", "U"], []), ([], [])):
             with self.subTest(words), tempfile.TemporaryDirectory() as folder:
                 status, _, err = self.run_on(texts, "--out", folder, "--allow-wider", *words)
@@ -211,11 +211,18 @@ class Command(unittest.TestCase):
         self.assertIn("M.U: partly raw, U; a type whose notation isn't read\n", out)
 
     def test_what_the_report_calls_exact_is_written(self):
-        """A range below zero is exact by hand alone, and so is what contains it."""
-        _, out, _ = self.run_on({"m.asn1": module_text("T ::= SEQUENCE { a U, b NULL }\nU ::= INTEGER (-5..5)\nV ::= NULL")}, "--report")
+        """One value of a BOOLEAN is exact by hand alone, and so is what contains it."""
+        _, out, _ = self.run_on({"m.asn1": module_text("T ::= SEQUENCE { a U, b NULL }\nU ::= BOOLEAN (TRUE)\nV ::= NULL")}, "--report")
         self.assertIn("0 of 1 (0.0 %) modules written without a flag\n1 of 3 (33.3 %) types written without a flag\n", out)
         self.assertIn("1 of 3 (33.3 %) types exact and written\n", out)
         self.assertIn("2 of 3 (66.7 %) types exact only with types by hand", out)
+
+    def test_a_module_that_was_written_for_no_compiler(self):
+        """Each of its types is written without a flag, and what isn't exact has an open type or contains itself."""
+        with tempfile.TemporaryDirectory() as folder, contextlib.redirect_stdout(io.StringIO()) as out:
+            path = os.path.join(os.path.dirname(__file__), "fleet.asn1")
+            self.assertEqual([0, 0], [command.main([*words, "--strict", path]) for words in (["--report"], ["--out", os.path.join(folder, "fleet")])])
+        self.assertIn("2 of 2 (100.0 %) modules written without a flag\n38 of 38 (100.0 %) types written without a flag\n31 of 38", out.getvalue())
 
     def test_what_a_crate_allows(self):
         raw, wider = ("T ::= CHARACTER STRING", "--allow-raw", "TaggedBytes<0x3D>"), ("T ::= ENUMERATED { a(128) }", "--allow-wider", "Enumerated")

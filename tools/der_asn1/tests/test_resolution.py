@@ -282,7 +282,7 @@ class Recursion(unittest.TestCase):
 
     def test_of_bindings_ends(self):
         one = Given(module_text("T { A } ::= SEQUENCE { a A, b T { A } OPTIONAL }\nU ::= T { NULL }"))
-        self.assertIn("recursive types", [it.text for it in one.meaning("U").features])
+        self.assertEqual(Level.TO_DEPTH, one.meaning("U").level)
 
 
 class Kinds(unittest.TestCase):

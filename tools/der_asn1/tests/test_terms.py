@@ -28,7 +28,10 @@ class Terms(unittest.TestCase):
 
     def test_ranges(self):
         self.check([("INTEGER (0..255)", "INTEGER-from-to 0 255"), ("INTEGER (5)", "INTEGER-from-to 5 5")])
-        self.check([("INTEGER (-128..127)", "INTEGER-from-minus-to 128 127"), ("INTEGER (-1..5)", "wider INTEGER")])
+        self.check([("INTEGER (-128..127)", "INTEGER-from-minus-to 128 127"), ("INTEGER (-1..5)", "INTEGER-from-minus-to 1 5")])
+        self.check([("INTEGER (0..MAX)", "INTEGER-in (from-on (number 0) ∷ [])"), ("INTEGER (MIN..-5)", "INTEGER-in (up-to (minus 5) ∷ [])")])
+        self.check([("INTEGER (-9..-8)", "INTEGER-in (from-to (minus 9) (minus 8) ∷ [])")])
+        self.check([("INTEGER (1 | 5)", "INTEGER-in (from-to (number 1) (number 1) ∷ from-to (number 5) (number 5) ∷ [])")])
 
     def test_sizes(self):
         self.check([("OCTET STRING (SIZE (4..16))", "SIZE 4 16 OCTET-STRING"), ("IA5String (SIZE (3))", "SIZE 3 3 IA5String")])
@@ -48,7 +51,7 @@ class Terms(unittest.TestCase):
 
     def test_a_tag_that_the_library_has_for_other_values_alone(self):
         self.check([("[APPLICATION 1] BOOLEAN", "wider (any-content 0x41)")], "IMPLICIT TAGS")
-        self.check([("[APPLICATION 1] INTEGER (0..255)", "wider (content-under 0x41 INTEGER)")], "IMPLICIT TAGS")
+        self.check([("[APPLICATION 1] INTEGER (0..255)", "APPLICATION 1 TAGS-M (INTEGER-from-to 0 255)")], "IMPLICIT TAGS")
         self.check([("[APPLICATION 1] OCTET STRING", "APPLICATION 1 TAGS-M OCTET-STRING")], "IMPLICIT TAGS")
 
     def test_a_tag_over_a_set_with_a_constraint(self):
@@ -56,20 +59,21 @@ class Terms(unittest.TestCase):
         self.assertEqual("ImplicitSet<SMembers, 0xA1>", str(one.meanings.declarations.by_name[one.meaning("T").rust.text].type))
 
     def test_a_tag_over_a_string_of_which_the_library_has_only_bytes(self):
-        pairs = [("[0] GraphicString", "CONTEXT 0 TAGS-M (wider (any-content 0x19))")]
-        self.check([*pairs, ("[APPLICATION 3] VideotexString", "APPLICATION 3 TAGS-M (wider (any-content 0x15))")], "IMPLICIT TAGS")
-        self.assertEqual("TaggedBytes<0x43>", self.field())
+        pairs = [("[0] CHARACTER STRING", "CONTEXT 0 TAGS-M (wider (any-content 0x3D))")]
+        self.check([*pairs, ("[APPLICATION 3] CHARACTER STRING", "APPLICATION 3 TAGS-M (wider (any-content 0x3D))")], "IMPLICIT TAGS")
+        self.assertEqual("TaggedBytes<0x63>", self.field())
 
     def field(self):
-        one = given("T ::= SEQUENCE { a [APPLICATION 3] IMPLICIT GraphicString }")
+        one = given("T ::= SEQUENCE { a [APPLICATION 3] IMPLICIT CHARACTER STRING }")
         return str(one.meanings.declarations.by_name[one.meaning("T").rust.text].fields[0].type)
 
     def test_members(self):
         wanted = "SEQUENCE (required NULL ⨾ optional BOOLEAN ⨾ default TRUE (CONTEXT 0 TAGS-M BOOLEAN) ⨾ end)"
         self.check([("SEQUENCE { a NULL, b BOOLEAN OPTIONAL, c [0] BOOLEAN DEFAULT TRUE }", wanted)])
-        wanted = "wider (SEQUENCE (default-as-optional INTEGER ⨾ end))"
-        self.check([("SEQUENCE { a INTEGER DEFAULT -1 }", wanted), ("SEQUENCE {}", "SEQUENCE end")])
-        self.check([("SEQUENCE { a [0] INTEGER DEFAULT 7 }", "SEQUENCE (default-of 7 (CONTEXT 0 TAGS-M INTEGER) ⨾ end)")])
+        self.check([("SEQUENCE { a INTEGER DEFAULT -1 }", "SEQUENCE (default-of (minus 1) INTEGER ⨾ end)")])
+        wanted = "wider (SEQUENCE (default-as-optional NULL ⨾ end))"
+        self.check([("SEQUENCE { a NULL DEFAULT NULL }", wanted), ("SEQUENCE {}", "SEQUENCE end")])
+        self.check([("SEQUENCE { a [0] INTEGER DEFAULT 7 }", "SEQUENCE (default-of (number 7) (CONTEXT 0 TAGS-M INTEGER) ⨾ end)")])
 
     def test_defaults(self):
         pairs = [("INTEGER (0..255) DEFAULT 7", "default (number 7) (INTEGER-from-to 0 255)")]

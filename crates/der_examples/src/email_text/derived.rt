@@ -3,7 +3,7 @@
 //! How `EmailText` is written and read.
 ghost use Rattle.std.proofs.Common.{ap};
 ghost use Rattle.std.specs.Prelude.{IfNone, IfSome, false, true, ◌==◌, ◌≡◌};
-ghost use Rattle.picky_der_de.specs.Facts.{facts_as};
+ghost use Rattle.picky_der_de.specs.Facts.{tested_facts};
 ghost use Rattle.der_types.specs.Constraints.{tree_bytes};
 ghost use Rattle.std.specs.List.{list_any};
 
@@ -72,7 +72,7 @@ impl Constrained for EmailText {
 impl Deserialize for EmailText {
     ghost shape = { ⟦<Ia5String as Deserialize>⟧.shape };
 
-    ghost facts = { facts_as ⟦<Ia5String as Deserialize>⟧.facts (λ it. it.text) };
+    ghost facts = { tested_facts ⟦<Ia5String as Deserialize>⟧.facts ⟦<Ia5String as Serialize>⟧.meaning (λ it. it.text) };
 
     ghost proved = { Prim.assumption };
 

@@ -3,7 +3,7 @@
 //! How `EvenNumber` is written and read.
 ghost use Rattle.std.proofs.Common.{ap};
 ghost use Rattle.std.specs.Prelude.{IfNone, IfSome, false, true, ◌%◌, ◌-◌, ◌==◌, ◌^◌, ◌≡◌};
-ghost use Rattle.picky_der_de.specs.Facts.{facts_as};
+ghost use Rattle.picky_der_de.specs.Facts.{tested_facts};
 ghost use Rattle.picky_der_core.specs.UnsignedTreeLaws.{unsigned_tree-same};
 
 use super::{EvenNumber, is_even};
@@ -71,7 +71,7 @@ impl Constrained for EvenNumber {
 impl Deserialize for EvenNumber {
     ghost shape = { ⟦<u32 as Deserialize>⟧.shape };
 
-    ghost facts = { facts_as ⟦<u32 as Deserialize>⟧.facts (λ it. it.number) };
+    ghost facts = { tested_facts ⟦<u32 as Deserialize>⟧.facts ⟦<u32 as Serialize>⟧.meaning (λ it. it.number) };
 
     ghost proved = { Prim.assumption };
 

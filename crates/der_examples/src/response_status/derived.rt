@@ -99,7 +99,7 @@ impl Serialize for ResponseStatus {
 impl Deserialize for ResponseStatus {
     ghost shape = { contents_shape 0x0A };
 
-    ghost facts = { contents_facts 0x0A (λ it. response_status_number it ∷ []) ⟦<Self as PartialEq>⟧.eq ⟦<Self as Contents>⟧.same };
+    ghost facts = { contents_facts 0x0A (λ it. response_status_number it ∷ []) ⟦<Self as PartialEq>⟧.eq ⟦<Self as Contents>⟧.is_content ⟦<Self as Contents>⟧.same };
 
     ghost proved = { Prim.assumption };
 

@@ -3,7 +3,7 @@
 //! How `Temperature` is written and read.
 ghost use Rattle.std.proofs.Common.{ap};
 ghost use Rattle.std.specs.Prelude.{IfNone, IfSome, false, int_le, negsuc, pos, true, ◌&&◌, ◌≡◌};
-ghost use Rattle.picky_der_de.specs.Facts.{facts_as};
+ghost use Rattle.picky_der_de.specs.Facts.{tested_facts};
 ghost use Rattle.picky_der_core.specs.Integer.{fits_signed};
 ghost use Rattle.picky_der_de.specs.InjectiveLaws.{int_injective};
 ghost use Rattle.std.proofs.lemmas.Bool.Decides.{Decides-int_eq};
@@ -74,7 +74,7 @@ impl Constrained for Temperature {
 impl Deserialize for Temperature {
     ghost shape = { ⟦<i8 as Deserialize>⟧.shape };
 
-    ghost facts = { facts_as ⟦<i8 as Deserialize>⟧.facts (λ it. it.degrees) };
+    ghost facts = { tested_facts ⟦<i8 as Deserialize>⟧.facts ⟦<i8 as Serialize>⟧.meaning (λ it. it.degrees) };
 
     ghost proved = { Prim.assumption };
 

@@ -5,9 +5,10 @@ ghost use Rattle.std.specs.Prelude.{◌≡◌, ℕ, true, refl};
 ghost use Rattle.der_types.specs.declared.width.Width.TheVariants.{One, Two, Four};
 ghost use Rattle.der_types.specs.CharacterStrings.{is_numeric, is_printable, is_any_byte, is_ia5, is_visible, is_universal, is_bmp};
 ghost use Rattle.der_types.specs.CharacterSetLaws.{numeric_is_ascii, printable_is_ascii, ia5_is_ascii, visible_is_ascii, ascii_is_narrow, ascii_is_unicode, byte_is_narrow, universal_is_narrow, universal_is_unicode, bmp_is_narrow, bmp_is_unicode};
-ghost use Rattle.der_types.specs.ExactContents.{IsStandard};
+ghost use Rattle.der_types.specs.ExactStrings.{standard_set};
+ghost use Rattle.der_types.specs.Notation.{Notation};
 
-use crate::{Ascii, CharacterSet, StandardSet, Unicode, Width};
+use crate::{Ascii, CharacterSet, NotatedSet, Unicode, Width};
 
 /// The digits and space (X.680, table 9).
 pub struct Numeric;
@@ -32,8 +33,10 @@ impl CharacterSet for Numeric {
     ghost narrow = { ascii_is_narrow is_numeric numeric_is_ascii };
 }
 
-impl StandardSet for Numeric {
-    ghost standard = { Prim.assumption };
+impl NotatedSet for Numeric {
+    ghost string = { Notation.restricted-string 0x12 };
+
+    ghost is_set = { standard_set 0x12 };
 }
 
 impl Unicode for Numeric {
@@ -73,8 +76,10 @@ impl CharacterSet for Printable {
     ghost narrow = { ascii_is_narrow is_printable printable_is_ascii };
 }
 
-impl StandardSet for Printable {
-    ghost standard = { Prim.assumption };
+impl NotatedSet for Printable {
+    ghost string = { Notation.restricted-string 0x13 };
+
+    ghost is_set = { standard_set 0x13 };
 }
 
 impl Unicode for Printable {
@@ -110,8 +115,10 @@ impl CharacterSet for Teletex {
     ghost narrow = { byte_is_narrow };
 }
 
-impl StandardSet for Teletex {
-    ghost standard = { Prim.assumption };
+impl NotatedSet for Teletex {
+    ghost string = { Notation.restricted-string 0x14 };
+
+    ghost is_set = { standard_set 0x14 };
 }
 
 /// ASCII, with its control characters (X.680, table 8).
@@ -137,8 +144,10 @@ impl CharacterSet for Ia5 {
     ghost narrow = { ascii_is_narrow is_ia5 ia5_is_ascii };
 }
 
-impl StandardSet for Ia5 {
-    ghost standard = { Prim.assumption };
+impl NotatedSet for Ia5 {
+    ghost string = { Notation.restricted-string 0x16 };
+
+    ghost is_set = { standard_set 0x16 };
 }
 
 impl Unicode for Ia5 {
@@ -174,8 +183,10 @@ impl CharacterSet for Visible {
     ghost narrow = { ascii_is_narrow is_visible visible_is_ascii };
 }
 
-impl StandardSet for Visible {
-    ghost standard = { Prim.assumption };
+impl NotatedSet for Visible {
+    ghost string = { Notation.restricted-string 0x1A };
+
+    ghost is_set = { standard_set 0x1A };
 }
 
 impl Unicode for Visible {
@@ -211,8 +222,97 @@ impl CharacterSet for General {
     ghost narrow = { byte_is_narrow };
 }
 
-impl StandardSet for General {
-    ghost standard = { Prim.assumption };
+impl NotatedSet for General {
+    ghost string = { Notation.restricted-string 0x1B };
+
+    ghost is_set = { standard_set 0x1B };
+}
+
+/// Any byte. Neither the character sets of videotex nor the escape sequences that select them are checked (X.680, 41.1, table 8).
+pub struct Videotex;
+
+impl CharacterSet for Videotex {
+    ghost TAG = { 0x15 };
+
+    ghost WIDTH = { One };
+
+    ghost is_character = { is_any_byte };
+
+    const TAG: u8 = 0x15;
+
+    const WIDTH: Width = Width::One;
+
+    fn is_character(code: u32) -> bool {
+        code < 0x100
+    }
+
+    ghost short = { lit≤ tt };
+
+    ghost narrow = { byte_is_narrow };
+}
+
+impl NotatedSet for Videotex {
+    ghost string = { Notation.restricted-string 0x15 };
+
+    ghost is_set = { standard_set 0x15 };
+}
+
+/// Any byte. Neither the registered character sets nor the escape sequences that select them are checked (X.680, 41.1, table 8).
+pub struct Graphic;
+
+impl CharacterSet for Graphic {
+    ghost TAG = { 0x19 };
+
+    ghost WIDTH = { One };
+
+    ghost is_character = { is_any_byte };
+
+    const TAG: u8 = 0x19;
+
+    const WIDTH: Width = Width::One;
+
+    fn is_character(code: u32) -> bool {
+        code < 0x100
+    }
+
+    ghost short = { lit≤ tt };
+
+    ghost narrow = { byte_is_narrow };
+}
+
+impl NotatedSet for Graphic {
+    ghost string = { Notation.restricted-string 0x19 };
+
+    ghost is_set = { standard_set 0x19 };
+}
+
+/// Any byte, as of a GraphicString, under the tag of ObjectDescriptor (X.680, 48.3).
+pub struct Descriptor;
+
+impl CharacterSet for Descriptor {
+    ghost TAG = { 0x07 };
+
+    ghost WIDTH = { One };
+
+    ghost is_character = { is_any_byte };
+
+    const TAG: u8 = 0x07;
+
+    const WIDTH: Width = Width::One;
+
+    fn is_character(code: u32) -> bool {
+        code < 0x100
+    }
+
+    ghost short = { lit≤ tt };
+
+    ghost narrow = { byte_is_narrow };
+}
+
+impl NotatedSet for Descriptor {
+    ghost string = { Notation.restricted-string 0x07 };
+
+    ghost is_set = { standard_set 0x07 };
 }
 
 /// The characters of Unicode, in four bytes each (X.680, 41.6; X.690, 8.23.7). Surrogates are not characters.
@@ -238,8 +338,10 @@ impl CharacterSet for Universal {
     ghost narrow = { universal_is_narrow };
 }
 
-impl StandardSet for Universal {
-    ghost standard = { Prim.assumption };
+impl NotatedSet for Universal {
+    ghost string = { Notation.restricted-string 0x1C };
+
+    ghost is_set = { standard_set 0x1C };
 }
 
 impl Unicode for Universal {
@@ -270,8 +372,10 @@ impl CharacterSet for Bmp {
     ghost narrow = { bmp_is_narrow };
 }
 
-impl StandardSet for Bmp {
-    ghost standard = { Prim.assumption };
+impl NotatedSet for Bmp {
+    ghost string = { Notation.restricted-string 0x1E };
+
+    ghost is_set = { standard_set 0x1E };
 }
 
 impl Unicode for Bmp {

@@ -4,10 +4,10 @@ ghost use Rattle.std.proofs.Common.{lit≤};
 ghost use Rattle.std.specs.Prelude.{◌≡◌, true, false, refl, IfSome, IfNone, IfOk, IfErr};
 ghost use Rattle.std.specs.Cmp.Lexicographic.{bytes_decides};
 ghost use Rattle.picky_der_de.specs.Faithful.{same_list};
-ghost use Rattle.picky_der_de.specs.Facts.{bytes_facts};
+ghost use Rattle.picky_der_de.specs.Facts.{bytes_facts, ruled};
 ghost use Rattle.picky_der_core.specs.Integer.{is_integer};
 ghost use Rattle.der_types.specs.ContentForms as form;
-ghost use Rattle.der_types.specs.ContentTests.{ReadsContent, RefusesContent};
+ghost use Rattle.der_types.specs.ContentTests.{ReadsContent, RefusesContent, content_rule};
 ghost use Rattle.der_types.specs.Exact.{content_exact, plain_values};
 ghost use Rattle.der_types.specs.ExactContents.{own_contents};
 ghost use Rattle.der_types.specs.ContentsFacts.{contents_of, contents_shape};
@@ -15,9 +15,7 @@ ghost use Rattle.der_types.specs.Sameness.{content_sameness};
 ghost use Rattle.der_types.specs.SampleTrees.{exact_example};
 ghost use Rattle.der_types.specs.MadeValues.{vec_of};
 
-use crate::{
-    Contents, Enumerated, Exact, ExactContents, Integer, Notated, deserialize_contents_as,
-};
+use crate::{Contents, Enumerated, Exact, ExactContents, Integer, Notated, deserialize_contents_as};
 use picky_der_core::asn1::Tag;
 use picky_der_core::misc::{ReadExt, WriteExt};
 use picky_der_core::{Asn1DerError, Result};
@@ -57,11 +55,7 @@ impl Contents for Enumerated {
         }
     }
 
-    fn serialize_under<W: WriteExt>(
-        &self,
-        tag: Tag,
-        serializer: &mut Serializer<W>,
-    ) -> Result<usize> {
+    fn serialize_under<W: WriteExt>(&self, tag: Tag, serializer: &mut Serializer<W>) -> Result<usize> {
         serializer.serialize_tagged_bytes(tag, self.0.content())
     }
 
@@ -83,7 +77,7 @@ impl Serialize for Enumerated {
 impl Deserialize for Enumerated {
     ghost shape = { contents_shape 0x0A };
 
-    ghost facts = { bytes_facts 0x0A (λ it. it.0.content.items) };
+    ghost facts = { ruled (content_rule 0x0A is_integer) (bytes_facts 0x0A (λ it. it.0.content.items)) };
 
     ghost proved = { Prim.assumption };
 

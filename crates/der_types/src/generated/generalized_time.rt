@@ -57,11 +57,7 @@ impl Contents for GeneralizedTime {
         }
     }
 
-    fn serialize_under<W: WriteExt>(
-        &self,
-        tag: Tag,
-        serializer: &mut Serializer<W>,
-    ) -> Result<usize> {
+    fn serialize_under<W: WriteExt>(&self, tag: Tag, serializer: &mut Serializer<W>) -> Result<usize> {
         serializer.serialize_tagged_bytes(tag, &self.content)
     }
 
@@ -83,7 +79,7 @@ impl Serialize for GeneralizedTime {
 impl Deserialize for GeneralizedTime {
     ghost shape = { contents_shape 0x18 };
 
-    ghost facts = { contents_facts 0x18 (λ it. it.content.items) ⟦<Self as PartialEq>⟧.eq ⟦<Self as Contents>⟧.same };
+    ghost facts = { contents_facts 0x18 (λ it. it.content.items) ⟦<Self as PartialEq>⟧.eq is_generalized_time ⟦<Self as Contents>⟧.same };
 
     ghost proved = { Prim.assumption };
 

@@ -4,10 +4,10 @@ ghost use Rattle.std.proofs.Common.{lit≤};
 ghost use Rattle.std.specs.Prelude.{◌≡◌, true, false, refl, IfSome, IfNone, IfOk, IfErr};
 ghost use Rattle.std.specs.Cmp.Lexicographic.{bytes_decides};
 ghost use Rattle.picky_der_de.specs.Faithful.{same_list};
-ghost use Rattle.picky_der_de.specs.Facts.{bytes_facts};
+ghost use Rattle.picky_der_de.specs.Facts.{bytes_facts, ruled};
 ghost use Rattle.picky_der_core.specs.Integer.{is_integer};
 ghost use Rattle.der_types.specs.ContentForms as form;
-ghost use Rattle.der_types.specs.ContentTests.{ReadsContent, RefusesContent};
+ghost use Rattle.der_types.specs.ContentTests.{ReadsContent, RefusesContent, content_rule};
 ghost use Rattle.der_types.specs.Exact.{content_exact, plain_values};
 ghost use Rattle.der_types.specs.ExactContents.{own_contents};
 ghost use Rattle.der_types.specs.ContentsFacts.{contents_of, contents_shape};
@@ -58,11 +58,7 @@ impl Contents for Integer {
         }
     }
 
-    fn serialize_under<W: WriteExt>(
-        &self,
-        tag: Tag,
-        serializer: &mut Serializer<W>,
-    ) -> Result<usize> {
+    fn serialize_under<W: WriteExt>(&self, tag: Tag, serializer: &mut Serializer<W>) -> Result<usize> {
         serializer.serialize_tagged_bytes(tag, &self.content)
     }
 
@@ -84,7 +80,7 @@ impl Serialize for Integer {
 impl Deserialize for Integer {
     ghost shape = { contents_shape 0x02 };
 
-    ghost facts = { bytes_facts 0x02 (λ it. it.content.items) };
+    ghost facts = { ruled (content_rule 0x02 is_integer) (bytes_facts 0x02 (λ it. it.content.items)) };
 
     ghost proved = { Prim.assumption };
 

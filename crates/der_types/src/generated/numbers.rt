@@ -2,11 +2,11 @@
 //! The types of numbers of each width as types of ASN.1.
 ghost use Rattle.std.proofs.Common.{ap, eqb-true};
 ghost use Rattle.std.proofs.lemmas.Bool.Decides.{Decides-int_eq};
-ghost use Rattle.std.specs.Prelude.{◌≡◌, ◌^◌, ◌-◌, pos, true, refl};
+ghost use Rattle.std.specs.Prelude.{◌≡◌, ◌^◌, ◌-◌, int_le, pos, true, refl};
 ghost use Rattle.picky_der_core.specs.Integer.{fits_signed, int_tree, unsigned_tree};
 ghost use Rattle.picky_der_core.specs.UnsignedTreeLaws.{unsigned_tree-same};
-ghost use Rattle.der_types.specs.Constraints.{is_between};
-ghost use Rattle.der_types.specs.ExactConstraints.{numbered_unsigned};
+ghost use Rattle.picky_der_de.specs.InjectiveLaws.{int_injective};
+ghost use Rattle.der_types.specs.ExactConstraints.{numbered_signed, numbered_unsigned};
 ghost use Rattle.der_types.specs.ExactContents.{signed_values, unsigned_values};
 ghost use Rattle.der_types.specs.ExactDefaults.{number_default, signed_default};
 ghost use Rattle.der_types.specs.Notation.{Notation};
@@ -206,6 +206,12 @@ impl Exact for i8 {
     ghost exact = { Prim.assumption };
 }
 
+impl ExactNumber for i8 {
+    ghost numbered = { numbered_signed 8 };
+
+    ghost exact_number = { Prim.assumption };
+}
+
 impl<const N: i8> NotatedDefault<i8> for SignedNumber<N> {
     ghost value = { int_tree (fits_signed 8) N };
 
@@ -228,6 +234,12 @@ impl Exact for i16 {
     ghost values = { signed_values 16 };
 
     ghost exact = { Prim.assumption };
+}
+
+impl ExactNumber for i16 {
+    ghost numbered = { numbered_signed 16 };
+
+    ghost exact_number = { Prim.assumption };
 }
 
 impl<const N: i8> NotatedDefault<i16> for SignedNumber<N> {
@@ -254,6 +266,12 @@ impl Exact for i32 {
     ghost exact = { Prim.assumption };
 }
 
+impl ExactNumber for i32 {
+    ghost numbered = { numbered_signed 32 };
+
+    ghost exact_number = { Prim.assumption };
+}
+
 impl<const N: i8> NotatedDefault<i32> for SignedNumber<N> {
     ghost value = { int_tree (fits_signed 32) N };
 
@@ -276,6 +294,12 @@ impl Exact for i64 {
     ghost values = { signed_values 64 };
 
     ghost exact = { Prim.assumption };
+}
+
+impl ExactNumber for i64 {
+    ghost numbered = { numbered_signed 64 };
+
+    ghost exact_number = { Prim.assumption };
 }
 
 impl<const N: i8> NotatedDefault<i64> for SignedNumber<N> {
@@ -302,6 +326,12 @@ impl Exact for i128 {
     ghost exact = { Prim.assumption };
 }
 
+impl ExactNumber for i128 {
+    ghost numbered = { numbered_signed 128 };
+
+    ghost exact_number = { Prim.assumption };
+}
+
 impl<const N: i8> NotatedDefault<i128> for SignedNumber<N> {
     ghost value = { int_tree (fits_signed 128) N };
 
@@ -317,9 +347,12 @@ impl<const N: i8> ExactDefault<i128> for SignedNumber<N> {
 impl WholeNumber for u8 {
     ghost number = { pos };
 
-    fn is_between(&self, least: u64, most: u64) -> bool {
-        let number = u64::from(*self);
-        least <= number && number <= most
+    fn is_at_least(&self, least: i128) -> bool {
+        least <= i128::from(*self)
+    }
+
+    fn is_at_most(&self, most: i128) -> bool {
+        i128::from(*self) <= most
     }
 
     ghost determined = { λ x y e. ap pos (unsigned_tree-same (2 ^ 8 - 1) x y e) };
@@ -328,9 +361,12 @@ impl WholeNumber for u8 {
 impl WholeNumber for u16 {
     ghost number = { pos };
 
-    fn is_between(&self, least: u64, most: u64) -> bool {
-        let number = u64::from(*self);
-        least <= number && number <= most
+    fn is_at_least(&self, least: i128) -> bool {
+        least <= i128::from(*self)
+    }
+
+    fn is_at_most(&self, most: i128) -> bool {
+        i128::from(*self) <= most
     }
 
     ghost determined = { λ x y e. ap pos (unsigned_tree-same (2 ^ 16 - 1) x y e) };
@@ -339,9 +375,12 @@ impl WholeNumber for u16 {
 impl WholeNumber for u32 {
     ghost number = { pos };
 
-    fn is_between(&self, least: u64, most: u64) -> bool {
-        let number = u64::from(*self);
-        least <= number && number <= most
+    fn is_at_least(&self, least: i128) -> bool {
+        least <= i128::from(*self)
+    }
+
+    fn is_at_most(&self, most: i128) -> bool {
+        i128::from(*self) <= most
     }
 
     ghost determined = { λ x y e. ap pos (unsigned_tree-same (2 ^ 32 - 1) x y e) };
@@ -350,30 +389,97 @@ impl WholeNumber for u32 {
 impl WholeNumber for u64 {
     ghost number = { pos };
 
-    fn is_between(&self, least: u64, most: u64) -> bool {
-        least <= *self && *self <= most
+    fn is_at_least(&self, least: i128) -> bool {
+        least <= i128::from(*self)
+    }
+
+    fn is_at_most(&self, most: i128) -> bool {
+        i128::from(*self) <= most
     }
 
     ghost determined = { λ x y e. ap pos (unsigned_tree-same (2 ^ 64 - 1) x y e) };
-}
-
-impl WholeNumber for u128 {
-    ghost number = { pos };
-
-    fn is_between(&self, least: u64, most: u64) -> bool {
-        u128::from(least) <= *self && *self <= u128::from(most)
-    }
-
-    ghost determined = { λ x y e. ap pos (unsigned_tree-same (2 ^ 128 - 1) x y e) };
 }
 
 impl WholeNumber for usize {
     ghost number = { pos };
 
-    fn is_between(&self, least: u64, most: u64) -> bool {
-        let number = *self as u64;
-        least <= number && number <= most
+    fn is_at_least(&self, least: i128) -> bool {
+        least <= i128::from(*self as u64)
+    }
+
+    fn is_at_most(&self, most: i128) -> bool {
+        i128::from(*self as u64) <= most
     }
 
     ghost determined = { λ x y e. ap pos (unsigned_tree-same (2 ^ 64 - 1) x y e) };
+}
+
+impl WholeNumber for i8 {
+    ghost number = { λ z. z };
+
+    fn is_at_least(&self, least: i128) -> bool {
+        least <= i128::from(*self)
+    }
+
+    fn is_at_most(&self, most: i128) -> bool {
+        i128::from(*self) <= most
+    }
+
+    ghost determined = { λ x y e. (Decides-int_eq x y).0 (int_injective (fits_signed 8) x y e) };
+}
+
+impl WholeNumber for i16 {
+    ghost number = { λ z. z };
+
+    fn is_at_least(&self, least: i128) -> bool {
+        least <= i128::from(*self)
+    }
+
+    fn is_at_most(&self, most: i128) -> bool {
+        i128::from(*self) <= most
+    }
+
+    ghost determined = { λ x y e. (Decides-int_eq x y).0 (int_injective (fits_signed 16) x y e) };
+}
+
+impl WholeNumber for i32 {
+    ghost number = { λ z. z };
+
+    fn is_at_least(&self, least: i128) -> bool {
+        least <= i128::from(*self)
+    }
+
+    fn is_at_most(&self, most: i128) -> bool {
+        i128::from(*self) <= most
+    }
+
+    ghost determined = { λ x y e. (Decides-int_eq x y).0 (int_injective (fits_signed 32) x y e) };
+}
+
+impl WholeNumber for i64 {
+    ghost number = { λ z. z };
+
+    fn is_at_least(&self, least: i128) -> bool {
+        least <= i128::from(*self)
+    }
+
+    fn is_at_most(&self, most: i128) -> bool {
+        i128::from(*self) <= most
+    }
+
+    ghost determined = { λ x y e. (Decides-int_eq x y).0 (int_injective (fits_signed 64) x y e) };
+}
+
+impl WholeNumber for i128 {
+    ghost number = { λ z. z };
+
+    fn is_at_least(&self, least: i128) -> bool {
+        least <= *self
+    }
+
+    fn is_at_most(&self, most: i128) -> bool {
+        *self <= most
+    }
+
+    ghost determined = { λ x y e. (Decides-int_eq x y).0 (int_injective (fits_signed 128) x y e) };
 }

@@ -4,10 +4,10 @@ ghost use Rattle.std.proofs.Common.{lit≤};
 ghost use Rattle.std.specs.Prelude.{◌≡◌, true, false, refl, IfSome, IfNone, IfOk, IfErr};
 ghost use Rattle.std.specs.Cmp.Lexicographic.{bytes_decides};
 ghost use Rattle.picky_der_de.specs.Faithful.{same_list};
-ghost use Rattle.picky_der_de.specs.Facts.{bytes_facts};
+ghost use Rattle.picky_der_de.specs.Facts.{bytes_facts, ruled};
 ghost use Rattle.der_types.specs.ObjectIdentifier.{is_object_identifier};
 ghost use Rattle.der_types.specs.ContentForms as form;
-ghost use Rattle.der_types.specs.ContentTests.{ReadsContent, RefusesContent};
+ghost use Rattle.der_types.specs.ContentTests.{ReadsContent, RefusesContent, content_rule};
 ghost use Rattle.der_types.specs.Exact.{content_exact, plain_values};
 ghost use Rattle.der_types.specs.ExactContents.{own_contents};
 ghost use Rattle.der_types.specs.ContentsFacts.{contents_of, contents_shape};
@@ -72,11 +72,7 @@ impl Contents for ObjectIdentifier {
         }
     }
 
-    fn serialize_under<W: WriteExt>(
-        &self,
-        tag: Tag,
-        serializer: &mut Serializer<W>,
-    ) -> Result<usize> {
+    fn serialize_under<W: WriteExt>(&self, tag: Tag, serializer: &mut Serializer<W>) -> Result<usize> {
         serializer.serialize_tagged_bytes(tag, &self.content)
     }
 
@@ -98,7 +94,7 @@ impl Serialize for ObjectIdentifier {
 impl Deserialize for ObjectIdentifier {
     ghost shape = { contents_shape 0x06 };
 
-    ghost facts = { bytes_facts 0x06 (λ it. it.content.items) };
+    ghost facts = { ruled (content_rule 0x06 is_object_identifier) (bytes_facts 0x06 (λ it. it.content.items)) };
 
     ghost proved = { Prim.assumption };
 

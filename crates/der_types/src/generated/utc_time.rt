@@ -48,11 +48,7 @@ impl Contents for UtcTime {
         UtcTime::of(content)
     }
 
-    fn serialize_under<W: WriteExt>(
-        &self,
-        tag: Tag,
-        serializer: &mut Serializer<W>,
-    ) -> Result<usize> {
+    fn serialize_under<W: WriteExt>(&self, tag: Tag, serializer: &mut Serializer<W>) -> Result<usize> {
         self.write_under(tag, serializer)
     }
 
@@ -74,7 +70,7 @@ impl Serialize for UtcTime {
 impl Deserialize for UtcTime {
     ghost shape = { contents_shape 0x17 };
 
-    ghost facts = { contents_facts 0x17 (λ it. utc_content it.at) ⟦<Self as PartialEq>⟧.eq ⟦<Self as Contents>⟧.same };
+    ghost facts = { contents_facts 0x17 (λ it. utc_content it.at) ⟦<Self as PartialEq>⟧.eq is_utc_time ⟦<Self as Contents>⟧.same };
 
     ghost proved = { Prim.assumption };
 

@@ -4,7 +4,9 @@ ghost use Rattle.std.proofs.Common.{ap};
 ghost use Rattle.std.specs.Prelude.{◌≡◌, true, false, not, refl, IfSome, IfNone, IfOk, IfErr};
 ghost use Rattle.picky_der_core.specs.Equality.{IsThatOf};
 ghost use Rattle.picky_der_de.specs.Reading.{Reads, Refuses};
-ghost use Rattle.picky_der_de.specs.Facts.{part_facts};
+ghost use Rattle.picky_der_de.specs.Facts.{tested_part_facts};
+ghost use Rattle.picky_der_de.specs.RefusesBy.{RefusesBy};
+ghost use Rattle.picky_der_de.specs.Rules.{tested_rule};
 ghost use Rattle.der_types.specs.Constraints.{is_size, RefusesConstrained};
 ghost use Rattle.der_types.specs.ExactConstraints.{sized_values};
 ghost use Rattle.der_types.specs.Notation.{Notation};
@@ -98,7 +100,7 @@ impl<T: Size + Deserialize, const MIN: usize, const MAX: usize> Deserialize
     for WithSize<T, MIN, MAX> {
     ghost shape = { T.shape };
 
-    ghost facts = { part_facts T.facts T.meaning T.eq (λ it. it.value) };
+    ghost facts = { tested_part_facts T.facts T.meaning T.eq (λ it. it.value) };
 
     ghost proved = { Prim.assumption };
 
@@ -109,6 +111,8 @@ impl<T: Size + Deserialize, const MIN: usize, const MAX: usize> Deserialize
             deserializer.old deserializer.new) }
         ensures refused { IfErr result (RefusesConstrained T.meaning T.shape
             (λ value. is_size MIN MAX (T.size value)) deserializer.old deserializer.new) }
+        ensures refused_by { IfErr result (RefusesBy (tested_rule T.meaning T.shape
+            ⟦<WithSize<T, MIN, MAX> as Constrained>⟧.unconstrained T.facts.rule) deserializer.old deserializer.new) }
     {
         deserialize_constrained_as(deserializer)
     }

@@ -7,7 +7,7 @@ use std::process::Abort;
 
 type Later = LaterMembers<OneOf<String, NoneOf>>;
 
-// The members that these encodings are, or `None` if the first one begins as a text.
+// The members that these encodings are, or `None` if the first one has the tag of a text.
 fn later(rt: &(impl Abort + AllocGlobal), rows: &[&str]) -> Option<Later> {
     let mut elements = Vec::new(rt.alloc());
     for row in rows {
@@ -43,9 +43,10 @@ fn without_any_a_struct_ends_with_its_own(rt: HostRuntime) {
 }
 
 #[test]
-fn the_first_begins_otherwise(rt: HostRuntime) {
+fn the_first_has_another_tag(rt: HostRuntime) {
     same!(rt; later(&rt, &["0C 01 41"]).is_none(), true);
     same!(rt; later(&rt, &["0C 01 41", "05 00"]).is_none(), true);
-    same!(rt; later(&rt, &["2C 00"]).is_some(), true);
+    same!(rt; later(&rt, &["2C 00"]).is_none(), true);
+    same!(rt; later(&rt, &["05 00", "2C 00"]).is_some(), true);
     same!(rt; later(&rt, &[]).is_some(), true);
 }

@@ -1,6 +1,6 @@
 //! A reader whose next byte can be looked at.
-ghost use Rattle.std.specs.Prelude.{◌≡◌, ◌+◌, ◌<◌, ◌≤◌, ◌^◌, ◌∷◌, [], false, length, drop, Ok, None, Some, IfNone};
-ghost use Rattle.std.specs.Prelude.{IfSome, IfOk};
+ghost use Rattle.std.specs.Prelude.{◌≡◌, ◌+◌, ◌<◌, ◌≤◌, ◌^◌, ◌∷◌, [], true, false, length, drop, Ok, None, Some};
+ghost use Rattle.std.specs.Prelude.{IfNone, IfSome, IfOk};
 ghost use Rattle.std.specs.Prelude.{OnOk, IfErr, OnErr};
 ghost use Rattle.std.specs.Io.KnownBytes.{Consumes, Keeps, IsAtEnd, ReadConsumes};
 ghost use Rattle.std.specs.Io.{ReadsAtMost, StartsWith};
@@ -160,6 +160,8 @@ impl<R: ReadExt> PeekableReader<R> {
         ensures input { IfSome result (λ b. Consumes (left_in R.remaining self.old)
             (left_in R.remaining self.new) (b ∷ [])) }
         ensures none { IfNone result (self.new ≡ self.old) }
+        ensures same_reader { self.old.fetched ≡ true
+            → IfSome result (λ _. self.new.reader ≡ self.old.reader) }
         ensures unpeeked { self.new.peeked ≡ None }
         ensures pos { self.new.pos ≡ position_after self.old.pos (count_of_any result) }
         ensures no_fault { R.faults self.new.reader ≡ R.faults self.old.reader }
@@ -176,8 +178,8 @@ impl<R: ReadExt> PeekableReader<R> {
     }
 }
 
-/// While a byte is peeked, a read returns this byte alone and doesn't call the inner reader. With an empty buffer
-/// nothing is consumed.
+/// While a byte is peeked, a read returns this byte alone, and reads nothing from the inner reader. If that reader
+/// only showed the byte, it consumes it. With an empty buffer nothing is consumed.
 impl<R: ReadExt> Read for PeekableReader<R> {
     ghost remaining = { λ p. left_in R.remaining p };
 
@@ -188,6 +190,8 @@ impl<R: ReadExt> Read for PeekableReader<R> {
         ensures empty { length buf.old ≡ 0 → (result ≡ Ok 0) × (self.new ≡ self.old) }
         ensures peeked { 0 < length buf.old → IfSome self.old.peeked (λ b.
             (result ≡ Ok 1) × (buf.new ≡ b ∷ drop 1 buf.old)) }
+        ensures same_reader { 0 < length buf.old → self.old.fetched ≡ true
+            → IfSome self.old.peeked (λ _. self.new.reader ≡ self.old.reader) }
         ensures unpeeked { 0 < length buf.old → OnOk result (self.new.peeked ≡ None) }
         ensures kept { OnErr result (self.new.peeked ≡ self.old.peeked) }
         ensures pos { IfOk result (λ n. self.new.pos ≡ position_after self.old.pos n) }
@@ -214,6 +218,8 @@ impl<R: ReadExt> ReadExt for PeekableReader<R> {
         ensures bounded { IfOk result IsByteIfAny }
         ensures peeked { IfSome self.old.peeked
             (λ b. result ≡ Ok (Some b)) }
+        ensures same_reader { self.old.fetched ≡ true
+            → IfSome self.old.peeked (λ _. self.new.reader ≡ self.old.reader) }
         ensures unpeeked { OnOk result (self.new.peeked ≡ None) }
         ensures kept { OnErr result (self.new.peeked ≡ self.old.peeked) }
         ensures pos { IfOk result
@@ -234,7 +240,7 @@ impl<R: ReadExt> ReadExt for PeekableReader<R> {
         Ok(next)
     }
 
-    /// The bytes of one read. While a byte is peeked it is this byte alone, and the inner reader isn't called.
+    /// The bytes of one read. While a byte is peeked it is this byte alone, and nothing is read from the inner reader.
     fn read_some(&mut self, buf: &mut [u8]) -> io::Result<usize>
         ensures bound { ReadsAtMost result buf.new }
         ensures bytes { ReadConsumes (left_in R.remaining self.old)
@@ -242,6 +248,8 @@ impl<R: ReadExt> ReadExt for PeekableReader<R> {
         ensures empty { length buf.old ≡ 0 → (result ≡ Ok 0) × (self.new ≡ self.old) }
         ensures peeked { 0 < length buf.old → IfSome self.old.peeked (λ b.
             (result ≡ Ok 1) × (buf.new ≡ b ∷ drop 1 buf.old)) }
+        ensures same_reader { 0 < length buf.old → self.old.fetched ≡ true
+            → IfSome self.old.peeked (λ _. self.new.reader ≡ self.old.reader) }
         ensures unpeeked { 0 < length buf.old → OnOk result (self.new.peeked ≡ None) }
         ensures kept { OnErr result (self.new.peeked ≡ self.old.peeked) }
         ensures pos { IfOk result (λ n. self.new.pos ≡ position_after self.old.pos n) }
@@ -299,6 +307,8 @@ impl<R: ReadExt> ReadExt for PeekableReader<R> {
         ensures bounded { IfOk result (λ b. b < 256) }
         ensures peeked { IfSome self.old.peeked
             (λ b. result ≡ Ok b) }
+        ensures same_reader { self.old.fetched ≡ true
+            → IfSome self.old.peeked (λ _. self.new.reader ≡ self.old.reader) }
         ensures unpeeked { OnOk result (self.new.peeked ≡ None) }
         ensures kept { OnErr result (self.new.peeked ≡ self.old.peeked) }
         ensures pos { OnOk result (self.new.pos ≡ position_after self.old.pos 1) }

@@ -10,6 +10,8 @@ ghost use Rattle.picky_der_de.specs.Ends.{innermost, with_inner_end, Closes, Ref
 ghost use Rattle.picky_der_de.specs.Ends.{OpensLazily};
 ghost use Rattle.picky_der_de.specs.Order.{order_of, cut_at};
 ghost use Rattle.picky_der_de.specs.Wrappers.{implicit_tag_of, BeginsWrapper, OpensWrapper, RefusesOpening};
+ghost use Rattle.picky_der_de.specs.RefusesBy.{RefusesBy};
+ghost use Rattle.picky_der_de.specs.Rules.{wrapped_rule};
 ghost use Rattle.picky_der_de.specs.Wrappers.{RefusesUnusedBits};
 ghost use Rattle.picky_der_de.specs.Members.{ReadsMember, RefusesMember};
 ghost use Rattle.picky_der_de.specs.Wrappers.{ReadsWrapped, RefusesWrapped};
@@ -220,7 +222,7 @@ impl<R: ReadExt> Deserializer<R> {
         requires whole { self.old.implicit_tag ≡ None }
         ensures ok { IfOk result (λ value. ReadsMember T.shape self.old self.new
             (T.meaning value)) }
-        ensures err { IfErr result (RefusesMember T.meaning T.shape self.old self.new) }
+        ensures err { IfErr result (RefusesMember T.meaning T.shape T.facts.rule self.old self.new) }
     {
         if self.last_start.is_some() {
             return self.next_in_set();
@@ -233,6 +235,8 @@ impl<R: ReadExt> Deserializer<R> {
         ensures ok { IfOk result (λ value. ReadsWrapped wrapper T.shape self.old self.new
             (T.meaning value)) }
         ensures err { IfErr result (RefusesWrapped T.meaning T.shape wrapper self.old self.new) }
+        ensures refused_by { IfErr result (RefusesBy
+            (wrapped_rule T.meaning T.shape wrapper T.facts.rule) self.old self.new) }
         ensures unsupported { (HasTagNumber wrapper → ⊥)
             → RefusesNumber self.old result self.new }
     {

@@ -116,7 +116,7 @@ impl<R: ReadExt> Deserializer<R> {
         requires in_set { self.old.sets.last ≢ None }
         ensures ok { IfOk result (λ value. ReadsMember T.shape self.old self.new
             (T.meaning value)) }
-        ensures err { IfErr result (RefusesMember T.meaning T.shape self.old self.new) }
+        ensures err { IfErr result (RefusesMember T.meaning T.shape T.facts.rule self.old self.new) }
     {
         match self.see_member() {
             Ok(Some(less)) => self.read_seen(less),
@@ -131,7 +131,7 @@ impl<R: ReadExt> Deserializer<R> {
         requires whole { self.old.implicit_tag ≡ None }
         ensures ok { IfOk result (λ value. ReadsSeen less T.shape self.old self.new
             (T.meaning value)) }
-        ensures err { IfErr result (RefusesSeen less T.meaning T.shape self.old self.new) }
+        ensures err { IfErr result (RefusesSeen less T.meaning T.shape T.facts.rule self.old self.new) }
     {
         match T::deserialize(self) {
             Ok(value) => {
@@ -153,7 +153,7 @@ impl<R: ReadExt> Deserializer<R> {
         requires in_set { self.old.sets.last ≢ None }
         ensures ok { IfOk result (λ value. ReadsMember T.shape self.old self.new
             (T.meaning value)) }
-        ensures err { IfErr result (RefusesMember T.meaning T.shape self.old self.new) }
+        ensures err { IfErr result (RefusesMember T.meaning T.shape T.facts.rule self.old self.new) }
     {
         let value = match T::deserialize(self) {
             Ok(value) => value,

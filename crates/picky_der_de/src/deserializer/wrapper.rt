@@ -8,6 +8,8 @@ ghost use Rattle.picky_der_core.specs.Tag.{IsConstructedTag};
 ghost use Rattle.picky_der_core.specs.Tree.{Tree};
 ghost use Rattle.picky_der_de.specs.Reading.{Reads, Refuses, AreNotRefused};
 ghost use Rattle.picky_der_de.specs.Wrappers.{wrap_shape_if, opening_refusal, RefusesWrapped};
+ghost use Rattle.picky_der_de.specs.RefusesBy.{RefusesBy};
+ghost use Rattle.picky_der_de.specs.Rules.{wrapped_rule, wrap_rule_if};
 ghost use Rattle.picky_der_de.specs.TagNumbers.{RefusesNumber};
 ghost use Rattle.picky_der_ser.specs.Meaning.{option_meaning};
 
@@ -32,6 +34,8 @@ impl<R: ReadExt> Deserializer<R> {
             (wrap_if (wrapper_of kind) (T.meaning value))) }
         ensures err { IfErr result (Refuses (λ (value : T). wrap_if (wrapper_of kind)
             (T.meaning value)) (wrap_shape_if (wrapper_of kind) T.shape) self.old self.new) }
+        ensures refused_by { IfErr result (RefusesBy (wrap_rule_if T.meaning T.shape
+            (wrapper_of kind) T.facts.rule) self.old self.new) }
         ensures no_refusal { IfOk result (λ value. (w : WrapperOf) → wrapper_of kind ≡ Some w
             → AreNotRefused (opening_refusal w self.old) self.old) }
         ensures refused { IfErr result (λ e. (w : WrapperOf) → wrapper_of kind ≡ Some w
@@ -58,6 +62,8 @@ impl<R: ReadExt> Deserializer<R> {
             (Tree.wrapped (ImplicitList tag) (T.meaning value))) }
         ensures err { IfErr result (Refuses (λ (value : T). Tree.wrapped (ImplicitList tag)
             (T.meaning value)) (Shape.wrapped (ImplicitList tag) T.shape) self.old self.new) }
+        ensures refused_by { IfErr result (RefusesBy (wrapped_rule T.meaning T.shape
+            (ImplicitList tag) T.facts.rule) self.old self.new) }
         ensures no_refusal { IfOk result (λ value. AreNotRefused
             (opening_refusal (ImplicitList tag) self.old) self.old) }
         ensures refused { IfErr result (RefusesWrapped T.meaning T.shape
@@ -81,6 +87,8 @@ impl<R: ReadExt> Deserializer<R> {
             (Tree.wrapped (Application number) (T.meaning value))) }
         ensures err { IfErr result (Refuses (λ (value : T). Tree.wrapped (Application number)
             (T.meaning value)) (Shape.wrapped (Application number) T.shape) self.old self.new) }
+        ensures refused_by { IfErr result (RefusesBy (wrapped_rule T.meaning T.shape
+            (Application number) T.facts.rule) self.old self.new) }
         ensures no_refusal { IfOk result (λ value. AreNotRefused
             (opening_refusal (Application number) self.old) self.old) }
         ensures refused { IfErr result (RefusesWrapped T.meaning T.shape
@@ -97,6 +105,7 @@ impl<R: ReadExt> Deserializer<R> {
             (option_meaning T.meaning value)) }
         ensures err { IfErr result (Refuses (option_meaning T.meaning)
             (Shape.optional T.shape) self.old self.new) }
+        ensures refused_by { IfErr result (RefusesBy T.facts.rule self.old self.new) }
     {
         Ok(Some(T::deserialize(self)?))
     }

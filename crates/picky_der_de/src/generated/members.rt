@@ -10,7 +10,7 @@ use picky_der_core::misc::ReadExt;
 impl<A: DeserializeMember, Z: DeserializeMembers> DeserializeMembers for (A, Z) {
     ghost layout = { layout_with A.presence A.shape Z.layout };
 
-    ghost facts = { member_facts (λ it. it.0) A.facts A.prepend (members_facts (λ it. it.1) Z.facts Z.members) };
+    ghost facts = { member_facts (λ it. it.0) A.facts A.left_out A.prepend (members_facts (λ it. it.1) Z.facts Z.members) };
 
     fn deserialize_members<R: ReadExt>(sequence: &mut Sequence<'_, R>) -> Result<(A, Z)> {
         let first = A::deserialize_member(sequence)?;
@@ -25,7 +25,7 @@ impl<A: DeserializeMember, B: DeserializeMember, Z: DeserializeMembers> Deserial
     for (A, B, Z) {
     ghost layout = { layout_with A.presence A.shape (layout_with B.presence B.shape Z.layout) };
 
-    ghost facts = { member_facts (λ it. it.0) A.facts A.prepend (member_facts (λ it. it.1) B.facts B.prepend (members_facts (λ it. it.2) Z.facts Z.members)) };
+    ghost facts = { member_facts (λ it. it.0) A.facts A.left_out A.prepend (member_facts (λ it. it.1) B.facts B.left_out B.prepend (members_facts (λ it. it.2) Z.facts Z.members)) };
 
     fn deserialize_members<R: ReadExt>(sequence: &mut Sequence<'_, R>) -> Result<(A, B, Z)> {
         let first = A::deserialize_member(sequence)?;
@@ -45,7 +45,7 @@ impl<
 > DeserializeMembers for (A, B, C, Z) {
     ghost layout = { layout_with A.presence A.shape (layout_with B.presence B.shape (layout_with C.presence C.shape Z.layout)) };
 
-    ghost facts = { member_facts (λ it. it.0) A.facts A.prepend (member_facts (λ it. it.1) B.facts B.prepend (member_facts (λ it. it.2) C.facts C.prepend (members_facts (λ it. it.3) Z.facts Z.members))) };
+    ghost facts = { member_facts (λ it. it.0) A.facts A.left_out A.prepend (member_facts (λ it. it.1) B.facts B.left_out B.prepend (member_facts (λ it. it.2) C.facts C.left_out C.prepend (members_facts (λ it. it.3) Z.facts Z.members))) };
 
     fn deserialize_members<R: ReadExt>(sequence: &mut Sequence<'_, R>) -> Result<(A, B, C, Z)> {
         let first = A::deserialize_member(sequence)?;
@@ -66,7 +66,7 @@ impl<
 > DeserializeMembers for (A, B, C, D, Z) {
     ghost layout = { layout_with A.presence A.shape (layout_with B.presence B.shape (layout_with C.presence C.shape (layout_with D.presence D.shape Z.layout))) };
 
-    ghost facts = { member_facts (λ it. it.0) A.facts A.prepend (member_facts (λ it. it.1) B.facts B.prepend (member_facts (λ it. it.2) C.facts C.prepend (member_facts (λ it. it.3) D.facts D.prepend (members_facts (λ it. it.4) Z.facts Z.members)))) };
+    ghost facts = { member_facts (λ it. it.0) A.facts A.left_out A.prepend (member_facts (λ it. it.1) B.facts B.left_out B.prepend (member_facts (λ it. it.2) C.facts C.left_out C.prepend (member_facts (λ it. it.3) D.facts D.left_out D.prepend (members_facts (λ it. it.4) Z.facts Z.members)))) };
 
     fn deserialize_members<R: ReadExt>(sequence: &mut Sequence<'_, R>) -> Result<(A, B, C, D, Z)> {
         let first = A::deserialize_member(sequence)?;
@@ -88,7 +88,7 @@ impl<
 > DeserializeMembers for (A, B, C, D, E, Z) {
     ghost layout = { layout_with A.presence A.shape (layout_with B.presence B.shape (layout_with C.presence C.shape (layout_with D.presence D.shape (layout_with E.presence E.shape Z.layout)))) };
 
-    ghost facts = { member_facts (λ it. it.0) A.facts A.prepend (member_facts (λ it. it.1) B.facts B.prepend (member_facts (λ it. it.2) C.facts C.prepend (member_facts (λ it. it.3) D.facts D.prepend (member_facts (λ it. it.4) E.facts E.prepend (members_facts (λ it. it.5) Z.facts Z.members))))) };
+    ghost facts = { member_facts (λ it. it.0) A.facts A.left_out A.prepend (member_facts (λ it. it.1) B.facts B.left_out B.prepend (member_facts (λ it. it.2) C.facts C.left_out C.prepend (member_facts (λ it. it.3) D.facts D.left_out D.prepend (member_facts (λ it. it.4) E.facts E.left_out E.prepend (members_facts (λ it. it.5) Z.facts Z.members))))) };
 
     fn deserialize_members<R: ReadExt>(
         sequence: &mut Sequence<'_, R>,
@@ -113,7 +113,7 @@ impl<
 > DeserializeMembers for (A, B, C, D, E, F, Z) {
     ghost layout = { layout_with A.presence A.shape (layout_with B.presence B.shape (layout_with C.presence C.shape (layout_with D.presence D.shape (layout_with E.presence E.shape (layout_with F.presence F.shape Z.layout))))) };
 
-    ghost facts = { member_facts (λ it. it.0) A.facts A.prepend (member_facts (λ it. it.1) B.facts B.prepend (member_facts (λ it. it.2) C.facts C.prepend (member_facts (λ it. it.3) D.facts D.prepend (member_facts (λ it. it.4) E.facts E.prepend (member_facts (λ it. it.5) F.facts F.prepend (members_facts (λ it. it.6) Z.facts Z.members)))))) };
+    ghost facts = { member_facts (λ it. it.0) A.facts A.left_out A.prepend (member_facts (λ it. it.1) B.facts B.left_out B.prepend (member_facts (λ it. it.2) C.facts C.left_out C.prepend (member_facts (λ it. it.3) D.facts D.left_out D.prepend (member_facts (λ it. it.4) E.facts E.left_out E.prepend (member_facts (λ it. it.5) F.facts F.left_out F.prepend (members_facts (λ it. it.6) Z.facts Z.members)))))) };
 
     fn deserialize_members<R: ReadExt>(
         sequence: &mut Sequence<'_, R>,
@@ -139,7 +139,7 @@ impl<
 > DeserializeMembers for (A, B, C, D, E, F, G, Z) {
     ghost layout = { layout_with A.presence A.shape (layout_with B.presence B.shape (layout_with C.presence C.shape (layout_with D.presence D.shape (layout_with E.presence E.shape (layout_with F.presence F.shape (layout_with G.presence G.shape Z.layout)))))) };
 
-    ghost facts = { member_facts (λ it. it.0) A.facts A.prepend (member_facts (λ it. it.1) B.facts B.prepend (member_facts (λ it. it.2) C.facts C.prepend (member_facts (λ it. it.3) D.facts D.prepend (member_facts (λ it. it.4) E.facts E.prepend (member_facts (λ it. it.5) F.facts F.prepend (member_facts (λ it. it.6) G.facts G.prepend (members_facts (λ it. it.7) Z.facts Z.members))))))) };
+    ghost facts = { member_facts (λ it. it.0) A.facts A.left_out A.prepend (member_facts (λ it. it.1) B.facts B.left_out B.prepend (member_facts (λ it. it.2) C.facts C.left_out C.prepend (member_facts (λ it. it.3) D.facts D.left_out D.prepend (member_facts (λ it. it.4) E.facts E.left_out E.prepend (member_facts (λ it. it.5) F.facts F.left_out F.prepend (member_facts (λ it. it.6) G.facts G.left_out G.prepend (members_facts (λ it. it.7) Z.facts Z.members))))))) };
 
     fn deserialize_members<R: ReadExt>(
         sequence: &mut Sequence<'_, R>,
@@ -166,7 +166,7 @@ impl<
 > DeserializeMembers for (A, B, C, D, E, F, G, H, Z) {
     ghost layout = { layout_with A.presence A.shape (layout_with B.presence B.shape (layout_with C.presence C.shape (layout_with D.presence D.shape (layout_with E.presence E.shape (layout_with F.presence F.shape (layout_with G.presence G.shape (layout_with H.presence H.shape Z.layout))))))) };
 
-    ghost facts = { member_facts (λ it. it.0) A.facts A.prepend (member_facts (λ it. it.1) B.facts B.prepend (member_facts (λ it. it.2) C.facts C.prepend (member_facts (λ it. it.3) D.facts D.prepend (member_facts (λ it. it.4) E.facts E.prepend (member_facts (λ it. it.5) F.facts F.prepend (member_facts (λ it. it.6) G.facts G.prepend (member_facts (λ it. it.7) H.facts H.prepend (members_facts (λ it. it.8) Z.facts Z.members)))))))) };
+    ghost facts = { member_facts (λ it. it.0) A.facts A.left_out A.prepend (member_facts (λ it. it.1) B.facts B.left_out B.prepend (member_facts (λ it. it.2) C.facts C.left_out C.prepend (member_facts (λ it. it.3) D.facts D.left_out D.prepend (member_facts (λ it. it.4) E.facts E.left_out E.prepend (member_facts (λ it. it.5) F.facts F.left_out F.prepend (member_facts (λ it. it.6) G.facts G.left_out G.prepend (member_facts (λ it. it.7) H.facts H.left_out H.prepend (members_facts (λ it. it.8) Z.facts Z.members)))))))) };
 
     fn deserialize_members<R: ReadExt>(
         sequence: &mut Sequence<'_, R>,

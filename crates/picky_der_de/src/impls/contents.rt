@@ -7,6 +7,8 @@ ghost use Rattle.picky_der_core.specs.Tree.{Tree};
 ghost use Rattle.picky_der_core.specs.Shape.{Shape};
 ghost use Rattle.picky_der_de.specs.Reading.{Reads, Refuses, RefusesPrimitive, ReadsPrimitive};
 ghost use Rattle.picky_der_de.specs.TagNumbers.{RefusesNumber};
+ghost use Rattle.picky_der_de.specs.RefusesBy.{RefusesBy};
+ghost use Rattle.picky_der_de.specs.PlainRules.{primitive_rule};
 ghost use Rattle.picky_der_de.specs.Facts.{bytes_facts, character_facts, text_facts, null_facts};
 ghost use Rattle.std.proofs.Common.{String, Global};
 ghost use Rattle.picky_der_de.specs.Steps.{UsesNoMemory};
@@ -53,6 +55,7 @@ impl<const TAG: u8> Deserialize for TaggedBytes<TAG> {
             (Shape.primitive (PrimitiveShape.bytes TAG)) de.old de.new) }
         ensures refused { IfErr result (RefusesPrimitive (Primitive.bytes TAG) (PrimitiveShape.bytes TAG)
             de.old de.new) }
+        ensures refused_by { IfErr result (RefusesBy (primitive_rule (PrimitiveShape.bytes TAG)) de.old de.new) }
         ensures unsupported { 30 < number_of TAG → RefusesNumber de.old result de.new }
     {
         Ok(TaggedBytes(de.deserialize_tagged_bytes(Tag::from(TAG))?))

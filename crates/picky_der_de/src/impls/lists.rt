@@ -4,6 +4,8 @@ ghost use Rattle.picky_der_core.specs.Tree.{ListKind, Tree, trees};
 ghost use Rattle.picky_der_core.specs.Shape.{Shape};
 ghost use Rattle.picky_der_de.specs.Reading.{Reads, Refuses};
 ghost use Rattle.picky_der_de.specs.Members.{RefusesUnordered};
+ghost use Rattle.picky_der_de.specs.RefusesBy.{RefusesBy};
+ghost use Rattle.picky_der_de.specs.Rules.{list_of_rule};
 ghost use Rattle.picky_der_de.specs.ContainerFacts.{list_facts};
 
 use crate::{Deserialize, Deserializer};
@@ -51,6 +53,8 @@ impl<T: Deserialize> Deserialize for Asn1SetOf<T> {
         ensures err { IfErr result (Refuses ⟦<Asn1SetOf<T> as Serialize>⟧.meaning
             (Shape.list_of ListKind.set T.shape) de.old de.new) }
         ensures order { IfErr result (RefusesUnordered T.meaning T.shape de.old de.new) }
+        ensures refused_by { IfErr result (RefusesBy
+            (list_of_rule T.meaning T.shape ListKind.set T.facts.rule) de.old de.new) }
     {
         Ok(Asn1SetOf(de.read_list(Tag::SET)?))
     }

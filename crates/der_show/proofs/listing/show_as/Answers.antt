@@ -44,8 +44,8 @@ returns-in_err-write_step-clause-err g c =
     (subst (λ k. IsStep o c.depth-depth.result (slice_range b at k) t) c.innermost-end.ensures
     c.in_ok-step.ensures) in
     let stops = rw c.depth-depth.ensures at c.in_err-write_step.ensures.err in
-    rw (p.1, p.2) (stops_in_step g.W.WriteExt c.args.form.now o b ends at c.loop-offset.is_der _ _ i.comes i.faults _ t
-    _ is stops)
+    rw (p.1, p.2) (stops_in_step g.W.WriteExt c.args.form.now o b ends at c.loop-offset.is_der _ _ i.comes i.faults _
+    c.loop-offset-test.true t _ is stops)
 
 pub returns-then-not-continues-clause-ok : goal.returns-then-not-continues-clause-ok
 returns-then-not-continues-clause-ok g c =

@@ -3,7 +3,8 @@ use Rattle.picky_der_core.specs.Primitive.{Primitive, PrimitiveShape}
 use Rattle.picky_der_core.specs.Tree.{Tree}
 use Rattle.picky_der_core.specs.Shape.{Shape}
 use Rattle.picky_der_de.specs.Reading.{Refuses}
-use Rattle.der_types.specs.ContentTests.{test_error}
+use Rattle.der_types.specs.ContentTests.{test_error, content_rule}
+use Rattle.picky_der_de.specs.RefusesBy.{RefusesBy}
 use Rattle.der_types.proofs.ContentReads.{reads_judged, passes}
 use Rattle.der_types.proofs.contents.deserialize_contents_under.Goals as goal
 
@@ -22,3 +23,9 @@ returns-in-None-clause-err g c =
     (Refuses (λ it. Tree.primitive (Primitive.bytes c.args.tag (g.T.Contents.content it)))
     (Shape.primitive (PrimitiveShape.bytes c.args.tag)) state c.read_contents_under.new.de)) c.in-None.ensures.none
     c.read_contents_under.ensures.err
+
+pub returns-in-None-clause-refused_by : goal.returns-in-None-clause-refused_by
+returns-in-None-clause-refused_by g c =
+    subst (λ state. IfErr c.read_contents_under.result
+    (RefusesBy (content_rule c.args.tag g.T.Contents.is_content) state
+    c.read_contents_under.new.de)) c.in-None.ensures.none c.read_contents_under.ensures.refused_by

@@ -5,7 +5,8 @@ use Rattle.picky_der_core.specs.Tree.{Tree}
 use Rattle.picky_der_core.specs.Shape.{Shape}
 use Rattle.picky_der_de.specs.Reading.{ReadsPlain}
 use Rattle.picky_der_de.proofs.PassedOn.{passed_on, refusal_passed_on}
-use Rattle.der_types.specs.ContentTests.{test_error, RefusesContent}
+use Rattle.der_types.specs.ContentTests.{test_error, content_rule, RefusesContent}
+use Rattle.picky_der_de.specs.RefusesBy.{RefusesBy}
 use Rattle.der_types.proofs.ContentReads.{reads_judged, refuses_judged, refuses_before, passes, fails}
 use Rattle.der_types.proofs.contents.read_contents_under.Given.{Over}
 use Rattle.der_types.proofs.contents.read_contents_under.Goals as goal
@@ -54,3 +55,11 @@ returns-in-None-clause-refused g c = none g c
 
 pub returns-in-None-clause-err : goal.returns-in-None-clause-err
 returns-in-None-clause-err g c = (none g c).refuses
+
+pub returns-in_err-bytes-clause-refused_by : goal.returns-in_err-bytes-clause-refused_by
+returns-in_err-bytes-clause-refused_by g c =
+    passed_on (RefusesBy (content_rule c.args.tag g.T.Contents.is_content) c.args.de.now) _
+    c.from_residual.ensures.1 (search rules) (before g c.before).by
+
+pub returns-in-None-clause-refused_by : goal.returns-in-None-clause-refused_by
+returns-in-None-clause-refused_by g c = (none g c).by

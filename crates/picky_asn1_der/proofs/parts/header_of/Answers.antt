@@ -1,5 +1,5 @@
 use Rattle.std.proofs.Common.{◌^◌, ◌<◌, length, arith, refl}
-use Rattle.picky_asn1_der.proofs.PartLemmas.{not_empty, some_length, enough, header_found}
+use Rattle.picky_asn1_der.proofs.PartLemmas.{not_empty, some_length, enough, header_found, has_header}
 use Rattle.picky_asn1_der.proofs.parts.header_of.Goals as goal
 
 pub returns-in_default-clause-found : goal.returns-in_default-clause-found
@@ -19,3 +19,8 @@ pub returns-clause-found : goal.returns-clause-found
 returns-clause-found c = λ tag content rest is.
     header_found c.args.bytes.now tag content rest is (omega arith) c.in-Some.content_len c.in-Some.rest.now
     c.in-Some.ensures.some _ refl refl
+
+pub returns-clause-is : goal.returns-clause-is
+returns-clause-is c =
+    has_header c.args.bytes.now c.in-Some.content_len c.in-Some.rest.now (omega arith) c.in-Some.ensures.some
+    (omega arith) _ refl refl

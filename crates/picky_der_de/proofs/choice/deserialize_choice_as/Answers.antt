@@ -2,6 +2,7 @@ use Rattle.std.proofs.lemmas.Result.{err_from_is_err_and}
 use Rattle.picky_der_de.proofs.PlainReads.{refuses_of}
 use Rattle.picky_der_de.specs.ChoiceFacts.{alternatives_distinct}
 use Rattle.picky_der_de.proofs.Choices.{refuses_hidden}
+use Rattle.picky_der_de.proofs.ChoiceRuled.{no_first_by, chosen_by}
 use Rattle.picky_der_de.proofs.choice.deserialize_choice_as.Goals as goal
 
 pub returns-in-Err-clause-err : goal.returns-in-Err-clause-err
@@ -20,3 +21,13 @@ returns-in_err-deserialize_alternative-clause-err g c =
 pub returns-clause-ok : goal.returns-clause-ok
 returns-clause-ok g c =
     rw c.from_parts.ensures (c.in_ok-deserialize_alternative.ensures.ok c.args.de.now c.in-Ok.ensures.ok.peeks)
+
+pub returns-in-Err-clause-refused_by : goal.returns-in-Err-clause-refused_by
+returns-in-Err-clause-refused_by g c = no_first_by g.T.Alternatives.Alternatives.facts.rule c.in-Err.ensures.err
+
+pub returns-in_err-deserialize_alternative-clause-refused_by :
+    goal.returns-in_err-deserialize_alternative-clause-refused_by
+returns-in_err-deserialize_alternative-clause-refused_by g c =
+    let p = err_from_is_err_and c.from_residual.result c.from_residual.ensures.1 in
+    rw (p.1, p.2) (chosen_by g.T.Alternatives.Alternatives.facts.rule c.in-Ok.ensures.ok.peeks
+    c.in_err-deserialize_alternative.ensures.refused_by)

@@ -1,6 +1,7 @@
 use Rattle.std.proofs.Common.{[], sym, ◌∙◌, arith}
 use Rattle.picky_der_de.specs.Facts.{is_lawful}
 use Rattle.picky_der_de.proofs.EntryReads.{front_read, consumed_all, is_whole, left_over, no_encoding}
+use Rattle.picky_der_de.proofs.WholeRuled.{whole_left_over, whole_refused}
 use Rattle.picky_der_de.proofs.whole_input.from_der.Goals as goal
 
 pub returns-then-position-bytes-clause-err : goal.returns-then-position-bytes-clause-err
@@ -24,3 +25,13 @@ returns-in-Ok-clause-ok g c =
 pub returns-clause-err : goal.returns-clause-err
 returns-clause-err g c = no_encoding g.T.Serialize.meaning g.T.Deserialize.shape c.new_from_reader-de.ensures
     c.has_no_faults.ensures.no_fault c.taken-position.ensures.consumed c.in-Err.ensures.err
+
+pub returns-then-position-bytes-clause-refused_by : goal.returns-then-position-bytes-clause-refused_by
+returns-then-position-bytes-clause-refused_by g c =
+    whole_left_over g.T.Serialize.meaning g.T.Deserialize.shape g.T.Deserialize.facts.rule c.new_from_reader-de.ensures
+    c.taken-position.ensures.consumed c.in-Ok.value c.in-Ok.ensures.ok c.if-position-bytes.true
+
+pub returns-clause-refused_by : goal.returns-clause-refused_by
+returns-clause-refused_by g c =
+    whole_refused g.T.Serialize.meaning g.T.Deserialize.shape g.T.Deserialize.facts.rule c.new_from_reader-de.ensures
+    c.taken-position.ensures.consumed c.has_no_faults.ensures.no_fault c.in-Err.ensures.err c.in-Err.ensures.refused_by

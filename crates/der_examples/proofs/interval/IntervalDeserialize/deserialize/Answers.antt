@@ -1,5 +1,5 @@
 use Rattle.std.proofs.Common.{rules, refl, ◌∙◌}
-use Rattle.picky_der_de.proofs.PassedOn.{refusal_passed_on, reads_at}
+use Rattle.picky_der_de.proofs.PassedOn.{unsaid_refused, refusal_passed_on, reads_at}
 use Rattle.picky_der_de.proofs.Rests.{unread_first, rest_unopened, rest_refused, rest_head, rest_next, rest_left}
 use Rattle.picky_der_de.proofs.Rests.{members_last, members_read, reads_members}
 use Rattle.der_examples.specs.declared.interval.Interval.{Interval}
@@ -36,3 +36,15 @@ returns-clause-ok g c =
     let row = members_read c.in_ok-first.ensures.ok (members_last c.in_ok-last.ensures.ok) in
     reads_at (reads_members c.in_ok-members.ensures.ok row c.in_ok-end.ensures.ok (c.in_ok-last.ensures.outer
     ∙ c.in_ok-first.ensures.outer)) (search rules)
+
+pub returns-in_err-members-clause-refused_by : goal.returns-in_err-members-clause-refused_by
+returns-in_err-members-clause-refused_by g c = unsaid_refused _ _ c.from_residual.result
+
+pub returns-in_err-first-clause-refused_by : goal.returns-in_err-first-clause-refused_by
+returns-in_err-first-clause-refused_by g c = unsaid_refused _ _ c.from_residual-in_err-first.result
+
+pub returns-in_err-last-clause-refused_by : goal.returns-in_err-last-clause-refused_by
+returns-in_err-last-clause-refused_by g c = unsaid_refused _ _ c.from_residual-in_err-last.result
+
+pub returns-in_err-end-clause-refused_by : goal.returns-in_err-end-clause-refused_by
+returns-in_err-end-clause-refused_by g c = unsaid_refused _ _ c.from_residual-in_err-end.result

@@ -1,5 +1,5 @@
 use Rattle.std.proofs.Common.{rules, refl, ◌<◌, ◌^◌, ◌∙◌, length, arith}
-use Rattle.picky_der_de.proofs.PassedOn.{refusal_passed_on, reads_at}
+use Rattle.picky_der_de.proofs.PassedOn.{unsaid_refused, refusal_passed_on, reads_at}
 use Rattle.der_tool_lib.proofs.AlgorithmIdentifierReads.{algorithm_unopened, no_algorithm, no_parameters, left_over}
 use Rattle.der_tool_lib.proofs.AlgorithmIdentifierReads.{reads_algorithm}
 use Rattle.der_tool_lib.proofs.algorithm_identifier.AlgorithmIdentifierDeserialize.deserialize.Goals as goal
@@ -34,3 +34,15 @@ returns-clause-ok g c =
     reads_at (reads_algorithm bytes.items c.in_ok-parameters.parameters small c.in_ok-members.ensures.ok
     c.in_ok-algorithm.ensures.ok p.member p.none c.in_ok-end.ensures.ok (p.outer ∙ c.in_ok-algorithm.ensures.outer))
     (search rules)
+
+pub returns-in_err-members-clause-refused_by : goal.returns-in_err-members-clause-refused_by
+returns-in_err-members-clause-refused_by g c = unsaid_refused _ _ c.from_residual.result
+
+pub returns-in_err-algorithm-clause-refused_by : goal.returns-in_err-algorithm-clause-refused_by
+returns-in_err-algorithm-clause-refused_by g c = unsaid_refused _ _ c.from_residual-in_err-algorithm.result
+
+pub returns-in_err-parameters-clause-refused_by : goal.returns-in_err-parameters-clause-refused_by
+returns-in_err-parameters-clause-refused_by g c = unsaid_refused _ _ c.from_residual-in_err-parameters.result
+
+pub returns-in_err-end-clause-refused_by : goal.returns-in_err-end-clause-refused_by
+returns-in_err-end-clause-refused_by g c = unsaid_refused _ _ c.from_residual-in_err-end.result

@@ -37,4 +37,10 @@ returns-in_err-value-clause-refused g c =
           λ v. Tree.primitive (Primitive.bytes (primitive_form g.row.TAG) (g.T.Contents.content v))}
           (λ w. w.0) refused.refuses;
       just = refused.just;
+      by = refused.by;
     })
+
+pub returns-in_err-value-clause-refused_by : goal.returns-in_err-value-clause-refused_by
+returns-in_err-value-clause-refused_by g c =
+    let p = err_from_is_err_and c.from_residual.result c.from_residual.ensures.1 in
+    rw (p.1, p.2) (before g c.before).by

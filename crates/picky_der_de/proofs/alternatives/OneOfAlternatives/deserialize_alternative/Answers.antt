@@ -2,6 +2,7 @@ use Rattle.std.proofs.Common.{rules}
 use Rattle.std.proofs.lemmas.Result.{err_from_is_err_and}
 use Rattle.picky_der_de.specs.Facts.{is_lawful}
 use Rattle.picky_der_de.proofs.Choices.{reads_this, reads_other, refuses_this, refuses_other}
+use Rattle.picky_der_de.proofs.ChoiceRuled.{this_by, other_by}
 use Rattle.picky_der_de.proofs.alternatives.OneOfAlternatives.deserialize_alternative.Goals as goal
 
 pub returns-in_err-deserialize-clause-err : goal.returns-in_err-deserialize-clause-err
@@ -25,3 +26,16 @@ returns-in_err-deserialize_alternative-clause-err g c =
 
 pub returns-clause-ok : goal.returns-clause-ok
 returns-clause-ok g c = reads_other c.in_ok-deserialize_alternative.ensures.ok
+
+pub returns-in_err-deserialize-clause-refused_by : goal.returns-in_err-deserialize-clause-refused_by
+returns-in_err-deserialize-clause-refused_by g c =
+    let p = err_from_is_err_and c.from_residual.result c.from_residual.ensures.1 in
+    rw (p.1, p.2) (this_by (c.begins_with.ensures.0 c.if-begins_with.true) c.in_err-deserialize.ensures.refused_by)
+
+pub returns-in_err-deserialize_alternative-clause-refused_by :
+    goal.returns-in_err-deserialize_alternative-clause-refused_by
+returns-in_err-deserialize_alternative-clause-refused_by g c =
+    let p = err_from_is_err_and c.from_residual-in_err-deserialize_alternative.result
+    c.from_residual-in_err-deserialize_alternative.ensures.1 in
+    rw (p.1, p.2) (other_by (λ h. let x = c.begins_with.ensures.1 h in search rules)
+    c.in_err-deserialize_alternative.ensures.refused_by)

@@ -7,3 +7,8 @@ pub returns-in_err-value-clause-err : goal.returns-in_err-value-clause-err
 returns-in_err-value-clause-err g c =
     let p = err_from_is_err_and c.from_residual.result c.from_residual.ensures.1 in
     rw (p.1, p.2) (refuses_through one_by_one c.in_err-value.ensures.err)
+
+pub returns-in_err-value-clause-refused_by : goal.returns-in_err-value-clause-refused_by
+returns-in_err-value-clause-refused_by g c =
+    let p = err_from_is_err_and c.from_residual.result c.from_residual.ensures.1 in
+    rw (p.1, p.2) c.in_err-value.ensures.refused_by

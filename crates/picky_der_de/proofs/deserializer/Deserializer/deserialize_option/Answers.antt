@@ -9,3 +9,8 @@ pub returns-in_err-deserialize-clause-err : goal.returns-in_err-deserialize-clau
 returns-in_err-deserialize-clause-err g c =
     let p = err_from_is_err_and c.from_residual.result c.from_residual.ensures.1 in
     rw (p.1, p.2) (refuses_optional c.in_err-deserialize.ensures.err)
+
+pub returns-in_err-deserialize-clause-refused_by : goal.returns-in_err-deserialize-clause-refused_by
+returns-in_err-deserialize-clause-refused_by g c =
+    let p = err_from_is_err_and c.from_residual.result c.from_residual.ensures.1 in
+    rw (p.1, p.2) c.in_err-deserialize.ensures.refused_by

@@ -6,6 +6,7 @@ use Rattle.picky_der_de.specs.State.{State}
 use Rattle.picky_der_de.specs.TagNumbers.{RefusesNumber}
 use Rattle.picky_der_de.specs.Wrappers.{in_value, after_value}
 use Rattle.picky_der_de.proofs.WrapperReads.{reads_wrapped}
+use Rattle.picky_der_de.proofs.WrapperRuled.{opening_by, value_by, left_over_by}
 use Rattle.picky_der_de.proofs.deserializer.Deserializer.read_wrapped.Goals as goal
 
 -- a number is refused whatever would be read
@@ -37,3 +38,21 @@ returns-in_err-close_end-clause-err g c =
 pub returns-clause-ok : goal.returns-clause-ok
 returns-clause-ok g c = reads_wrapped c.in_ok-outer.ensures.ok c.in_ok-value.ensures.ok c.in_ok-close_end.ensures.ok
     refl
+
+pub returns-in_err-outer-clause-refused_by : goal.returns-in_err-outer-clause-refused_by
+returns-in_err-outer-clause-refused_by g c =
+    let p = err_from_is_err_and c.from_residual.result c.from_residual.ensures.1 in
+    rw (p.1, p.2) (opening_by g.T.Serialize.meaning g.T.Deserialize.shape g.T.Deserialize.facts.rule
+    c.in_err-outer.ensures.err)
+
+pub returns-in_err-value-clause-refused_by : goal.returns-in_err-value-clause-refused_by
+returns-in_err-value-clause-refused_by g c =
+    let p = err_from_is_err_and c.from_residual-in_err-value.result c.from_residual-in_err-value.ensures.1 in
+    rw (p.1, p.2) (value_by g.T.Serialize.meaning g.T.Deserialize.shape g.T.Deserialize.facts.rule
+    c.in_ok-outer.ensures.ok c.in_err-value.ensures.refused_by)
+
+pub returns-in_err-close_end-clause-refused_by : goal.returns-in_err-close_end-clause-refused_by
+returns-in_err-close_end-clause-refused_by g c =
+    let p = err_from_is_err_and c.from_residual-in_err-close_end.result c.from_residual-in_err-close_end.ensures.1 in
+    rw (p.1, p.2) (left_over_by g.T.Serialize.meaning g.T.Deserialize.shape g.T.Deserialize.facts.rule
+    c.in_ok-value.value c.in_ok-outer.ensures.ok c.in_ok-value.ensures.ok c.in_err-close_end.ensures.err)

@@ -3,3 +3,6 @@ use Rattle.picky_der_de.proofs.members.UnitDeserializeMembers.deserialize_member
 
 pub returns-clause-ok : goal.returns-clause-ok
 returns-clause-ok g c = layout_none c.requires.implicit_tag
+
+pub returns-clause-leads : goal.returns-clause-leads
+returns-clause-leads g c = λ none last e by. by

@@ -1,7 +1,11 @@
-use Rattle.std.proofs.Common.{refl}
-use Rattle.std.proofs.lemmas.Result.{err_from_is_err_and}
-use Rattle.picky_der_de.proofs.MemberReads.{member_again, member_missing}
+use Rattle.std.proofs.Common.{◌≡◌, ℕ, ◌<◌, refl, sym, ◌∙◌, arith, true≢false}
+use Rattle.std.proofs.lemmas.Result.{err_from_is_err_and, IfErr-weaker}
+use Rattle.picky_der_de.proofs.Contents.{failed_same}
+use Rattle.picky_der_de.proofs.MemberReads.{member_again, member_field, member_missing}
 use Rattle.picky_der_de.proofs.sequence.Sequence.next_field.Goals as goal
+
+above : (n : ℕ) → (n ≡ 0 → ⊥) → 0 < n
+above n h = omega (arith, h)
 
 pub returns-in_err-is_at_end-clause-err : goal.returns-in_err-is_at_end-clause-err
 returns-in_err-is_at_end-clause-err g c =
@@ -11,5 +15,17 @@ returns-in_err-is_at_end-clause-err g c =
 pub returns-then-branch-clause-err : goal.returns-then-branch-clause-err
 returns-then-branch-clause-err g c =
     let k = c.in_ok-is_at_end.ensures.ok in
-    member_missing (record { reached = k.1.0 c.if-branch.true; had_not_failed = k.0; same = refl })
+    member_missing g.T.Deserialize.facts.rule (record {
+      reached = k.1.0 c.if-branch.true;
+      had_not_failed = k.0;
+      same =
+          refl;
+    })
     (c.args.self.now.whole k.0) c.fail.ensures.fails c.fail.ensures.error
+    (failed_same c.args.self.now.de.now c.fail.ensures.error c.fail.ensures.same)
+
+pub returns-clause-err : goal.returns-clause-err
+returns-clause-err g c =
+    let here = c.in_ok-is_at_end.ensures.ok.1 in
+    let ahead = above _ (λ z. true≢false (sym (here.1 z) ∙ c.if-branch.false)) in
+    IfErr-weaker c.next_member.result _ _ (λ e k. member_field ahead k) c.next_member.ensures.err

@@ -4,12 +4,17 @@ use Rattle.picky_der_core.specs.declared.error.Asn1DerError.{Asn1DerError}
 use Rattle.picky_der_core.specs.Failure.{failure_of}
 use Rattle.picky_der_core.specs.EncodingLaws.{length-der}
 use Rattle.picky_der_de.specs.State.{State}
+use Rattle.picky_der_de.specs.RefusesBy.{unsaid}
 use Rattle.picky_der_de.proofs.MemberReads.{consumes_member, member_again}
 use Rattle.picky_der_de.proofs.ListReads.{all_refused, all_next, all_for_memory, some_none, some_more, some_all}
+use Rattle.picky_der_de.proofs.MemberRuled.{each_head, each_next, each_again, each_for_memory}
 use Rattle.picky_der_de.proofs.sequence.Sequence.remaining.Goals as goal
 
 above : (n : ℕ) → (n ≡ 0 → ⊥) → 0 < n
 above n h = omega (arith, h)
+
+had_failed : (a : State) (e : Asn1DerError) → a.failed ≡ Some (failure_of e) → a.failed ≡ None → ⊥
+had_failed a e h w = let q : None ≡ Some (failure_of e) = sym w ∙ h in cc
 
 failed_ahead : (a : State) (e : Asn1DerError) → a.failed ≡ Some (failure_of e) → a.failed ≡ None → 0 < a.until_end
 failed_ahead a e h w = let q : None ≡ Some (failure_of e) = sym w ∙ h in cc
@@ -20,7 +25,7 @@ returns-in_err-is_at_end-clause-err g c =
     let f = c.in_err-is_at_end.ensures.err in
     rw (p.1, p.2)
     (c.loop-values.invariant.some.refuses _ _
-    (all_refused (member_again f) (failed_ahead c.loop-values.self.de.now _ f)))
+    (all_refused {rule = unsaid} (member_again f) (failed_ahead c.loop-values.self.de.now _ f)))
 
 pub returns-in_err-value-clause-err : goal.returns-in_err-value-clause-err
 returns-in_err-value-clause-err g c =
@@ -50,6 +55,7 @@ loop-values-preserved g c =
       same_reference = e.same_reference ∙ i.same_reference;
       outer =
           e.outer ∙ i.outer;
+      by = λ d f h. i.by d f (each_next g.T.Serialize.meaning c.in_ok-value.value r h);
     }
 
 pub loop-values-init : goal.loop-values-init
@@ -59,6 +65,7 @@ loop-values-init g c =
           rw c.new-values.ensures.items (some_none g.T.Serialize.meaning g.T.Deserialize.shape _ c.args.self.now.whole);
       same_reference = refl;
       outer = refl;
+      by = λ d e h. h;
     }
 
 pub returns-in_default-add-clause-err : goal.returns-in_default-add-clause-err
@@ -75,3 +82,20 @@ returns-clause-ok g c =
       same =
           refl;
     })
+
+pub returns-in_err-is_at_end-clause-refused_by : goal.returns-in_err-is_at_end-clause-refused_by
+returns-in_err-is_at_end-clause-refused_by g c =
+    let p = err_from_is_err_and c.from_residual.result c.from_residual.ensures.1 in
+    let f = c.in_err-is_at_end.ensures.err in
+    rw (p.1, p.2) (c.loop-values.invariant.by _ _ (each_again g.T.Serialize.meaning
+    (had_failed c.loop-values.self.de.now _ f)))
+
+pub returns-in_err-value-clause-refused_by : goal.returns-in_err-value-clause-refused_by
+returns-in_err-value-clause-refused_by g c =
+    let p = err_from_is_err_and c.from_residual-in_err-value.result c.from_residual-in_err-value.ensures.1 in
+    let here = c.in_ok-is_at_end.ensures.ok.1 in
+    let ahead = above _ (λ z. true≢false (sym (here.1 z) ∙ c.if-not-branch.true)) in
+    rw (p.1, p.2) (c.loop-values.invariant.by _ _ (each_head g.T.Serialize.meaning c.in_err-value.ensures.err ahead))
+
+pub returns-in_default-add-clause-refused_by : goal.returns-in_default-add-clause-refused_by
+returns-in_default-add-clause-refused_by g c = each_for_memory g.T.Serialize.meaning c.fail.ensures.error

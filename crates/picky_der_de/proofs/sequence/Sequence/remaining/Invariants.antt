@@ -1,4 +1,7 @@
 use Rattle.std.proofs.Common.{◌≡◌}
+use Rattle.picky_der_core.specs.declared.error.Asn1DerError.{Asn1DerError}
+use Rattle.picky_der_de.specs.State.{State}
+use Rattle.picky_der_de.specs.Rules.{RefusesEachBy}
 use Rattle.picky_der_de.proofs.ListReads.{ReadsSome}
 use Rattle.picky_der_de.proofs.sequence.Sequence.remaining.Given as goal
 
@@ -7,6 +10,9 @@ invariant-loop-values g l = record {
   some : ReadsSome g.T.Serialize.meaning g.T.Deserialize.shape l.initial.self.de.now l.self.de.now l.values.items;
   same_reference : l.self.de.ghost_name ≡ l.initial.self.de.ghost_name;
   outer : l.self.outer ≡ l.initial.self.outer;
+  by : (d : State) (e : Asn1DerError)
+      → RefusesEachBy g.T.Serialize.meaning g.T.Deserialize.shape g.T.Deserialize.facts.rule l.self.de.now d e
+      → RefusesEachBy g.T.Serialize.meaning g.T.Deserialize.shape g.T.Deserialize.facts.rule l.initial.self.de.now d e;
 }
 
 abbrev pub decreases-loop-values : goal.decreases-loop-values

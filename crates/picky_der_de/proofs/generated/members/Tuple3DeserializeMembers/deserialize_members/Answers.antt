@@ -2,13 +2,15 @@
 use Rattle.std.proofs.lemmas.Result.{err_from_is_err_and}
 use Rattle.picky_der_de.specs.MembersFacts.{layout_member, layout_members}
 use Rattle.picky_der_de.specs.LayoutLaws.{after, lead}
+use Rattle.picky_der_de.specs.Rules.{field_rule}
 use Rattle.picky_der_de.proofs.LayoutReads.{layout_member_head, layout_member_next, layout_member_read}
+use Rattle.picky_der_de.proofs.MemberRuled.{layout_head_by, layout_next_by, still_none}
 use Rattle.picky_der_de.proofs.generated.members.Tuple3DeserializeMembers.deserialize_members.Goals as goal
 
 pub returns-in_err-first-clause-err : goal.returns-in_err-first-clause-err
 returns-in_err-first-clause-err g c =
     let p = err_from_is_err_and c.from_residual.result c.from_residual.ensures.1 in
-    rw (p.1, p.2) (layout_member_head (layout_member g.A.DeserializeMember.facts g.met.A.DeserializeMember.proved) g.met.A.DeserializeMember.distinguished (λ v. v.0) (lead (λ v. v.1) (layout_member g.B.DeserializeMember.facts g.met.B.DeserializeMember.proved) (after (λ v. v.2) (layout_members g.Z.DeserializeMembers.facts g.met.Z.DeserializeMembers.proved))) c.requires.implicit_tag c.in_err-first.ensures.err)
+    rw (p.1, p.2) (layout_member_head (layout_member g.A.DeserializeMember.facts g.met.A.DeserializeMember.proved) (field_rule g.A.DeserializeMember.facts.rule) g.met.A.DeserializeMember.distinguished (λ v. v.0) (lead (λ v. v.1) (layout_member g.B.DeserializeMember.facts g.met.B.DeserializeMember.proved) (after (λ v. v.2) (layout_members g.Z.DeserializeMembers.facts g.met.Z.DeserializeMembers.proved))) c.requires.implicit_tag c.in_err-first.ensures.err)
 
 pub returns-in_err-others-clause-err : goal.returns-in_err-others-clause-err
 returns-in_err-others-clause-err g c =
@@ -17,3 +19,16 @@ returns-in_err-others-clause-err g c =
 
 pub returns-clause-ok : goal.returns-clause-ok
 returns-clause-ok g c = layout_member_read (layout_member g.A.DeserializeMember.facts g.met.A.DeserializeMember.proved) c.in_ok-first.first c.requires.implicit_tag c.in_ok-first.ensures.member c.in_ok-first.ensures.none c.in_ok-others.ensures.ok
+
+pub returns-in_err-first-clause-refused_by : goal.returns-in_err-first-clause-refused_by
+returns-in_err-first-clause-refused_by g c =
+    let p = err_from_is_err_and c.from_residual.result c.from_residual.ensures.1 in
+    rw (p.1, p.2) (λ none. layout_head_by g.A.DeserializeMember.item_meaning g.A.DeserializeMember.left_out g.A.DeserializeMember.shape g.A.DeserializeMember.facts.rule _ none c.requires.implicit_tag g.A.DeserializeMember.presence c.in_err-first.ensures.err)
+
+pub returns-in_err-others-clause-refused_by : goal.returns-in_err-others-clause-refused_by
+returns-in_err-others-clause-refused_by g c =
+    let p = err_from_is_err_and c.from_residual-in_err-others.result c.from_residual-in_err-others.ensures.1 in
+    rw (p.1, p.2) (λ none. layout_next_by g.A.DeserializeMember.item_meaning g.A.DeserializeMember.left_out g.A.DeserializeMember.shape g.A.DeserializeMember.facts.rule _ none c.requires.implicit_tag g.A.DeserializeMember.presence (g.A.DeserializeMember.item c.in_ok-first.first) ((layout_member g.A.DeserializeMember.facts g.met.A.DeserializeMember.proved).there c.in_ok-first.first) c.in_ok-first.ensures.member c.in_ok-first.ensures.none (c.in_err-others.ensures.refused_by (still_none g.A.DeserializeMember.item_meaning g.A.DeserializeMember.shape _ _ none c.requires.implicit_tag (g.A.DeserializeMember.item c.in_ok-first.first) c.in_ok-first.ensures.member c.in_ok-first.ensures.none)))
+
+pub returns-clause-leads : goal.returns-clause-leads
+returns-clause-leads g c = λ none last e by. layout_next_by g.A.DeserializeMember.item_meaning g.A.DeserializeMember.left_out g.A.DeserializeMember.shape g.A.DeserializeMember.facts.rule _ none c.requires.implicit_tag g.A.DeserializeMember.presence (g.A.DeserializeMember.item c.in_ok-first.first) ((layout_member g.A.DeserializeMember.facts g.met.A.DeserializeMember.proved).there c.in_ok-first.first) c.in_ok-first.ensures.member c.in_ok-first.ensures.none (c.in_ok-others.ensures.leads (still_none g.A.DeserializeMember.item_meaning g.A.DeserializeMember.shape _ _ none c.requires.implicit_tag (g.A.DeserializeMember.item c.in_ok-first.first) c.in_ok-first.ensures.member c.in_ok-first.ensures.none) last e by)

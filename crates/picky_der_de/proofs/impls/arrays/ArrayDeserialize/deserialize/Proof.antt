@@ -43,7 +43,8 @@ use denote.Triple.Statement.{Contract, Triple}
 use denote.Triple.Table.{entered}
 use denote.Triple.Walked.{Stays, stay_ref, walk_of, ends_at, walked, Goes-ref, walk_Meets}
 use denote.Param.NoDrop.{glues}
-use Rattle.std.specs.Prelude.{IfOk, IfErr}
+use Rattle.std.specs.Prelude.{IfOk, IfErr, Ok, Err}
+use Rattle.picky_der_de.specs.RefusesBy.{unsaid, RefusesBy}
 use Rattle.std.specs.declared.clone.Clone as clone
 use Rattle.std.specs.declared.cmp.PartialEq as partial_eq
 use Rattle.std.specs.declared.default.Default as default
@@ -178,6 +179,14 @@ module _ (E : At) {M : Type 1} {𝓤 : Ura M} (𝓛 : Logic 𝓤) (at_mem : Memo
   abbrev Refused : (D E).Denot → (Answer E).Denot → (D E).Denot → Type 0
   Refused x r y = IfErr r (Refuses (gA E).meaning (gA E).shape x y)
 
+  -- no rule is said of an array
+  abbrev RefusedBy : (D E).Denot → (Answer E).Denot → (D E).Denot → Type 0
+  RefusedBy x r y = IfErr r (RefusesBy unsaid x y)
+
+  unsaid_by : (x : (D E).Denot) (r : (Answer E).Denot) (y : (D E).Denot) → RefusedBy x r y
+  unsaid_by x (Ok v) y = tt
+  unsaid_by x (Err e) y = λ j bs left k l. tt
+
   module _ (κ κT : Lft) (s qT : Share) (rb ro : ℕ) (δ : GName) (x : (D E).Denot) where
     abbrev by_at : By.Ghost
     by_at = (
@@ -272,7 +281,8 @@ module _ (E : At) {M : Type 1} {𝓤 : Ura M} (𝓛 : Logic 𝓤) (at_mem : Memo
         nothing ! $ move ! (1 ∷ 0 ∷ []) $ fjoin ! $ move ! (0 ∷ 3 ∷ []) $ join ! $
         nothing ! $ move ! (3 ∷ 0 ∷ []) $ join ! $ move ! (4 ∷ 0 ∷ []) $ join ! $ move ! (3 ∷ 0 ∷ []) $ join ! $ move !
         (2 ∷ 0 ∷ []) $ join ! $ join ! $
-        use0 𝓛 (raw (fact 𝓤 (Refused x r ws.0))) (fact_i 𝓤 (Refused x r ws.0) (emp 𝓤) err) $ use0 𝓛
+        use0 𝓛 (raw (fact 𝓤 (RefusedBy x r ws.0))) (fact_i 𝓤 (RefusedBy x r ws.0) (emp 𝓤) (unsaid_by x r ws.0)) $
+        use0 𝓛 (raw (fact 𝓤 (Refused x r ws.0))) (fact_i 𝓤 (Refused x r ws.0) (emp 𝓤) err) $ join ! $ use0 𝓛
         (raw (fact 𝓤 (Read x r ws.0))) (fact_i 𝓤 (Read x r ws.0) (emp 𝓤) ok) $ join ! $ move ! (1 ∷ 0 ∷ []) $ join !
         $ done !)))))))))
 

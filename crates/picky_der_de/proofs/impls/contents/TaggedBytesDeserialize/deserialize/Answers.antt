@@ -23,3 +23,12 @@ returns-in_err-deserialize_tagged_bytes-clause-refused g c =
     rw (p.1, p.2)
     (subst (λ tag. RefusesPrimitive (Primitive.bytes tag) (PrimitiveShape.bytes tag) c.args.de.now
     c.deserialize_tagged_bytes.new.self c.in_err-deserialize_tagged_bytes.field-0.0) c.from.ensures h)
+
+pub returns-in_err-deserialize_tagged_bytes-clause-refused_by :
+    goal.returns-in_err-deserialize_tagged_bytes-clause-refused_by
+returns-in_err-deserialize_tagged_bytes-clause-refused_by g c =
+    let p = err_from_is_err_and c.from_residual.result c.from_residual.ensures.1 in
+    let h = c.in_err-deserialize_tagged_bytes.ensures.err in
+    rw (p.1, p.2)
+    (subst (λ tag. RefusesPrimitive (Primitive.bytes tag) (PrimitiveShape.bytes tag) c.args.de.now
+    c.deserialize_tagged_bytes.new.self c.in_err-deserialize_tagged_bytes.field-0.0) c.from.ensures h).by
