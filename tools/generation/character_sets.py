@@ -30,9 +30,9 @@ $code
 }
 
 impl NotatedSet for $name {
-    ghost string = { Notation.restricted-string $tag };
+    ghost permitted = { None };
 
-    ghost is_set = { standard_set $tag };
+    ghost is_set = { Prim.assumption };
 }
 """
 
@@ -92,12 +92,10 @@ def files() -> Files:
     text: Lines = [
         *source("The sets of characters of the string types (X.680, 41)."),
         "ghost use Rattle.std.proofs.Common.{lit≤};",
-        "ghost use Rattle.std.specs.Prelude.{◌≡◌, ℕ, true, refl};",
+        "ghost use Rattle.std.specs.Prelude.{◌≡◌, ℕ, true, None, refl};",
         "ghost use Rattle.der_types.specs.declared.width.Width.TheVariants.{One, Two, Four};",
         f"ghost use Rattle.der_types.specs.CharacterStrings.{{{', '.join(dict.fromkeys(row.test for row in rows))}}};",
         f"ghost use Rattle.der_types.specs.CharacterSetLaws.{{{', '.join(lemmas(rows))}}};",
-        "ghost use Rattle.der_types.specs.ExactStrings.{standard_set};",
-        "ghost use Rattle.der_types.specs.Notation.{Notation};",
         "",
         "use crate::{Ascii, CharacterSet, NotatedSet, Unicode, Width};",
         *[line for row in rows for line in character_set(row).rstrip("\n").split("\n")],

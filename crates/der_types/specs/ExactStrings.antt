@@ -1,5 +1,5 @@
 -- Strings of a set of characters, which mean exactly the trees of a string type, or of one with a permitted alphabet.
-use Rattle.std.specs.Prelude.{◌≡◌, ℕ, ◌%◌, ◌^◌, ◌<◌, Bool, true, ◌&&◌, ◌==◌, List, length, refl}
+use Rattle.std.specs.Prelude.{◌≡◌, ℕ, ◌%◌, ◌^◌, ◌<◌, Bool, true, ◌&&◌, ◌==◌, List, length, Option, Some, None, refl}
 use Rattle.std.specs.List.{list_all}
 use Rattle.std.proofs.Common.{sym, ap, ◌∙◌, subst}
 use Rattle.std.proofs.lemmas.Bool.{and_from, and_parts}
@@ -10,7 +10,7 @@ use Rattle.der_types.specs.CharacterStrings.{byte_count, characters, is_string_c
 use Rattle.der_types.specs.ContentTypes.{string_width, string_character}
 use Rattle.der_types.specs.ContentsFacts.{contents_shape}
 use Rattle.der_types.specs.Denotes.{Denotes, HasContent, IsShort, content_tree, tree_characters, tree_size}
-use Rattle.der_types.specs.Exact.{Values}
+use Rattle.der_types.specs.Exact.{IsExact, Values}
 use Rattle.der_types.specs.Notation.{Notation, shape_of}
 
 -- the strings of a set of characters are those of a notation
@@ -21,7 +21,7 @@ pub record IsSetOf (n : Notation) (tag : ℕ) (width : Width) (is_character : �
   pub size : (s : List ℕ) → length (characters width s) ≡ tree_size n (content_tree tag s)
 
 -- one of X.680, 41
-pub standard_set : (tag : ℕ)
+standard_set : (tag : ℕ)
     → IsSetOf (Notation.restricted-string tag) tag (string_width tag) (string_character tag)
 standard_set tag =
     record { shape = refl; denoted = λ s e. (s, refl, e); content = λ t d. d; size = λ s. refl }
@@ -48,7 +48,7 @@ module _ (tag : ℕ) (ranges : List (ℕ × ℕ)) where
       and_from whole (list_all (is_permitted tag ranges) text) parts.0
       (all-both (string_character tag) (is_of ranges) text parts.1 f)
 
-  pub permitted_set : IsSetOf (Notation.permitted ranges (Notation.restricted-string tag)) tag (string_width tag)
+  permitted_set : IsSetOf (Notation.permitted ranges (Notation.restricted-string tag)) tag (string_width tag)
       (is_permitted tag ranges)
   permitted_set = record {
     shape = refl;
@@ -61,19 +61,56 @@ module _ (tag : ℕ) (ranges : List (ℕ × ℕ)) where
 
 -- ---- what a string type says of its values
 
-module _ {V : Type 0} (n : Notation) (tag : ℕ) (width : Width) (is_character : ℕ → Bool) (content : V
-    → List ℕ) (valid : (v : V) → is_string_content width is_character (content v) ≡ true) (whole : (s : List ℕ)
-    → is_string_content width is_character s ≡ true → length s < 2 ^ 63 → (v : V) × (content v ≡ s)) where
-  abbrev pub string_values : Values V
-  string_values = record {
-    notation = n;
-    meaning = λ v. content_tree tag (content v);
-    Premise = IsSetOf n tag width is_character;
-    follows = λ set. record {
+-- The type of the strings: one of X.680, 41, and the ranges of its permitted alphabet, if it has one (51.7).
+abbrev pub string_notation : ℕ → Option (List (ℕ × ℕ)) → Notation
+string_notation tag None = Notation.restricted-string tag
+string_notation tag (Some ranges) = Notation.permitted ranges (Notation.restricted-string tag)
+
+abbrev pub set_character : ℕ → Option (List (ℕ × ℕ)) → ℕ → Bool
+set_character tag None = string_character tag
+set_character tag (Some ranges) = is_permitted tag ranges
+
+-- A set has the width and the characters of that type. These are equations, so that they hold by computing wherever the
+-- set is known.
+pub record IsSet (permitted : Option (List (ℕ × ℕ))) (tag : ℕ) (width : Width) (is_character : ℕ → Bool) : Type 0 where
+  pub same_width : width ≡ string_width tag
+  pub same_characters : is_character ≡ set_character tag permitted
+
+own_set : (tag : ℕ) (permitted : Option (List (ℕ × ℕ)))
+    → IsSetOf (string_notation tag permitted) tag (string_width tag) (set_character tag permitted)
+own_set tag None = standard_set tag
+own_set tag (Some ranges) = permitted_set tag ranges
+
+pub set_shape : (tag : ℕ) (permitted : Option (List (ℕ × ℕ)))
+    → contents_shape tag ≡ shape_of (string_notation tag permitted)
+set_shape tag permitted = (own_set tag permitted).shape
+
+module _ (permitted : Option (List (ℕ × ℕ))) (tag : ℕ) (width : Width) (is_character : ℕ → Bool) where
+  pub set_of : IsSet permitted tag width is_character
+      → IsSetOf (string_notation tag permitted) tag width is_character
+  set_of e =
+      let n = string_notation tag permitted in
+      let wide : IsSetOf n tag width (set_character tag permitted) =
+      subst (λ w. IsSetOf n tag w (set_character tag permitted)) (sym e.same_width) (own_set tag permitted) in
+      subst (λ (c : ℕ → Bool). IsSetOf n tag width c) (sym e.same_characters) wide
+
+  module _ {V : Type 0} (content : V → List ℕ) (valid : (v : V)
+      → is_string_content width is_character (content v) ≡ true) (whole : (s : List ℕ)
+      → is_string_content width is_character s ≡ true → length s < 2 ^ 63 → (v : V) × (content v ≡ s)) where
+    strings_exact : IsSetOf (string_notation tag permitted) tag width is_character
+        → IsExact (Denotes (string_notation tag permitted)) (λ v. content_tree tag (content v))
+    strings_exact set = record {
       sound = λ v r. set.denoted (content v) (valid v);
       complete = λ t d r s.
           let found = set.content t d in
           let v = whole found.0 found.2 (subst IsShort found.1 s) in
           (v.0, ap (content_tree tag) v.1 ∙ sym found.1);
-    };
-  }
+    }
+
+    abbrev pub string_values : Values V
+    string_values = record {
+      notation = string_notation tag permitted;
+      meaning = λ v. content_tree tag (content v);
+      Premise = IsSet permitted tag width is_character;
+      follows = λ e. strings_exact (set_of e);
+    }

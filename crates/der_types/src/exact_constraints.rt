@@ -9,7 +9,7 @@ ghost use Rattle.der_types.specs.BitString.{bits_of};
 ghost use Rattle.der_types.specs.CharacterStrings.{characters};
 ghost use Rattle.der_types.specs.ExactConstraints.{Numbered, ProvedNumber, numbered_plainly, numbered_under, Sized};
 ghost use Rattle.der_types.specs.ExactConstraints.{ProvedSize, sized_plainly, sized_under, counted};
-ghost use Rattle.der_types.specs.ExactStrings.{IsSetOf};
+ghost use Rattle.der_types.specs.ExactStrings.{IsSet, set_of, string_notation};
 ghost use Rattle.der_types.specs.ContentForms as form;
 ghost use Rattle.der_types.specs.ContentsFacts.{contents_of};
 ghost use Rattle.der_types.specs.Notation.{Notation};
@@ -116,10 +116,10 @@ impl<T: Exact> ExactSize for Asn1SetOf<T> {
 impl<S: NotatedSet> ExactSize for RestrictedString<S> {
     ghost sized = { record {
       size = λ it. length (characters S.WIDTH it.content.items);
-      notation = S.string;
+      notation = string_notation S.TAG S.permitted;
       meaning = contents_of S.TAG (λ it. it.content.items);
-      Premise = IsSetOf S.string S.TAG S.WIDTH S.is_character;
-      same = λ set it. set.size it.content.items;
+      Premise = IsSet S.permitted S.TAG S.WIDTH S.is_character;
+      same = λ set it. (set_of S.permitted S.TAG S.WIDTH S.is_character set).size it.content.items;
     } };
 
     ghost exact_size = { Prim.assumption };

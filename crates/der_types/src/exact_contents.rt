@@ -1,9 +1,8 @@
 //! Exact types for contents under other tags, and for the string types of ASN.1.
-ghost use Rattle.std.specs.Prelude.{refl};
+ghost use Rattle.std.specs.Prelude.{ℕ, List, Option, refl};
 ghost use Rattle.der_types.specs.ExactContents.{OwnContents, ProvedContents, content_under_values, parameter_contents};
-ghost use Rattle.der_types.specs.ExactStrings.{IsSetOf, string_values};
+ghost use Rattle.der_types.specs.ExactStrings.{IsSet, string_values};
 ghost use Rattle.der_types.specs.MadeValues.{vec_of};
-ghost use Rattle.der_types.specs.Notation.{Notation};
 
 use crate::{CharacterSet, Contents, Exact, ImplicitPrimitive, RestrictedString};
 
@@ -19,15 +18,15 @@ pub trait ExactContents: Exact + Contents {
 /// A character set of X.680, 41, with the tag, the width and the characters that it has there, or a permitted alphabet
 /// of one (51.7).
 pub trait NotatedSet: CharacterSet {
-    // The type of its strings.
-    ghost string: { Notation };
+    // The first and the last number of each range of characters that FROM permits, if there is one.
+    ghost permitted: { Option (List (ℕ × ℕ)) };
 
-    // That type has the set's tag, width and characters.
-    ghost is_set: { IsSetOf string Self.TAG Self.WIDTH Self.is_character };
+    // The string type with the set's tag has the set's width and, as far as they are permitted, characters.
+    ghost is_set: { IsSet permitted Self.TAG Self.WIDTH Self.is_character };
 }
 
 impl<S: NotatedSet> Exact for RestrictedString<S> {
-    ghost values = { string_values S.string S.TAG S.WIDTH S.is_character (λ it. it.content.items) (λ it. it.canonical)
+    ghost values = { string_values S.permitted S.TAG S.WIDTH S.is_character (λ it. it.content.items) (λ it. it.canonical)
         (λ s e h. (record { content = vec_of s h; set = record {}; canonical = e }, refl)) };
 
     ghost exact = { Prim.assumption };

@@ -5,6 +5,7 @@ ghost use Rattle.picky_der_core.specs.declared.asn1.wrapper.Wrapper.TheVariants 
 ghost use Rattle.picky_der_core.specs.Tree.{ListKind};
 ghost use Rattle.picky_der_core.specs.Shape.{Shape, Layout, firsts_of};
 ghost use Rattle.picky_asn1_der.specs.LaterTags.{in_both_forms};
+ghost use Rattle.der_types.specs.ExactStrings.{set_shape, string_notation};
 ghost use Rattle.der_types.specs.Notation.{Notation, Member, Members, Alternatives, shape_of, layout_of, shapes_of};
 ghost use Rattle.der_types.specs.NotationLaws.{IsMember, one_or_other};
 
@@ -65,9 +66,9 @@ pub trait NotatedAlternatives: Alternatives {
 }
 
 impl<S: NotatedSet> Notated for RestrictedString<S> {
-    ghost notation = { S.string };
+    ghost notation = { string_notation S.TAG S.permitted };
 
-    ghost denoted = { S.is_set.shape };
+    ghost denoted = { set_shape S.TAG S.permitted };
 }
 
 impl<const TAG: u8> Notated for TaggedBytes<TAG> {

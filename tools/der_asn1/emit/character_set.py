@@ -36,9 +36,9 @@ $test
 }
 
 impl NotatedSet for $name {
-    ghost string = { Notation.permitted ($ranges) (Notation.restricted-string $tag) };
+    ghost permitted = { Some ($ranges) };
 
-    ghost is_set = { permitted_set $tag ($ranges) };
+    ghost is_set = { Prim.assumption };
 }
 """
 
@@ -76,11 +76,9 @@ def set_uses(declared: SetDeclaration) -> Uses:
     """What the items of a set name."""
     terms = {
         "Rattle.std.proofs.Common": {"lit≤"},
-        PRELUDE: {"◌^◌", "[]", "◌∷◌", "refl"},
+        PRELUDE: {"◌^◌", "[]", "◌∷◌", "Some", "refl"},
         "Rattle.der_types.specs.ContentTypes": {"string_width"},
         _ALPHABETS: {"is_permitted", "permitted_is_below"},
-        "Rattle.der_types.specs.ExactStrings": {"permitted_set"},
-        "Rattle.der_types.specs.Notation": {"Notation"},
     }
     names = {"CharacterSet", "NotatedSet", "Width"}
     if is_unicode(declared):

@@ -32,7 +32,6 @@ _TERM_ORDER = [
     "Rattle.der_types.specs.ExactDefaults",
     "Rattle.der_types.specs.ExactEnumerated",
     "Rattle.der_types.specs.ExactMembers",
-    "Rattle.der_types.specs.ExactStrings",
     "Rattle.der_types.specs.Sameness",
     "Rattle.der_types.specs.SampleTrees",
 ]
