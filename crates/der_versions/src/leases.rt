@@ -306,8 +306,6 @@ impl DeserializeMembers for Lease2Additions {
 
 impl AddedMembers for Lease2Additions {
     ghost present = { refl };
-
-    ghost equal = { λ x y. refl };
 }
 
 impl NotatedMembers for Lease2Additions {
@@ -392,8 +390,6 @@ impl DeserializeMembers for Lease2Additions2 {
 
 impl AddedMembers for Lease2Additions2 {
     ghost present = { refl };
-
-    ghost equal = { λ x y. refl };
 }
 
 impl NotatedMembers for Lease2Additions2 {
@@ -584,8 +580,6 @@ impl DeserializeMembers for Lease3Additions {
 
 impl AddedMembers for Lease3Additions {
     ghost present = { refl };
-
-    ghost equal = { λ x y. refl };
 }
 
 impl NotatedMembers for Lease3Additions {
@@ -680,8 +674,6 @@ impl DeserializeMembers for Lease3Additions2 {
 
 impl AddedMembers for Lease3Additions2 {
     ghost present = { refl };
-
-    ghost equal = { λ x y. refl };
 }
 
 impl NotatedMembers for Lease3Additions2 {
@@ -766,8 +758,6 @@ impl DeserializeMembers for Lease3Additions3 {
 
 impl AddedMembers for Lease3Additions3 {
     ghost present = { refl };
-
-    ghost equal = { λ x y. refl };
 }
 
 impl NotatedMembers for Lease3Additions3 {

@@ -267,8 +267,6 @@ impl DeserializeMembers for Parcel2Additions {
 
 impl AddedMembers for Parcel2Additions {
     ghost present = { refl };
-
-    ghost equal = { λ x y. refl };
 }
 
 impl NotatedMembers for Parcel2Additions {
@@ -346,8 +344,6 @@ impl DeserializeMembers for Parcel2Additions2 {
 
 impl AddedMembers for Parcel2Additions2 {
     ghost present = { refl };
-
-    ghost equal = { λ x y. refl };
 }
 
 impl NotatedMembers for Parcel2Additions2 {

@@ -2,7 +2,7 @@
 -- absent among them.
 use Rattle.std.specs.Prelude.{◌≡◌, Bool, true, false, Option, Some, None, [], ◌∷◌, List, refl, ⊤}
 use Rattle.std.specs.Option.{option_eq}
-use Rattle.std.proofs.Common.{sym, ◌∙◌, subst, inl, inr}
+use Rattle.std.proofs.Common.{sym, subst, inl, inr}
 use Rattle.std.proofs.lemmas.Bool.{and_parts}
 use Rattle.picky_der_core.specs.Tree.{Trees}
 use Rattle.picky_der_core.specs.Readable.{AreReadable}
@@ -69,17 +69,16 @@ module _ {P : Type 0} {members : P → Trees} {l : Layout} {AreEqual : P → P �
     sound = c.sound;
   }
 
-abbrev pub added_facts : {P V : Type 0} {l : Layout} (facts : MembersFacts P l) (members : P → Trees) (eq : P → P
-    → Bool) (item : V → Option P) → has_required l ≡ true → ((x y : P) → eq x y ≡ conjunction (facts.tests x y))
-    → MembersFacts V (Layout.added l)
-added_facts facts members eq item present equal = record {
+abbrev pub added_facts : {P V : Type 0} {l : Layout} (facts : MembersFacts P l) (members : P → Trees) (item : V
+    → Option P) → MembersFacts V (Layout.added l)
+added_facts {l = l} facts members item = record {
   members = λ v. added_members members (item v);
-  tests = λ x y. option_eq eq (item x) (item y) ∷ [];
+  tests = λ x y. option_eq (λ p q. conjunction (facts.tests p q)) (item x) (item y) ∷ [];
   there = facts.there;
   rule = added_rule facts.rule;
-  Premise = ProvedMembers facts members;
-  follows = λ t. added_are (layout_members facts t) present eq
-      (λ x y h. equal x y ∙ conjunction_true (facts.tests x y) h) item;
+  Premise = ProvedMembers facts members × (has_required l ≡ true);
+  follows = λ t. added_are (layout_members facts t.0) t.1 (λ p q. conjunction (facts.tests p q))
+      (λ x y h. conjunction_true (facts.tests x y) h) item;
 }
 
 -- ---- equal ones mean the same
@@ -89,24 +88,24 @@ all_true [] h = tt
 all_true (b ∷ []) h = (h, tt)
 all_true (b ∷ (c ∷ bs)) h = let p = and_parts b (conjunction (c ∷ bs)) h in (p.0, all_true (c ∷ bs) p.1)
 
-module _ {P : Type 0} {tests : P → P → List Bool} {members : P → Trees} (respect : RespectMembers tests members)
-    (eq : P → P → Bool) (equal : (x y : P) → eq x y ≡ conjunction (tests x y)) where
-  alike : (x y : Option P) → option_eq eq x y ≡ true → added_members members x ≡ added_members members y
+module _ {P : Type 0} {tests : P → P → List Bool} {members : P → Trees} (respect : RespectMembers tests members) where
+  alike : (x y : Option P) → option_eq (λ p q. conjunction (tests p q)) x y ≡ true
+      → added_members members x ≡ added_members members y
   alike None None h = refl
   alike None (Some y) h = cc
   alike (Some x) None h = cc
-  alike (Some x) (Some y) h = respect.same x y (all_true (tests x y) (sym (equal x y) ∙ h))
+  alike (Some x) (Some y) h = respect.same x y (all_true (tests x y) h)
 
   pub added_respect : {V : Type 0} (item : V → Option P)
-      → RespectMembers (λ x y. option_eq eq (item x) (item y) ∷ []) (λ v. added_members members (item v))
+      → RespectMembers (λ x y. option_eq (λ p q. conjunction (tests p q)) (item x) (item y) ∷ [])
+      (λ v. added_members members (item v))
   added_respect item = record { same = λ x y h. alike (item x) (item y) h.0 }
 
 abbrev pub added_sameness : {P V : Type 0} (a : MembersSameness P) (tests : P → P → List Bool) (members : P
-    → Trees) (eq : P → P → Bool) (item : V → Option P) → ((x y : P) → eq x y ≡ conjunction (tests x y))
-    → MembersSameness V
-added_sameness a tests members eq item equal = record {
-  tests = λ x y. option_eq eq (item x) (item y) ∷ [];
+    → Trees) (item : V → Option P) → MembersSameness V
+added_sameness a tests members item = record {
+  tests = λ x y. option_eq (λ p q. conjunction (tests p q)) (item x) (item y) ∷ [];
   members = λ v. added_members members (item v);
   Premise = ProvedMembersSameness a tests members;
-  follows = λ o. added_respect (respect_of a o) eq equal item;
+  follows = λ o. added_respect (respect_of a o) item;
 }

@@ -4,7 +4,6 @@ ghost use Rattle.std.specs.Option.{option_eq};
 ghost use Rattle.picky_der_core.specs.Equality.{IsThatOf};
 ghost use Rattle.picky_der_core.specs.Shape.{Layout};
 ghost use Rattle.picky_der_de.specs.Layouts.{ReadsLayout, RefusesLayout};
-ghost use Rattle.picky_der_de.specs.MembersFacts.{conjunction};
 ghost use Rattle.picky_der_de.specs.Rules.{LeadsTo, RefusesBefore};
 ghost use Rattle.picky_der_de.specs.SequenceState.{borrowed_by, outer_of, state_of};
 ghost use Rattle.picky_asn1_der.specs.AddedLaws.{added_facts, added_members, has_required};
@@ -27,9 +26,6 @@ pub struct Added<M>(pub Option<M>);
 pub trait AddedMembers: DeserializeMembers {
     // One of them is always there, so that they aren't taken for none.
     ghost present: { has_required Self.layout ≡ true };
-
-    // Two are equal exactly if each of the members is.
-    ghost equal: { (x y : Self) → Self.eq x y ≡ conjunction (Self.facts.tests x y) };
 }
 
 /// Reads members as those of a struct. It is the whole body of `DeserializeMembers::deserialize_members` of such a
@@ -78,7 +74,7 @@ impl<M: SerializeMembers> SerializeMembers for Added<M> {
 impl<M: AddedMembers> DeserializeMembers for Added<M> {
     ghost layout = { Layout.added M.layout };
 
-    ghost facts = { added_facts M.facts M.members M.eq (λ it. it.0) M.present M.equal };
+    ghost facts = { added_facts M.facts M.members (λ it. it.0) };
 
     fn deserialize_members<R: ReadExt>(
         sequence: &mut picky_der_de::Sequence<'_, R>,

@@ -35,7 +35,7 @@ impl Inhabited for Asn1RawDer {
 }
 
 impl<M: FaithfulMembers + AddedMembers> FaithfulMembers for Added<M> {
-    ghost sameness = { added_sameness M.sameness M.facts.tests M.members M.eq (λ it. it.0) M.equal };
+    ghost sameness = { added_sameness M.sameness M.facts.tests M.members (λ it. it.0) };
 
     ghost respects = { Prim.assumption };
 }

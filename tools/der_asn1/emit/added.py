@@ -50,8 +50,6 @@ def added_impls(declared: AddedDeclaration, names: PrivateNames) -> list[str]:
         "",
         f"impl AddedMembers for {declared.name} {{",
         f"{STEP}ghost present = {{ refl }};",
-        "",
-        f"{STEP}ghost equal = {{ λ x y. refl }};",
         "}",
     ]
 

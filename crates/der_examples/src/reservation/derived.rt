@@ -117,6 +117,4 @@ impl DeserializeMembers for Payment {
 
 impl AddedMembers for Payment {
     ghost present = { refl };
-
-    ghost equal = { λ x y. refl };
 }
