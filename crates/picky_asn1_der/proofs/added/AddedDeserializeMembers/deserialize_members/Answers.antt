@@ -19,8 +19,8 @@ returns-in_err-members-in-Ok-Some-clause-refused_by g c =
 
 pub returns-in_ok-members-in-Ok-Some-clause-ok : goal.returns-in_ok-members-in-Ok-Some-clause-ok
 returns-in_ok-members-in-Ok-Some-clause-ok g c =
-    added_read c.requires.implicit_tag (rw c.in-Ok-Some.field-0-is at c.in-Ok-Some.ensures.tag)
-    c.in_ok-members-in-Ok-Some.ensures.ok
+    added_read g.M.DeserializeMembers.layout c.requires.implicit_tag
+    (rw c.in-Ok-Some.field-0-is at c.in-Ok-Some.ensures.tag) c.in_ok-members-in-Ok-Some.ensures.ok
 
 pub returns-in_ok-members-in-Ok-Some-clause-leads : goal.returns-in_ok-members-in-Ok-Some-clause-leads
 returns-in_ok-members-in-Ok-Some-clause-leads g c =
