@@ -1,6 +1,6 @@
 -- Members that an extension added, of which a value has all or none: those that are always there, and what may be
 -- absent among them.
-use Rattle.std.specs.Prelude.{◌≡◌, Bool, true, false, Option, Some, None, [], ◌∷◌, List, refl, ⊤}
+use Rattle.std.specs.Prelude.{◌≡◌, Bool, true, false, Option, Some, None, [], ◌∷◌, List, refl}
 use Rattle.std.specs.Option.{option_eq}
 use Rattle.std.proofs.Common.{sym, subst, inl, inr}
 use Rattle.std.proofs.lemmas.Bool.{and_parts}
