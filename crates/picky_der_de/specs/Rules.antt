@@ -167,6 +167,12 @@ pub data perhaps_rule {V : Type 0} (meaning : V → Tree) (left_out : V → Bool
   absent : 0 < at.ahead → (b : ℕ) (rest : List ℕ) → bs ≡ b ∷ rest → (IsFirst s b → ⊥) → others at bs e left
       → perhaps_rule meaning left_out s member others at bs e left
 
+-- Members that an extension added: a value that isn't at its end has all of them, with their errors (X.680, 25.1).
+pub data added_rule (members : Rule) (at : Spot) (bs : List ℕ) (e : Asn1DerError) (left : List ℕ) : Type 0 where
+  at_cut : 0 < at.ahead → by_bytes next_byte_refusal at bs e left → added_rule members at bs e left
+  at_members : 0 < at.ahead → (b : ℕ) (rest : List ℕ) → bs ≡ b ∷ rest → members at bs e left
+      → added_rule members at bs e left
+
 -- by whether it may be missing
 abbrev pub layout_rule : {V : Type 0} → Presence → (V → Tree) → (V → Bool) → Shape → Rule → Rule → Rule
 layout_rule always meaning left_out s = always_rule meaning s

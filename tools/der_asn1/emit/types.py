@@ -1,10 +1,11 @@
 """The files of a crate's types: which file each type is in, and the lines of a file."""
 from dataclasses import dataclass, field
 
-from ..meaning.declarations import AliasDeclaration, ChoiceDeclaration, Declaration, EnumDeclaration, NewtypeDeclaration, SetDeclaration
-from ..meaning.declarations import StructDeclaration
+from ..meaning.declarations import AddedDeclaration, AliasDeclaration, ChoiceDeclaration, Declaration, EnumDeclaration, NewtypeDeclaration
+from ..meaning.declarations import SetDeclaration, StructDeclaration
 from ..meaning.examples import has_example
 from ..meaning.wording import snake
+from .added import added_lines, added_uses
 from .character_set import set_lines, set_uses
 from .choice import choice_lines, choice_uses
 from .comments import difference_note, sentence
@@ -67,6 +68,8 @@ def uses_of(declared: Declaration, context: Context) -> Uses:
     """What the items of a type name."""
     if isinstance(declared, NewtypeDeclaration):
         return newtype_uses(declared)
+    if isinstance(declared, AddedDeclaration):
+        return added_uses(declared)
     if isinstance(declared, StructDeclaration):
         return struct_uses(declared)
     if isinstance(declared, ChoiceDeclaration):
@@ -83,6 +86,8 @@ def lines_of(declared: Declaration, stem: str, context: Context) -> list[str]:
     home = home_of_terms(stem, context)
     if isinstance(declared, NewtypeDeclaration):
         return newtype_lines(declared)
+    if isinstance(declared, AddedDeclaration):
+        return added_lines(declared, context.names)
     if isinstance(declared, StructDeclaration):
         return struct_lines(declared, context.names)
     if isinstance(declared, ChoiceDeclaration):
@@ -93,8 +98,11 @@ def lines_of(declared: Declaration, stem: str, context: Context) -> list[str]:
 
 
 def promises(declared: Declaration, stem: str, context: Context) -> list[tuple[Uses, list[str]]]:
-    """What says that a type's `==` is sameness of encodings, and that a value of it is readable. A name of another type has what that has."""
-    if isinstance(declared, SetDeclaration) or isinstance(declared, AliasDeclaration) and not isinstance(declared, NewtypeDeclaration):
+    """What says that a type's `==` is sameness of encodings, and that a value of it is readable.
+
+    A name of another type has what that has, and members that were added are no type.
+    """
+    if isinstance(declared, (AddedDeclaration, SetDeclaration)) or isinstance(declared, AliasDeclaration) and not isinstance(declared, NewtypeDeclaration):
         return []
     inner = context.names.of(declared, "Parts") if isinstance(declared, (StructDeclaration, ChoiceDeclaration)) else ""
     terms = f"Rattle.{context.crate}.specs.{TERMS_FILE}"
