@@ -9,8 +9,8 @@ use crate::seen::Seen;
 use der_examples::{
     AgeGroups, Change, Contact, EmailText, EncryptedData, EvenNumber, GeneralName, Gust, Host,
     Interval, Marker, Moment, Named, Noted, NumberOrFlag, Parcel, Place, Point, PrincipalName,
-    PrivateKeyInfo, Report, Reservation, RiverLevels, RsaPublicKey, SerialNumber, Setting, Stay, Tagged,
-    Temperature, Ticket, Track,
+    PrivateKeyInfo, Report, Reservation, RiverLevels, RsaPublicKey, SerialNumber, Setting, Stay,
+    Tagged, Temperature, Ticket, Track,
 };
 use der_tool_lib::{AlgorithmIdentifier, SubjectPublicKeyInfo, TestStruct};
 use der_x509::{CertificateList, Extension, TbsCertificate, Version};
