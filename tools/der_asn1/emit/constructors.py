@@ -181,7 +181,7 @@ def clause(before: str, items: list[str], after: str) -> list[str]:
     line = f"{_TWO}ensures {{ result ≡ {before} {'; '.join(items)} {after} }}"
     if len(line) <= GHOST_WIDTH:
         return [line]
-    return [f"{_TWO}ensures {{ result ≡ {before}", *(f"{_THREE}{it};" for it in items), f"{_TWO}{after} }}"]
+    return [f"{_TWO}ensures {{ result ≡ {before}", *(f"{_TWO}  {it};" for it in items), f"{_TWO}{after} }}"]
 
 
 def body(lines: list[str]) -> list[str]:
