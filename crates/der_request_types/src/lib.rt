@@ -9,11 +9,12 @@ pub mod named;
 pub mod notation;
 mod pkcs_10;
 mod pkix1_explicit88;
+mod tickets;
 
 pub use kerberos_v5_spec2::{
-    AsReq, AsReqMembers, EncryptedData, HostAddress, HostAddresses, Int32, KdcOptions, KdcReqBody,
-    KerberosFlags, KerberosString, KerberosStringCharacters, KerberosTime, PaData, PrincipalName,
-    Realm, Ticket, TicketMembers, UInt32,
+    EncryptedData, HostAddress, HostAddresses, Int32, KerberosFlags, KerberosString,
+    KerberosStringCharacters, KerberosTime, PaData, PrincipalName, Realm, UInt32,
 };
 pub use pkcs_10::{CertificationRequest, CertificationRequestInfo, CriAttributes};
 pub use pkix1_explicit88::Attribute;
+pub use tickets::{AsReq, AsReqMembers, KdcOptions, KdcReqBody, Ticket, TicketMembers};
