@@ -3,7 +3,7 @@ ghost use Rattle.std.specs.Prelude.{◌≡◌, ◌∷◌, IfOk};
 
 use anyhow::Context;
 use der_request_types::{CertificationRequest, CertificationRequestInfo, named};
-use der_types::{BitString, Contents, InRange, ObjectIdentifier, WithSize};
+use der_types::{BitString, Contents, InRange, ObjectIdentifier, WithSize, names};
 use der_x509::{AlgorithmIdentifier, AttributeTypeAndValue, Name, SubjectPublicKeyInfo};
 use named::certification_request_info_version::V1;
 use picky_asn1_der::asn1::Asn1SetOf;
@@ -13,7 +13,7 @@ use std::alloc::Global;
 // The name of one attribute, a common name.
 fn common_name(alloc: Global, text: &str) -> anyhow::Result<Name> {
     let attribute = AttributeTypeAndValue {
-        type_: ObjectIdentifier::from_str(alloc, "2.5.4.3")?,
+        type_: ObjectIdentifier::from_bytes(alloc, names::COMMON_NAME)?,
         value: Asn1RawDer(to_vec(alloc, &String::from_str(alloc, text)?)?),
     };
     let step = Asn1SetOf(vec![in alloc; attribute]?);
@@ -23,9 +23,9 @@ fn common_name(alloc: Global, text: &str) -> anyhow::Result<Name> {
 
 // A key on the curve P-256, by its point (RFC 5480, 2).
 fn public_key(alloc: Global, point: &[u8]) -> anyhow::Result<SubjectPublicKeyInfo> {
-    let curve = ObjectIdentifier::from_str(alloc, "1.2.840.10045.3.1.7")?;
+    let curve = ObjectIdentifier::from_bytes(alloc, names::SECP256R1)?;
     let algorithm = AlgorithmIdentifier {
-        algorithm: ObjectIdentifier::from_str(alloc, "1.2.840.10045.2.1")?,
+        algorithm: ObjectIdentifier::from_bytes(alloc, names::EC_PUBLIC_KEY)?,
         parameters: Some(Asn1RawDer(to_vec(alloc, &curve)?)),
     };
     Ok(SubjectPublicKeyInfo {
@@ -53,7 +53,7 @@ pub fn certificate_request(
         attributes,
     );
     let algorithm = AlgorithmIdentifier {
-        algorithm: ObjectIdentifier::from_str(alloc, "1.2.840.10045.4.3.2")?,
+        algorithm: ObjectIdentifier::from_bytes(alloc, names::ECDSA_WITH_SHA256)?,
         parameters: None,
     };
     let signature = BitString::from_bytes(alloc, signature, 0)?;

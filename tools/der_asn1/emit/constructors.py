@@ -137,29 +137,26 @@ def default_function(it: Field, types: Types) -> Optional[Function]:
     if not around or not NUMBER.fullmatch(number.name):
         return None
     default = number_value(excluded(around[0]), number.name[0] == "i")
-    term, value = f"it{'.0' * len(tagged.tags)}", f"{it.name}{'.0' * len(tagged.tags)}"
-    for type_ in around:
-        term = f"⟦<{type_} as Constrained>⟧.unconstrained {term if term.startswith('it') else f'({term})'}"
-        value = f"{value}.get()"
-    lines = comment(STEP, "///", f"Returns the number of `{it.name}`, which is {excluded(around[0])} if it is absent.")
+    inside = ".0" * len(tagged.tags)
+    lines = comment(STEP, "///", f"Returns the number of `{it.name}`, which is {default.text} if it is absent.")
     lines += head(f"{it.name}_or_default", ["&self"], number.name)
     lines += [
         f"{_TWO}ensures default {{ self.now.{it.name} ≡ None → result ≡ {default.term} }}",
-        *some_clause(it.name, term),
+        *some_clause(it.name, f"⟦<{tagged.inner} as WholeNumber>⟧.number it{inside}", "result" if number.name[0] == "i" else "pos result"),
         f"{STEP}{{",
         f"{_TWO}match &self.{it.name} {{",
-        f"{_THREE}Some({it.name}) => *{value},",
+        f"{_THREE}Some({it.name}) => *{it.name}{inside}{'.get()' * len(around)},",
         f"{_THREE}None => {default.text},",
         f"{_TWO}}}",
         f"{STEP}}}",
     ]
-    names = {"Constrained", *(name for type_ in around for name in type_.names())}
-    return Function(lines, Uses(names, terms={PRELUDE: {"◌≡◌", "IfSome", *default.terms}}))
+    terms = {"◌≡◌", "IfSome", *default.terms, *([] if number.name[0] == "i" else ["pos"])}
+    return Function(lines, Uses({"WholeNumber", *tagged.inner.names()}, terms={PRELUDE: terms}))
 
 
-def some_clause(name: str, term: str) -> list[str]:
-    """The clause of a number that is there."""
-    before, after = f"{_TWO}ensures some {{ IfSome self.now.{name} (λ it. result", f"≡ {term}) }}"
+def some_clause(name: str, number: str, wanted: str) -> list[str]:
+    """The clause of a number that is there, which is what a term of an integer says."""
+    before, after = f"{_TWO}ensures some {{ IfSome self.now.{name} (λ it. {number}", f"≡ {wanted}) }}"
     line = f"{before} {after}"
     return [line] if len(line) <= GHOST_WIDTH else [before, f"{_THREE}{after}"]
 

@@ -84,14 +84,15 @@ class OrDefault(unittest.TestCase):
     def test_a_number_of_a_type_of_rust(self):
         text = file_of("A ::= SEQUENCE { a INTEGER (0..9) DEFAULT 5 }", "A")
         self.assertIn("    pub fn a_or_default(&self) -> u8\n        ensures default { self.now.a ≡ None → result ≡ 5 }\n", text)
-        around = "⟦<InRange<u8, 0, 9> as Constrained>⟧.unconstrained (⟦<OtherThan<InRange<u8, 0, 9>, 5> as Constrained>⟧.unconstrained it)"
-        self.assertIn(f"        ensures some {{ IfSome self.now.a (λ it. result\n            ≡ {around}) }}\n", text)
+        self.assertIn("        ensures some { IfSome self.now.a (λ it. ⟦<OtherThan<InRange<u8, 0, 9>, 5> as WholeNumber>⟧.number it\n            ≡ pos result) }\n", text)
         self.assertIn("            Some(a) => *a.get().get(),\n            None => 5,\n", text)
-        self.assertIn("use der_types::{Constrained, InRange, OtherThan};\n", text)
+        self.assertIn("use der_types::{InRange, OtherThan, WholeNumber};\n", text)
 
     def test_a_number_below_zero(self):
         text = file_of("A ::= SEQUENCE { a [0] INTEGER (-500..9000) DEFAULT -1 }", "A")
         self.assertIn("    pub fn a_or_default(&self) -> i16\n        ensures default { self.now.a ≡ None → result ≡ negsuc 0 }\n", text)
+        number = "⟦<Outside<AtMost<AtLeast<i16, Minus<500>>, Plus<9000>>, Minus<1>, Minus<1>> as WholeNumber>⟧.number it.0"
+        self.assertIn(f"        ensures some {{ IfSome self.now.a (λ it. {number}\n            ≡ result) }}\n", text)
         self.assertIn("            Some(a) => *a.0.get().get().get(),\n            None => -1,\n", text)
 
     def test_any_integer_has_none(self):
