@@ -45,13 +45,9 @@ pub fn certificate_request(
 {
     let version = InRange::new(V1).context("the version is 0")?;
     let subject = common_name(alloc, name)?;
+    let key = public_key(alloc, point)?;
     let attributes = Asn1SetOf(Vec::new(alloc));
-    let info = CertificationRequestInfo::new(
-        version,
-        subject,
-        public_key(alloc, point)?,
-        attributes,
-    );
+    let info = CertificationRequestInfo::new(version, subject, key, attributes);
     let algorithm = AlgorithmIdentifier {
         algorithm: ObjectIdentifier::from_bytes(alloc, names::ECDSA_WITH_SHA256)?,
         parameters: None,
