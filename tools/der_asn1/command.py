@@ -3,7 +3,7 @@
     der_asn1 --report [--types] [OPTION ..] MODULE.asn1 ..
     der_asn1 --print crates/NAME/specs/Notation.antt ..
     der_asn1 --out crates/NAME [--type TYPE,..] [--group FILE=TYPE,..] [--crate MODULE=CRATE ..] [--distinct TYPE,..] [--own MODULE=NAME,..]
-        [--own-terms NAME,..] [--constructors [TYPE,..]] [--without-names] [--check] [--allow-raw [TYPE,..]] [--allow-wider [TYPE,..]]
+        [--own-terms NAME,..] [--constructors [TYPE,..]] [--check] [--allow-raw [TYPE,..]] [--allow-wider [TYPE,..]]
         [OPTION ..] MODULE.asn1 ..
     der_asn1 derive [--check] FILE.rt ..
 
@@ -28,8 +28,7 @@ The types of a module are in one file, which has the module's name, or is `types
 own in the crate are left alone, which are files with the folders of their names: `--own MODULE=NAME,..` names a module of `src` with the
 names of it that the root exports, and `--own-terms NAME,..` names modules of `specs`.
 
-`--constructors` writes constructors of the structs of all types, or of these. Names of bits, numbers and items are constants in `named.rt`,
-unless `--without-names` is given.
+`--constructors` writes constructors of the structs of all types, or of these. Names of bits, numbers and items are constants in `named.rt`.
 
 A file after `--import` is read for the names that the modules import. `--strict` refuses what the standard doesn't allow and is otherwise
 accepted. The status is 1 if there is an error.
@@ -81,7 +80,6 @@ def arguments(words: Optional[list[str]]) -> argparse.Namespace:
     parser.add_argument("--own", action="append", default=[], metavar="MODULE=NAME,..", help="a module of one's own in src, with its public names")
     parser.add_argument("--own-terms", action="append", default=[], metavar="NAME,..", help="modules of one's own in specs")
     parser.add_argument("--constructors", action="append", default=[], metavar="[TYPE,..]", help="write constructors of these structs, or of all")
-    parser.add_argument("--without-names", action="store_true", help="write no constants for the names of bits, numbers and items")
     parser.add_argument("--check", action="store_true", help="write nothing, and fail where a file is another one")
     parser.add_argument("--allow-raw", action="append", default=[], metavar="[TYPE,..]", help="keep as bytes what the library has no type for")
     parser.add_argument("--allow-wider", action="append", default=[], metavar="[TYPE,..]", help="use a type that has other values than the notation")
@@ -169,8 +167,6 @@ def written(options: argparse.Namespace, modules: list[tree.Module], imported: l
     crate = crate_of(name, modules, imported, listed(options.type), problems, others, listed(options.distinct), options.depth)
     crate.own, crate.own_terms, crate.groups = named_lists(options.own), listed(options.own_terms), named_lists(options.group)
     crate.constructed = Allowed(options.constructors)
-    if options.without_names:
-        crate.names = []
     check_groups(crate, problems)
     refuse(problems, crate.causes, Allowed(options.allow_raw), Allowed(options.allow_wider))
     if said(problems):

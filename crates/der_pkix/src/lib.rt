@@ -8,6 +8,7 @@ mod asymmetric_key_package_module_v1;
 mod ec_private_key;
 mod general_names;
 mod holders;
+pub mod named;
 pub mod notation;
 mod pkcs_1;
 mod pkcs_10;

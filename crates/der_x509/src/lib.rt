@@ -6,6 +6,7 @@
 mod by_hand;
 mod certificate_list;
 mod extensions;
+pub mod named;
 mod names;
 pub mod notation;
 mod pkix1_explicit88;
