@@ -5,6 +5,7 @@
 #![tactic(auto)]
 
 mod asymmetric_key_package_module_v1;
+mod constructors;
 mod ec_private_key;
 mod general_names;
 mod holders;

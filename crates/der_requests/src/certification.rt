@@ -2,7 +2,7 @@
 ghost use Rattle.std.specs.Prelude.{◌≡◌, ◌∷◌, IfOk};
 
 use anyhow::Context;
-use der_request_types::{CertificationRequest, CertificationRequestInfo, named};
+use der_pkix::{CertificationRequest, CertificationRequestInfo, named};
 use der_types::{BitString, Contents, InRange, ObjectIdentifier, WithSize, names};
 use der_x509::{AlgorithmIdentifier, AttributeTypeAndValue, Name, SubjectPublicKeyInfo};
 use named::certification_request_info_version::V1;
@@ -12,10 +12,9 @@ use std::alloc::Global;
 
 // The name of one attribute, a common name.
 fn common_name(alloc: Global, text: &str) -> anyhow::Result<Name> {
-    let attribute = AttributeTypeAndValue {
-        type_: ObjectIdentifier::from_bytes(alloc, names::COMMON_NAME)?,
-        value: Asn1RawDer(to_vec(alloc, &String::from_str(alloc, text)?)?),
-    };
+    let kind = ObjectIdentifier::from_bytes(alloc, names::COMMON_NAME)?;
+    let value = Asn1RawDer(to_vec(alloc, &String::from_str(alloc, text)?)?);
+    let attribute = AttributeTypeAndValue::new(kind, value);
     let step = Asn1SetOf(vec![in alloc; attribute]?);
     let step = WithSize::new(step).context("a step of a name has an attribute")?;
     Ok(Name::RdnSequence(vec![in alloc; step]?))
@@ -24,14 +23,12 @@ fn common_name(alloc: Global, text: &str) -> anyhow::Result<Name> {
 // A key on the curve P-256, by its point (RFC 5480, 2).
 fn public_key(alloc: Global, point: &[u8]) -> anyhow::Result<SubjectPublicKeyInfo> {
     let curve = ObjectIdentifier::from_bytes(alloc, names::SECP256R1)?;
-    let algorithm = AlgorithmIdentifier {
-        algorithm: ObjectIdentifier::from_bytes(alloc, names::EC_PUBLIC_KEY)?,
-        parameters: Some(Asn1RawDer(to_vec(alloc, &curve)?)),
-    };
-    Ok(SubjectPublicKeyInfo {
-        algorithm,
-        subject_public_key: BitString::from_bytes(alloc, point, 0)?,
-    })
+    let algorithm = ObjectIdentifier::from_bytes(alloc, names::EC_PUBLIC_KEY)?;
+    let algorithm = AlgorithmIdentifier::new(algorithm).with_parameters(Asn1RawDer(to_vec(
+        alloc, &curve,
+    )?));
+    let point = BitString::from_bytes(alloc, point, 0)?;
+    Ok(SubjectPublicKeyInfo::new(algorithm, point))
 }
 
 /// Returns the request of this name for a certificate of this key, a point of P-256, with this signature by ECDSA.
@@ -48,10 +45,8 @@ pub fn certificate_request(
     let key = public_key(alloc, point)?;
     let attributes = Asn1SetOf(Vec::new(alloc));
     let info = CertificationRequestInfo::new(version, subject, key, attributes);
-    let algorithm = AlgorithmIdentifier {
-        algorithm: ObjectIdentifier::from_bytes(alloc, names::ECDSA_WITH_SHA256)?,
-        parameters: None,
-    };
+    let algorithm = ObjectIdentifier::from_bytes(alloc, names::ECDSA_WITH_SHA256)?;
+    let algorithm = AlgorithmIdentifier::new(algorithm);
     let signature = BitString::from_bytes(alloc, signature, 0)?;
     Ok(CertificationRequest::new(info, algorithm, signature))
 }

@@ -2,7 +2,7 @@
 ghost use Rattle.std.specs.Prelude.{◌≡◌, IfOk};
 
 use anyhow::Context;
-use der_request_types::{AsReq, AsReqMembers, KdcReqBody, KerberosString, PrincipalName};
+use der_kerberos::{AsReq, AsReqMembers, KdcReqBody, KerberosString, PrincipalName};
 use der_types::{BitString, DateTime, GeneralizedTime, InRange, WithSize};
 use picky_asn1_der::application_tag::ApplicationTag;
 use std::alloc::Global;

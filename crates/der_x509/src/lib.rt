@@ -5,6 +5,7 @@
 
 mod by_hand;
 mod certificate_list;
+mod constructors;
 mod extensions;
 pub mod named;
 mod names;
