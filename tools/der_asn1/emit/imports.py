@@ -13,6 +13,8 @@ PRELUDE = "Rattle.std.specs.Prelude"
 _TERM_ORDER = [
     "Rattle.std.proofs.Common",
     PRELUDE,
+    "Rattle.std.specs.Cmp.Rules",
+    "Rattle.std.specs.Ordering",
     "Rattle.picky_der_core.specs.Equality",
     "Rattle.picky_der_core.specs.Shape",
     "Rattle.picky_der_de.specs.declared.alternatives.OneOf.TheVariants",
@@ -57,6 +59,11 @@ class Uses:
         for mine, others in ((self.parts, other.parts), (self.terms, other.terms)):
             for home, names in others.items():
                 mine.setdefault(home, set()).update(names)
+
+    def without(self, unused: frozenset[str]) -> "Uses":
+        """The same without these names, of Rust and of terms."""
+        terms = {home: names - unused for home, names in self.terms.items() if names - unused}
+        return Uses(self.names - unused, self.parts, terms)
 
     def rust_lines(self, homes: dict[str, str], own: set[str]) -> list[str]:
         """The imports of Rust, without those of the file's own types."""

@@ -1,6 +1,7 @@
 """The file of the object identifiers of modules."""
 from dataclasses import dataclass
 
+from ..meaning.contents import identifier_content
 from ..meaning.scopes import Program
 from ..meaning.values import arcs_of
 from ..meaning.wording import KEYWORDS, words
@@ -25,14 +26,7 @@ class Value:
 
     def content(self) -> list[int]:
         """The bytes of its content (X.690, 8.19)."""
-        found = []
-        for number in [self.arcs[0] * 40 + self.arcs[1], *self.arcs[2:]]:
-            groups = [number & 0x7F]
-            while number > 0x7F:
-                number >>= 7
-                groups.insert(0, number & 0x7F | 0x80)
-            found += groups
-        return found
+        return list(identifier_content(self.arcs))
 
 
 def values_of(program: Program, modules: list[tree.Module]) -> list[Value]:

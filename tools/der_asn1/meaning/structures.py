@@ -1,6 +1,6 @@
 """The meanings of SEQUENCE, SET and CHOICE (X.680, 25, 27 and 29)."""
 from dataclasses import dataclass, replace
-from typing import TYPE_CHECKING, Iterable, Optional, Union
+from typing import TYPE_CHECKING, Callable, Iterable, Optional, Union
 
 from ..parse import tree
 from ..parse.source import NotationError, NotGiven
@@ -76,7 +76,7 @@ def structure(meanings: "Meanings", type_: tree.StructureType, scope: Scope, hin
         return empty(type_, scope, first)
     if any(it.meaning.rust is None for it in parts):
         return _raw(tagged_bytes(first), parts)
-    written = parts
+    written = parts = settled(parts, type_.form, is_extensible(type_, scope), lambda it: of_part(hint, it))
     if type_.form is tree.Form.SET:
         twice = same_tag(meanings, parts, "X.680, 27.3")
         if twice:
@@ -198,6 +198,7 @@ def declare(meanings: "Meanings", declared: Declaration, type_: tree.Type, scope
         wanted = f"{hint.text}-{suffix}" if hint.key else hint.text
         declared.name = meanings.declarations.fresh(wanted, (*scope.key, str(type_.place)), declared.module)
     declared.comment, declared.root, declared.level, declared.lacks = hint.comment, hint.root, meaning.level, lacks(meaning)
+    declared.exact = Note.WITHOUT_TERM not in meaning.notes
     if hint.key and meanings.levels():
         declared.source, declared.levels, declared.inner = hint.root, meanings.levels(), bool(meanings.depth_suffix())
     meanings.declarations.add(declared)
@@ -250,6 +251,32 @@ def _raw(rust: Rust, parts: list[Part], *features: Feature) -> Meaning:
     """A type that is kept as bytes for what is missing in its parts."""
     found, meanings = Meaning(rust, Level.RAW).lacking(*features), [it.meaning for it in parts]
     return replace(found, features=found.features.union(*(it.features for it in meanings)), causes=frozenset().union(*(it.causes for it in meanings)))
+
+
+# ---- where the first byte has to be known
+
+
+def settled(parts: list[Part], form: Optional[tree.Form], is_open: bool, where: Callable[[Part], Where]) -> list[Part]:
+    """Members, or alternatives without a form, in which a union is another type where the first byte has to be known.
+
+    `is_open` says that members of later versions may follow, and `where` is the place of a part.
+    """
+    found = []
+    for index, it in enumerate(parts):
+        fallback = it.meaning.rust.fallback
+        if fallback and _has_to_be_known(parts, index, form, is_open):
+            it = replace(it, meaning=replace(fallback, loose=fallback.loose | it.meaning.loose).placed(where(it)))
+        found.append(it)
+    return found
+
+
+def _has_to_be_known(parts: list[Part], index: int, form: Optional[tree.Form], is_open: bool) -> bool:
+    """Whether the first byte distinguishes a part: one of a CHOICE or a SET, or one that may be absent or comes after one."""
+    if form is not tree.Form.SEQUENCE:
+        return True
+    is_last = index == len(parts) - 1 and not is_open
+    after = index > 0 and parts[index - 1].resolved.may_be_absent()
+    return after or parts[index].resolved.may_be_absent() and not is_last
 
 
 # ---- what distinguishes members
@@ -455,17 +482,18 @@ def declared_enum(
 # ---- choices
 
 
-def choice(meanings: "Meanings", type_: tree.ChoiceType, scope: Scope, hint: Hint) -> Meaning:
-    """A CHOICE."""
+def alternatives(meanings: "Meanings", type_: tree.ChoiceType, scope: Scope, hint: Hint) -> Union[list[Part], Meaning]:
+    """The alternatives of a CHOICE, or what it is kept as."""
     parts = parts_of(meanings, type_, scope, hint)
     if not parts:
         return Meaning(any_element()).lacking(Feature.EXTENSION if is_extensible(type_, scope) else Feature.NO_VALUES)
     if any(it.meaning.rust is None for it in parts):
         return _raw(any_element(), parts)
+    parts = settled(parts, None, is_extensible(type_, scope), lambda it: of_part(hint, it))
     twice = same_tag(meanings, parts, _OF_CHOICE)
     if twice:
         return _raw(any_element(), parts, *ambiguity(parts)).placed(of_part(hint, twice))
-    return declared_choice(meanings, type_, scope, hint, parts)
+    return parts
 
 
 def declared_choice(meanings: "Meanings", type_: tree.ChoiceType, scope: Scope, hint: Hint, parts: list[Part]) -> Meaning:

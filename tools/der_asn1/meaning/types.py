@@ -1,5 +1,6 @@
 """Which type of the library each type of a module is."""
 from dataclasses import replace
+from functools import partial
 from typing import Iterable, Optional
 
 from ..parse import tree
@@ -10,22 +11,26 @@ from .causes import Cause, Where, counts
 from .character_sets import has_all, own_set
 from .checks import Checks
 from .declarations import AliasDeclaration, Declaration, Declarations, Hint, NewtypeDeclaration
+from .extensible import choice
 from .features import Feature, Level, Note
 from .library import Core, Rust, any_element, tagged_bytes, without_values
 from .library_table import BY_NAME, UNIVERSAL_TAGS, LibraryType
+from .listed import listed
 from .intervals import NATURAL
 from .meaning import Meaning, lacks
 from .members import selected
-from .objects import BUILT_IN_CLASSES, ObjectSet, class_named, set_of
+from .objects import BUILT_IN_CLASSES, ObjectSet, class_named
 from . import recursion as recursive
 from .recursion import NONE, Recursion, recursion_of
 from .rust_types import UNIT, of
 from .scopes import BUILT_IN_ANY, Binding, Found, Program, Resolved, Scope, resolve, target_of
-from .structures import choice, enumeration, named_integer, structure
+from .structures import enumeration, named_integer, structure
 from .subtypes import Limits, Reader, ScopedConstraint, only_contents
+from .tables import closed, objects_of, of_table, table_of
 from .tagging import default_mode, effective_mode, first_bytes, fixed_field_type
 from .tags import wrapped
 from .terms import Term, tagged
+from .unions import tagged_union
 from .values import arcs_of, integer_of
 
 # EXTERNAL and INSTANCE OF as the sequences that they are encoded as (X.690, 8.18; X.681, C.7)
@@ -99,6 +104,7 @@ def alias(name: str, found: Found, type_: tree.Type, meaning: Meaning, kind: typ
     source, comment = found.assignment.name, " ".join(found.assignment.comment)
     declared = kind(name, found.assignment.place, found.scope.module.name, source, comment, root=source)
     declared.level, declared.lacks, declared.term = meaning.level, lacks(meaning), meaning.rust.term
+    declared.exact = Note.WITHOUT_TERM not in meaning.notes
     declared.type, declared.notation = meaning.rust.type, type_.text
     return declared
 
@@ -230,10 +236,12 @@ class Meanings:
 
     def under(self, inner: Meaning, tag: tree.Tag, number: int, mode: tree.TagMode, scope: Scope) -> Meaning:
         """The meaning of a type under a tag, with its term."""
+        if mode is tree.TagMode.IMPLICIT and inner.rust and inner.rust.core is Core.UNION:
+            return tagged_union(self, inner, tag, number, scope, lambda it: self.under(it, tag, number, mode, scope)) or inner
         meaning = wrapped(inner, tag.tag_class, number, mode)
         if inner.rust is None or meaning.rust is None or meaning.rust.term:
             return meaning.settled()
-        told = mode is tree.TagMode.EXPLICIT and inner.rust.core not in (Core.CHOICE, Core.ELEMENT)
+        told = mode is tree.TagMode.EXPLICIT and inner.rust.core not in (Core.CHOICE, Core.ELEMENT, Core.UNION)
         is_explicit = told and (tag.mode or default_mode(scope)) is not tree.TagMode.EXPLICIT
         return meaning.called(tagged(tag, number, inner.rust.term, scope.module.name, is_explicit))
 
@@ -245,7 +253,7 @@ class Meanings:
     def limits(self, constraints: tuple[ScopedConstraint, ...], type_: tree.Type, scope: Scope) -> Limits:
         """What the constraints of a type leave."""
         name = type_.name if isinstance(type_, tree.SimpleType) else ""
-        return Reader(self.program, getattr(type_, "named", []), name).limits(constraints)
+        return Reader(self.program, getattr(type_, "named", []), name, type_, scope).limits(constraints)
 
     def checked(self, meaning: Meaning, type_: tree.Type, scope: Scope, constraints: tuple[ScopedConstraint, ...]) -> Meaning:
         """The same with types around it that check its constraints."""
@@ -269,7 +277,7 @@ class Meanings:
             meaning = replace(meaning.as_(permitted), notes=meaning.notes - {Note.CHARACTERS})
         if permitted or has_all(type_.name, limits.alphabet):
             limits = replace(limits, alphabet=NATURAL)
-        return bounded(in_words(meaning, constraints), limits)
+        return bounded(*listed(self, in_words(meaning, constraints), type_, scope, hint, limits))
 
     def of_integertype(self, type_: tree.IntegerType, scope: Scope, hint: Hint, constraints: tuple[ScopedConstraint, ...]) -> Meaning:
         limits = self.limits(constraints, type_, scope)
@@ -297,14 +305,15 @@ class Meanings:
         limits = self.limits(constraints, type_, scope)
         if limits.size.pairs and limits.size.high != float("inf"):
             meaning = meaning.lacking(Feature.NAMED_BITS_SIZE)
-        return meaning.noting(Note.CONSTRAINT) if limits.other else meaning
+        return meaning.noting(Note.CONSTRAINT) if limits.other or not limits.contents.is_all() else meaning
 
     def of_octets(self, type_: tree.SimpleType, scope: Scope, hint: Hint, constraints: tuple[ScopedConstraint, ...]) -> Meaning:
         firsts = frozenset((UNIVERSAL_TAGS["OCTET STRING"],))
         contents = only_contents(constraints)
         if contents and contents.constraint.type is not None:
             return self.checked(self.container(contents, "OctetStringAsn1Container", firsts, hint), type_, scope, constraints)
-        return self.checked(Meaning(library_type(BY_NAME["OCTET STRING"])), type_, scope, constraints)
+        meaning, limits = in_words(Meaning(library_type(BY_NAME["OCTET STRING"])), constraints), self.limits(constraints, type_, scope)
+        return bounded(*listed(self, meaning, type_, scope, hint, limits))
 
     def container(self, contents: ScopedConstraint, name: str, firsts: frozenset[int], hint: Hint) -> Meaning:
         """A string with the encoding of a value in it (X.682, 11). One of another encoding than DER is kept as it is."""
@@ -420,8 +429,9 @@ class Meanings:
         tables = [it for it in constraints if isinstance(it.constraint, tree.TableConstraint)]
         others = tuple(it for it in constraints if not isinstance(it.constraint, tree.TableConstraint))
         if fixed:
-            meaning = self.of_type(*fixed, hint, others)
-            return meaning.noting(Note.CONSTRAINT) if any(self.is_closed(type_, it) for it in tables) else meaning
+            known = tables and closed(self.program, type_, tables[0].constraint, tables[0].scope, scope)
+            meaning = self.of_type(*(known or fixed), hint, others)
+            return meaning.noting(Note.CONSTRAINT) if not known and any(self.is_closed(type_, it) for it in tables) else meaning
         for it in others:
             root = getattr(it.constraint, "root", None)
             if isinstance(root, tree.ContainedSubtype):
@@ -432,8 +442,7 @@ class Meanings:
 
     def objects(self, type_: tree.FieldType, table: ScopedConstraint) -> ObjectSet:
         """The objects of a table constraint (X.682, 10)."""
-        class_ = class_named(self.program, type_.class_name, table.scope)
-        return set_of(self.program, table.constraint.tokens, class_, table.scope)
+        return objects_of(self.program, type_, table.constraint.tokens, table.scope)
 
     def is_closed(self, type_: tree.FieldType, table: ScopedConstraint) -> bool:
         """Whether a table has all objects that there will be."""
@@ -451,7 +460,9 @@ class Meanings:
     # ---- constructed types
 
     def of_structuretype(self, type_: tree.StructureType, scope: Scope, hint: Hint, constraints: tuple[ScopedConstraint, ...]) -> Meaning:
-        return self.checked(structure(self, type_, scope, hint), type_, scope, constraints)
+        table = table_of(self.program, type_, scope)
+        found = table and of_table(self, table, hint, partial(structure, self))
+        return self.checked(found or structure(self, type_, scope, hint), type_, scope, constraints)
 
     def of_choicetype(self, type_: tree.ChoiceType, scope: Scope, hint: Hint, constraints: tuple[ScopedConstraint, ...]) -> Meaning:
         return self.checked(choice(self, type_, scope, hint), type_, scope, constraints)

@@ -361,7 +361,7 @@ class Golden(unittest.TestCase):
 
     def test_each(self):
         names = golden_names()
-        self.assertEqual(12, len(names))
+        self.assertEqual(13, len(names))
         with tempfile.TemporaryDirectory() as there:
             for it in names:
                 with self.subTest(it):

@@ -140,8 +140,12 @@ OWN = [
     ("OCTET STRING (SIZE (1 | 5))", Note.CONSTRAINT),
     ("UTCTime (SIZE (13))", Note.CONSTRAINT),
     ('UTF8String (FROM ("A".."Z"))', Note.ALPHABET),
-    ('IA5String ("a" | "b")', Note.CONSTRAINT),
-    ("BOOLEAN (TRUE)", Note.CONSTRAINT),
+    ('IA5String ("a" | "b")', Note.WITHOUT_TERM),
+    ("BOOLEAN (TRUE)", Note.WITHOUT_TERM),
+    ("OBJECT IDENTIFIER (ALL EXCEPT { 1 2 3 })", Note.WITHOUT_TERM),
+    ("OCTET STRING ('0102'H | ''H)", Note.WITHOUT_TERM),
+    ('PrintableString ("ab") (SIZE (3))', Note.CONSTRAINT),
+    ("CHOICE { a NULL, ... }", Note.WITHOUT_TERM),
     ("OCTET STRING (CONTAINING INTEGER) (SIZE (3))", Note.CONSTRAINT),
     ("SEQUENCE { a NULL OPTIONAL } (WITH COMPONENTS { a PRESENT })", Note.CONSTRAINT),
     ("[APPLICATION 1] IMPLICIT BOOLEAN", Note.CONSTRAINT),
@@ -162,7 +166,7 @@ MISSING = [
     ("SEQUENCE { a ANY OPTIONAL, ... }", Level.WIDER, Feature.EXTENSION),
     ("SET { a NULL, ... }", Level.WIDER, Feature.EXTENSION),
     ("SET { ... }", Level.WIDER, Feature.EXTENSION),
-    ("CHOICE { a NULL, ... }", Level.WIDER, Feature.EXTENSION),
+    ("CHOICE { a CHOICE { b NULL, ... }, c [0] NULL }", Level.WIDER, Feature.EXTENSION),
     (f"SEQUENCE {{ a INTEGER DEFAULT {2**64} }}", Level.WIDER, Feature.DEFAULT_INTEGER),
     ("SEQUENCE { a BIT STRING { x(0) } DEFAULT {} }", Level.WIDER, Feature.DEFAULT_OTHER),
     ("OCTET STRING (CONTAINING INTEGER ENCODED BY { 2 1 1 })", Level.WIDER, Feature.ENCODING),
@@ -221,7 +225,7 @@ class Sets(unittest.TestCase):
 
 class Parts(unittest.TestCase):
     def test_a_type_is_as_good_as_its_parts(self):
-        one = given("T ::= SEQUENCE { a U, b V }\nU ::= ANY\nV ::= CHOICE { a NULL, ... }")
+        one = given("T ::= SEQUENCE { a U, b V }\nU ::= ANY\nV ::= SET { a NULL, ... }")
         self.assertEqual(({Note.OPEN}, {Feature.EXTENSION}), (one.meaning("T").notes, one.meaning("T").features))
         self.assertEqual(Level.WIDER, one.meaning("T").level)
 
@@ -302,7 +306,7 @@ class Parts(unittest.TestCase):
 
     def test_implied_extensibility(self):
         one = given("T ::= SEQUENCE { a NULL }\nU ::= CHOICE { a NULL }", "AUTOMATIC TAGS EXTENSIBILITY IMPLIED")
-        self.assertEqual((frozenset(), {Feature.EXTENSION}), (one.meaning("T").features, one.meaning("U").features))
+        self.assertEqual((frozenset(), {Note.WITHOUT_TERM}), (one.meaning("T").notes, one.meaning("U").notes))
 
 
 class Parameters(unittest.TestCase):
@@ -343,11 +347,29 @@ Only ALGORITHM ::= { { OID { 1 2 3 } PARMS NULL } }
         self.assertEqual((Level.EXACT, frozenset()), (found.level, found.notes))
 
     def test_an_identifier_of_a_closed_set(self):
-        self.assertEqual({Note.CONSTRAINT}, self.meaning("ALGORITHM.&id ({Only})").notes)
+        self.assertEqual({Note.WITHOUT_TERM}, self.meaning("ALGORITHM.&id ({Only})").notes)
 
     def test_a_type_by_a_table(self):
         found = self.meaning("SEQUENCE { a ALGORITHM.&id ({Known}), b ALGORITHM.&Type ({Known}{@a}) OPTIONAL }")
+        self.assertEqual(({Note.WITHOUT_TERM, Note.OPEN}, Level.EXACT), (set(found.notes), found.level))
+        self.assertEqual(["row-1", "other"], [it.name for it in found.rust.choices])
+
+    def test_a_type_by_a_table_where_the_first_byte_has_to_be_known(self):
+        found = self.meaning("SEQUENCE { t SEQUENCE { a ALGORITHM.&id ({Known}), b ALGORITHM.&Type ({Known}{@.a}) } OPTIONAL, n NULL }")
         self.assertEqual(({Feature.OPEN_TABLE}, Level.OPEN), (set(found.features), found.level))
+
+    def test_a_table_without_later_objects(self):
+        """One object alone is a SEQUENCE, and needs no choice."""
+        found = self.meaning("SEQUENCE { a ALGORITHM.&id ({Only}), b ALGORITHM.&Type ({Only}{@a}) }")
+        self.assertEqual((Level.EXACT, {0x30}, ()), (found.level, found.rust.firsts, found.rust.choices))
+
+    def test_a_type_of_an_outer_identifier(self):
+        found = self.meaning("SEQUENCE { a ALGORITHM.&id ({Known}), b SET OF SEQUENCE { c ALGORITHM.&Type ({Known}{@a}), d INTEGER } }")
+        self.assertEqual((Level.EXACT, 2), (found.level, len(found.rust.choices)))
+
+    def test_an_implicit_tag_over_a_table(self):
+        found = self.meaning("[3] IMPLICIT SEQUENCE { a ALGORITHM.&id ({Known}), b ALGORITHM.&Type ({Known}{@a}) OPTIONAL }")
+        self.assertEqual([{0xA3}, {0xA3}], [it.meaning.rust.firsts for it in found.rust.choices])
 
     def test_a_type_without_a_table(self):
         self.assertEqual({Note.OPEN}, self.meaning("ALGORITHM.&Type").notes)
@@ -358,7 +380,7 @@ Only ALGORITHM ::= { { OID { 1 2 3 } PARMS NULL } }
 T ::= AlgorithmIdentifier {{ {{Known}} }}
 U ::= AlgorithmIdentifier {{ {{...}} }}"""
         one = given(body)
-        self.assertEqual(({Feature.OPEN_TABLE}, {Note.OPEN}), (one.meaning("T").features, one.meaning("U").notes))
+        self.assertEqual((2, {Note.OPEN}), (len(one.meaning("T").rust.choices), one.meaning("U").notes))
 
     def test_a_type_that_a_constraint_fixes(self):
         found = self.meaning("TYPE-IDENTIFIER.&Type (INTEGER)")

@@ -96,7 +96,7 @@ class Terms(unittest.TestCase):
         self.check([("SEQUENCE { a NULL, ..., b BOOLEAN, ..., c INTEGER }", wanted)])
         self.check([("SEQUENCE { a NULL, b ANY OPTIONAL, ... }", "wider (SEQUENCE (required NULL ⨾ optional ANY ⨾ later-members-refused))")])
         self.check([("SET { a NULL, ... }", "wider (SET (required NULL ⨾ later-members-refused))")])
-        self.check([("CHOICE { a NULL, ... }", "wider (CHOICE (NULL ∣ later-alternatives-refused))")])
+        self.check([("CHOICE { a NULL, ... }", "one-of (NULL ∣ narrower ANY ∣ none)")])
 
     def test_what_is_kept_as_bytes(self):
         self.check([("CHARACTER STRING", "wider (any-content 0x3D)"), ("SEQUENCE { a T2 }", "SEQUENCE (required (wider ANY) ⨾ end)")])

@@ -1,0 +1,249 @@
+"""Tables of information objects (X.682, 10): a SEQUENCE of which one member says which types others have, as one type for each object."""
+from dataclasses import dataclass, replace
+from typing import TYPE_CHECKING, Callable, Iterator, Optional
+
+from ..parse import tree
+from .contents import content_of
+from .declarations import Hint
+from .objects import InformationObject, ObjectSet, class_named, object_named, set_of
+from .scopes import Binding, Program, Scope, resolve
+from .tagging import fixed_field_type
+from .unions import Choice, union
+from .values import integer_of
+
+if TYPE_CHECKING:
+    from .meaning import Meaning
+    from .types import Meanings
+
+# what rows call what they stand for: no name of a module has such a sign
+_IDENTIFIER, _VALUE, _TYPE = "&identifier", "&value{}", "&type{}"
+_DEPTH = 30
+
+
+@dataclass(frozen=True)
+class Table:
+    """A SEQUENCE or SET with the member that says which object it is, the type of that member, and the objects."""
+
+    type: tree.StructureType
+    scope: Scope
+    member: tree.Member
+    fixed: Binding
+    objects: ObjectSet
+
+
+def objects_of(program: Program, type_: tree.FieldType, tokens: list, scope: Scope) -> ObjectSet:
+    """The objects of a set that a table constraint names."""
+    return set_of(program, tokens, class_named(program, type_.class_name, scope), scope)
+
+
+def table_of(program: Program, type_: tree.StructureType, scope: Scope) -> Optional[Table]:
+    """The table of a SEQUENCE or SET whose own members refer to one of them, or None. All objects are known, with their identifiers."""
+    for it in type_.members:
+        constraint = _constraint(it.type, False) if isinstance(it, tree.Member) else None
+        fixed = constraint and fixed_field_type(program, it.type, scope)
+        if fixed and any(_governed(type_, it)):
+            objects = objects_of(program, it.type, constraint.tokens, scope)
+            found = Table(type_, scope, it, Binding(tree.Argument(it.place, type=fixed[0]), fixed[1]), objects)
+            return found if _is_whole(program, found) else None
+    return None
+
+
+def _constraint(type_: tree.Type, is_governed: bool) -> Optional[tree.TableConstraint]:
+    """The table constraint of a field of a class: one that refers to another member, or one that doesn't."""
+    found = type_.constraints if isinstance(type_, tree.FieldType) else []
+    return next((it for it in found if isinstance(it, tree.TableConstraint) and bool(it.at) is is_governed), None)
+
+
+def _governed(type_: tree.StructureType, member: tree.Member) -> Iterator[tree.FieldType]:
+    """The fields below a SEQUENCE or SET that refer to this member of it."""
+    return (it for it, level in _fields(type_, 0) if _refers(_constraint(it, True), member.name, level))
+
+
+def _refers(constraint: Optional[tree.TableConstraint], name: str, level: int) -> bool:
+    """Whether `{@name}` refers to this member so many levels out (X.682, 10.7): a point is the level of the field itself, and each other one another."""
+    if constraint is None or len(constraint.at) != 1:
+        return False
+    found = constraint.at[0]
+    points = len(found) - len(found.lstrip("."))
+    return found == name or points == level and found.lstrip(".") == name
+
+
+def _fields(type_: tree.Type, level: int) -> Iterator[tuple[tree.FieldType, int]]:
+    """The fields of classes in a type as it is written, each with the number of constructed types around it."""
+    if isinstance(type_, tree.FieldType):
+        yield type_, level
+    elif isinstance(type_, (tree.StructureType, tree.ChoiceType)):
+        for it in type_.members if isinstance(type_, tree.StructureType) else type_.alternatives:
+            yield from _fields(it.type, level + 1)
+    elif isinstance(type_, tree.ListType):
+        yield from _fields(type_.element, level + 1)
+
+
+def _is_whole(program: Program, table: Table) -> bool:
+    """Whether all objects are known, and the identifier of each."""
+    own = table.objects
+    return own.complete and bool(own.objects) and all(_is_known(program, table, it) for it in own.objects)
+
+
+def _is_known(program: Program, table: Table, one: InformationObject) -> bool:
+    """Whether the identifier of an object is a value that a constraint may name."""
+    setting = one.setting(table.member.type.fields[0])
+    if setting is None or setting.value is None:
+        return False
+    base = resolve(program, table.fixed.argument.type, table.fixed.scope)
+    if isinstance(base.type, tree.IntegerType):
+        return integer_of(program, setting.value, one.scope, base.type.named) is not None
+    return content_of(program, setting.value, one.scope, base.type, base.scope) is not None
+
+
+def closed(program: Program, type_: tree.FieldType, constraint: tree.TableConstraint, home: Scope, scope: Scope) -> Optional[tuple[tree.Type, Scope]]:
+    """The type of a field that is the identifier of an object of a table with all objects that there will be, with the scope of its names.
+
+    The names of the table are of `home`. None if the table isn't closed, or if an identifier isn't known.
+    """
+    fixed, objects = fixed_field_type(program, type_, home), objects_of(program, type_, constraint.tokens, home)
+    if fixed is None or objects.extensible:
+        return None
+    member = tree.Member(type_.place, "", type_)
+    table = Table(tree.StructureType(type_.place, tree.Form.SEQUENCE, [member]), scope, member, Binding(tree.Argument(type_.place, type=fixed[0]), fixed[1]), objects)
+    if not _is_whole(program, table):
+        return None
+    built = _Rows(table, tree.Union_(type_.place, _single(table, _values(table))), {}).identified(type_)
+    return replace(built, tags=[]), _scope(table, "closed", 0, _bindings(table))
+
+
+# ---- rows
+
+
+def of_table(meanings: "Meanings", table: Table, hint: Hint, plain: Callable[[tree.StructureType, Scope, Hint], "Meaning"]) -> Optional["Meaning"]:
+    """One of the types of the rows, or the only one. `plain` is the meaning of a SEQUENCE or SET by itself."""
+    rows = [it for it in (_row(meanings.program, table, one, number) for number, one in enumerate(table.objects.objects)) if it]
+    if table.objects.extensible:
+        rows.append(_other_row(table))
+    if not rows:
+        return None
+    if len(rows) == 1:
+        return plain(rows[0].type, rows[0].scope, hint)
+    choices = [Choice(it.name, plain(it.type, it.scope, Hint(f"{hint.text}-{it.name}", root=hint.root, where=hint.where)), it.text) for it in rows]
+    fallback = plain(table.type, table.scope, Hint(f"{hint.text}-any", root=hint.root, where=hint.where))
+    return union(meanings, table.type, table.scope, hint, choices, fallback)
+
+
+@dataclass(frozen=True)
+class Row:
+    """The type of an object of a table, in which names that no module has stand for what the object has."""
+
+    name: str
+    type: tree.StructureType
+    scope: Scope
+    text: str
+
+
+def _row(program: Program, table: Table, one: InformationObject, number: int) -> Optional[Row]:
+    """The row of an object, or None if the object has no type for a member that is always there."""
+    bindings = [(_VALUE.format(number), _bound(table, one)), (_IDENTIFIER, table.fixed)]
+    types = {}
+    for it in _governed(table.type, table.member):
+        key = tuple(it.fields)
+        if key not in types:
+            found = _type_of(program, one, it.fields)
+            types[key] = _TYPE.format(len(types)) if found else None
+            bindings += [(types[key], found)] if found else []
+    chosen = [_VALUE.format(number)]
+    built = _Rows(table, tree.Union_(table.member.place, _single(table, chosen)), types).structure(table.type, 0)
+    if built is None:
+        return None
+    name = one.name or f"row-{number + 1}"
+    return Row(name, built, _scope(table, name, number, bindings), f"{table.member.name} {name}")
+
+
+def _other_row(table: Table) -> Row:
+    """The row of every other identifier, in which each open type is any element."""
+    element = tree.Except(table.member.place, None, tree.Union_(table.member.place, _single(table, _values(table))))
+    built = _Rows(table, element, None).structure(table.type, 0)
+    scope = _scope(table, "other", len(table.objects.objects), _bindings(table))
+    return Row("other", built, scope, f"{table.member.name} of no object of the table")
+
+
+def _values(table: Table) -> list[str]:
+    """The names of the identifiers of all objects."""
+    return [_VALUE.format(number) for number in range(len(table.objects.objects))]
+
+
+def _bindings(table: Table) -> list[tuple[str, Binding]]:
+    """What stands for the identifiers of all objects, and for their type."""
+    return [*zip(_values(table), (_bound(table, it) for it in table.objects.objects)), (_IDENTIFIER, table.fixed)]
+
+
+def _scope(table: Table, name: str, number: int, bindings: list) -> Scope:
+    """The scope of the names in a row."""
+    key = (*table.scope.key, str(table.type.place), name, number)
+    return Scope(table.scope.module, key, (*bindings, *table.scope.bindings))
+
+
+def _bound(table: Table, one: InformationObject) -> Binding:
+    """The identifier of an object."""
+    return Binding(tree.Argument(table.member.place, value=one.setting(table.member.type.fields[0]).value), one.scope)
+
+
+def _single(table: Table, names: list[str]) -> list[tree.Element]:
+    """Single values by these names."""
+    return [tree.SingleValue(table.member.place, tree.NamedValue(table.member.place, it)) for it in names]
+
+
+def _type_of(program: Program, one: InformationObject, fields: list[str], depth: int = 0) -> Optional[Binding]:
+    """The type that an object has for a field, or for a field of an object that it has."""
+    setting = one.setting(fields[0])
+    if setting is None or depth > _DEPTH:
+        return None
+    if len(fields) == 1:
+        return setting.type and Binding(tree.Argument(setting.type.place, type=setting.type), one.scope)
+    value = setting.value
+    inner = object_named(program, value.name, one.scope) if isinstance(value, tree.NamedValue) else None
+    return inner and _type_of(program, inner, fields[1:], depth + 1)
+
+
+@dataclass(frozen=True)
+class _Rows:
+    """Makes the type of a row: with this constraint of the identifier, and these types by the fields of the class, or any type for all fields."""
+
+    table: Table
+    identifier: tree.Element
+    types: Optional[dict]
+
+    def structure(self, type_: tree.StructureType, level: int) -> Optional[tree.StructureType]:
+        """A SEQUENCE or SET of a row, or None if a member has no type that is always there."""
+        members = []
+        for it in type_.members:
+            if it is self.table.member:
+                it = replace(it, type=self.identified(it.type))
+            elif isinstance(it, tree.Member):
+                inner = self.type(it.type, level + 1)
+                if inner is None and it.presence is tree.Presence.REQUIRED and it.group is None:
+                    return None
+                it = inner and replace(it, type=inner)
+            members += [it] if it else []
+        return replace(type_, members=members)
+
+    def identified(self, type_: tree.FieldType) -> tree.Type:
+        """The type of the identifier."""
+        constraint = tree.ElementSet(type_.place, self.identifier)
+        return tree.ReferenceType(type_.place, _IDENTIFIER, tags=type_.tags, constraints=[constraint], text=type_.text)
+
+    def type(self, type_: tree.Type, level: int) -> Optional[tree.Type]:
+        """A type of a row. None if it, or what is always there in it, is of a field that the object lacks."""
+        if isinstance(type_, tree.StructureType):
+            return self.structure(type_, level)
+        if isinstance(type_, tree.ChoiceType):
+            found = [(it, self.type(it.type, level + 1)) for it in type_.alternatives]
+            return replace(type_, alternatives=[replace(it, type=inner) for it, inner in found if inner])
+        if isinstance(type_, tree.ListType):
+            inner = self.type(type_.element, level + 1)
+            return inner and replace(type_, element=inner)
+        if not isinstance(type_, tree.FieldType) or not _refers(_constraint(type_, True), self.table.member.name, level):
+            return type_
+        if self.types is None:
+            return tree.AnyType(type_.place, tags=type_.tags, text=type_.text)
+        name = self.types[tuple(type_.fields)]
+        others = [it for it in type_.constraints if not isinstance(it, tree.TableConstraint)]
+        return name and tree.ReferenceType(type_.place, name, tags=type_.tags, constraints=others, text=type_.text)
