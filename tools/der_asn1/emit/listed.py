@@ -13,7 +13,7 @@ from .values import value_lines
 # the file of the terms of all listed values
 LISTED_FILE = "Listed"
 _TWO, _FOUR = STEP * 2, STEP * 4
-_TRUTH = "tree_truth"
+_TRUTH, _RAW = "tree_truth", "raw_bytes"
 _PRELUDE_ORDER = ["ℕ", "Bool", "false", "not", "◌||◌", "nat_eq", "List", "[]", "◌∷◌"]
 _TERMS_WIDTH = 120
 
@@ -30,9 +30,10 @@ def is_element(declared: ListedDeclaration) -> bool:
 
 def known(declared: ListedDeclaration, crate: str) -> tuple[str, str, dict[str, set[str]]]:
     """The proof that the encoding alone decides the test, as `determined` has it."""
-    if not is_boolean(declared):
+    if not is_boolean(declared) and not is_element(declared):
         return determined(declared)
-    return f"(λ t. {declared.function} ({_TRUTH} t))", "e", {home(crate): {_TRUTH}}
+    of_tree = _TRUTH if is_boolean(declared) else _RAW
+    return f"(λ t. {declared.function} ({of_tree} t))", "e", {home(crate): {of_tree}}
 
 
 def home(crate: str) -> str:
@@ -141,16 +142,19 @@ def is_true(declared: ListedDeclaration) -> bool:
 def listed_terms(types: list[ListedDeclaration]) -> list[str]:
     """The lines of the file of terms, after its first one."""
     body = [line for it in types for line in ["", *terms_of(it)]]
-    truth = any(map(is_boolean, types))
+    truth, raw = any(map(is_boolean, types)), any(map(is_element, types))
     used = " ".join(it for it in body if not it.startswith("--"))
-    names = [it for it in _PRELUDE_ORDER if it.replace("◌", "") in used or it == "false" and truth]
+    names = [it for it in _PRELUDE_ORDER if it.replace("◌", "") in used or it == "false" and truth or it in ("List", "ℕ", "[]") and raw]
     lines = ["-- The contents of listed values, which their contracts cite.", f"use {PRELUDE}.{{{', '.join(names)}}}"]
     if "pointwise" in used:
         lines.append("use Rattle.std.specs.Cmp.Lexicographic.{pointwise}")
     if "begins_outside" in used:
         lines.append("use Rattle.picky_der_core.specs.Shape.{begins_outside}")
+    lines += ["use Rattle.picky_der_core.specs.Primitive.{Primitive}"] if truth else []
+    lines += ["use Rattle.picky_der_core.specs.Tree.{Tree}"] if truth or raw else []
+    if raw:
+        lines += ["", "-- the bytes of any element by its tree", f"abbrev pub {_RAW} : Tree → List ℕ", f"{_RAW} (Tree.raw s) = s", f"{_RAW} _ = []"]
     if truth:
-        lines += ["use Rattle.picky_der_core.specs.Primitive.{Primitive}", "use Rattle.picky_der_core.specs.Tree.{Tree}"]
         lines += ["", "-- what a BOOLEAN is by its tree", f"abbrev pub {_TRUTH} : Tree → Bool"]
         lines += [f"{_TRUTH} (Tree.primitive (Primitive.boolean b)) = b", f"{_TRUTH} _ = false"]
     return [*lines, *body]

@@ -16,6 +16,7 @@ from .features import Feature, Level, Note
 from .library import Core, Rust, any_element, tagged_bytes, without_values
 from .library_table import BY_NAME, UNIVERSAL_TAGS, LibraryType
 from .listed import listed
+from .inner import inner_types
 from .intervals import NATURAL
 from .meaning import Meaning, lacks
 from .members import selected
@@ -30,7 +31,7 @@ from .tables import closed, objects_of, of_table, table_of
 from .tagging import default_mode, effective_mode, first_bytes, fixed_field_type
 from .tags import wrapped
 from .terms import Term, tagged
-from .unions import tagged_union
+from .unions import Choice, tagged_union, union
 from .values import arcs_of, integer_of
 
 # EXTERNAL and INSTANCE OF as the sequences that they are encoded as (X.690, 8.18; X.681, C.7)
@@ -345,12 +346,13 @@ class Meanings:
         named = Found(found.assignment, target.scope)
         if not constraints:
             return self.of_found(named, target.type)
-        return self.constrained_reference(named, target, constraints, hint.where)
+        return self.constrained_reference(named, target, constraints, hint)
 
-    def constrained_reference(self, found: Found, target: Resolved, constraints: tuple[ScopedConstraint, ...], where: Optional[Where]) -> Meaning:
+    def constrained_reference(self, found: Found, target: Resolved, constraints: tuple[ScopedConstraint, ...], hint: Hint) -> Meaning:
         """A name with constraints after it: what the name stands for, with them."""
         base = resolve(self.program, target.type, target.scope)
-        if isinstance(base.type, (tree.StructureType, tree.ChoiceType)):
+        is_inner = base.type is not None and inner_types(self.program, base.type, base.scope, constraints)
+        if isinstance(base.type, (tree.StructureType, tree.ChoiceType)) and not is_inner:
             return self.checked(self.of_found(found, target.type), base.type, base.scope, constraints)
         plain = (*target.scope.key, found.assignment.name)
         if self.busy:
@@ -361,8 +363,9 @@ class Meanings:
         self.checks.assignment(found)
         self.busy.append(key)
         try:
-            hint = Hint(found.assignment.name + self.depth_suffix(), root=found.assignment.name, where=where)
-            return self.of_type(target.type, target.scope, hint, constraints)
+            text = f"{hint.text}-members" if hint.key else hint.text
+            own = Hint(text if is_inner else found.assignment.name + self.depth_suffix(), root=hint.root if is_inner else found.assignment.name, where=hint.where)
+            return self.of_type(target.type, target.scope, own, constraints)
         finally:
             self.busy.pop()
 
@@ -460,15 +463,38 @@ class Meanings:
     # ---- constructed types
 
     def of_structuretype(self, type_: tree.StructureType, scope: Scope, hint: Hint, constraints: tuple[ScopedConstraint, ...]) -> Meaning:
+        return self.inner(type_, scope, hint, constraints) or self.checked(self.structure(type_, scope, hint), type_, scope, constraints)
+
+    def structure(self, type_: tree.StructureType, scope: Scope, hint: Hint) -> Meaning:
+        """A SEQUENCE or SET, which may have a table."""
         table = table_of(self.program, type_, scope)
         found = table and of_table(self, table, hint, partial(structure, self))
-        return self.checked(found or structure(self, type_, scope, hint), type_, scope, constraints)
+        return found or structure(self, type_, scope, hint)
+
+    def inner(self, type_: tree.Type, scope: Scope, hint: Hint, constraints: tuple[ScopedConstraint, ...]) -> Optional[Meaning]:
+        """The type that inner subtyping leaves of a SEQUENCE, SET or CHOICE, or one of several. None if there is none."""
+        found = inner_types(self.program, type_, scope, constraints)
+        if found is None:
+            return None
+        plain = self.structure if isinstance(type_, tree.StructureType) else partial(choice, self)
+        if len(found.types) == 1:
+            return self.checked(plain(found.types[0], scope, hint), type_, scope, found.others)
+        choices = []
+        for number, it in enumerate(found.types, 1):
+            part = Hint(f"{hint.text}-form-{number}", root=hint.root, where=hint.where)
+            choices.append(Choice(f"form-{number}", plain(it, replace(scope, key=(*scope.key, str(type_.place), number)), part), f"the part {number} of the constraint"))
+        fallback = plain(replace(type_, constraints=[]), scope, Hint(f"{hint.text}-any", root=hint.root, where=hint.where)).noting(Note.CONSTRAINT)
+        meaning = union(self, type_, scope, hint, choices, fallback)
+        return meaning and self.checked(meaning, type_, scope, found.others)
 
     def of_choicetype(self, type_: tree.ChoiceType, scope: Scope, hint: Hint, constraints: tuple[ScopedConstraint, ...]) -> Meaning:
-        return self.checked(choice(self, type_, scope, hint), type_, scope, constraints)
+        return self.inner(type_, scope, hint, constraints) or self.checked(choice(self, type_, scope, hint), type_, scope, constraints)
 
     def of_listtype(self, type_: tree.ListType, scope: Scope, hint: Hint, constraints: tuple[ScopedConstraint, ...]) -> Meaning:
         """SEQUENCE OF and SET OF (X.680, 26 and 28)."""
+        left = inner_types(self.program, type_, scope, constraints)
+        if left and len(left.types) == 1:
+            type_, constraints = left.types[0], left.others
         element = self.of_type(type_.element, scope, hint.part("item"))
         firsts = frozenset((UNIVERSAL_TAGS[type_.form.value],))
         if element.rust is None:

@@ -55,7 +55,7 @@ class Terms(unittest.TestCase):
         self.check([("[APPLICATION 1] OCTET STRING", "APPLICATION 1 TAGS-M OCTET-STRING")], "IMPLICIT TAGS")
 
     def test_a_tag_over_a_set_with_a_constraint(self):
-        one = given("T ::= [1] IMPLICIT S (WITH COMPONENTS { a PRESENT })\nS ::= SET { a NULL OPTIONAL }")
+        one = given("T ::= [1] IMPLICIT S (WITH COMPONENTS { a ABSENT })\nS ::= SET { a NULL }")
         self.assertEqual("ImplicitSet<SMembers, 0xA1>", str(one.meanings.declarations.by_name[one.meaning("T").rust.text].type))
 
     def test_a_tag_over_a_string_of_which_the_library_has_only_bytes(self):
