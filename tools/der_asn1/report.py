@@ -55,10 +55,17 @@ class Report:
         return [it for it in self.modules if id(it) not in others and it.path not in self.wrong]
 
 
-def report_of(modules: list[tree.Module], problems: Problems, imported: Iterable[tree.Module] = (), depth: int = DEPTH) -> Report:
+def report_of(
+    modules: list[tree.Module],
+    problems: Problems,
+    imported: Iterable[tree.Module] = (),
+    depth: int = DEPTH,
+    optional_defaults: bool = False,
+) -> Report:
     """The report of modules that see each other, and those that are imported from."""
     program = identified(Program(modules, problems, imported))
-    meanings, checks = Meanings(program, recursion=recursion_in(program, depth)), ModuleChecks(program)
+    meanings = Meanings(program, recursion=recursion_in(program, depth), optional_defaults=optional_defaults)
+    checks = ModuleChecks(program)
     found = Report(modules=list(modules))
     for module in modules:
         checks.module(module)

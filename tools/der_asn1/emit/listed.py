@@ -8,12 +8,19 @@ from .imports import PRELUDE, Uses
 from .layout import STEP, WIDTH, comment
 from .newtype import notated_impl
 from .tested import tested_impls, tested_uses
+from .union import element_notation, equal_impl
 from .values import value_lines
 
 # the file of the terms of all listed values
 LISTED_FILE = "Listed"
 _TWO, _FOUR = STEP * 2, STEP * 4
 _TRUTH, _RAW = "tree_truth", "raw_bytes"
+_OF_ENCODED = {
+    "Rattle.std.proofs.Common": {"rules"},
+    "Rattle.std.specs.Cmp.Rules": {"comparing"},
+    "Rattle.std.specs.Ordering": {"on"},
+    "Rattle.der_types.specs.Notation": {"Notation"},
+}
 _PRELUDE_ORDER = ["ℕ", "Bool", "false", "not", "◌||◌", "nat_eq", "List", "[]", "◌∷◌"]
 _TERMS_WIDTH = 120
 
@@ -28,9 +35,14 @@ def is_element(declared: ListedDeclaration) -> bool:
     return declared.type.name == "Asn1RawDer"
 
 
+def is_encoded(declared: ListedDeclaration) -> bool:
+    """Whether the type inside is a value with its encoding, which isn't the listed one."""
+    return declared.type.name == "Encoded"
+
+
 def known(declared: ListedDeclaration, crate: str) -> tuple[str, str, dict[str, set[str]]]:
     """The proof that the encoding alone decides the test, as `determined` has it."""
-    if not is_boolean(declared) and not is_element(declared):
+    if not is_boolean(declared) and not is_element(declared) and not is_encoded(declared):
         return determined(declared)
     of_tree = _TRUTH if is_boolean(declared) else _RAW
     return f"(λ t. {declared.function} ({of_tree} t))", "e", {home(crate): {of_tree}}
@@ -46,20 +58,18 @@ def listed_uses(declared: ListedDeclaration, crate: str) -> Uses:
     found = tested_uses(declared, known(declared, crate))
     words = {"string_bytes"} if "string_bytes" in declared.test else set()
     found.add(Uses({"Notated"}, terms={home(crate): {declared.function}, PRELUDE: {"◌≡◌", "true", "refl", *words}}))
+    if is_encoded(declared):
+        found.add(Uses({"Asn1RawDer"}, terms={home: set(names) for home, names in _OF_ENCODED.items()}))
     return found
 
 
 def listed_lines(declared: ListedDeclaration, crate: str) -> list[str]:
     """The items of a type of listed values."""
-    return [
-        *definition(declared),
-        "",
-        *function(declared),
-        "",
-        *tested_impls(declared, known(declared, crate)),
-        "",
-        *notated_impl(declared),
-    ]
+    head = [*definition(declared), "", *function(declared), "", *tested_impls(declared, known(declared, crate))]
+    if not is_encoded(declared):
+        return [*head, "", *notated_impl(declared)]
+    begins = [it.replace(f"<{declared.type} as Begins>", "<Asn1RawDer as Begins>") for it in head]
+    return [*begins, "", *equal_impl(declared.name, f"(λ it. it.{PART}.encoding)", f"{PART}.encoding()"), "", *element_notation(declared.name)]
 
 
 def definition(declared: ListedDeclaration) -> list[str]:
@@ -73,7 +83,7 @@ def definition(declared: ListedDeclaration) -> list[str]:
     lines += difference_note(declared)
     return [
         *lines,
-        "#[derive(Debug, Drop, PartialEq, Eq)]",
+        "#[derive(Debug, Drop)]" if is_encoded(declared) else "#[derive(Debug, Drop, PartialEq, Eq)]",
         f"pub struct {declared.name} {{",
         f"{STEP}{PART}: {declared.type},",
         f"{STEP}ghost {declared.ghost}: {{ {declared.test} ≡ true }},",
@@ -142,7 +152,7 @@ def is_true(declared: ListedDeclaration) -> bool:
 def listed_terms(types: list[ListedDeclaration]) -> list[str]:
     """The lines of the file of terms, after its first one."""
     body = [line for it in types for line in ["", *terms_of(it)]]
-    truth, raw = any(map(is_boolean, types)), any(map(is_element, types))
+    truth, raw = any(map(is_boolean, types)), any(is_element(it) or is_encoded(it) for it in types)
     used = " ".join(it for it in body if not it.startswith("--"))
     names = [it for it in _PRELUDE_ORDER if it.replace("◌", "") in used or it == "false" and truth or it in ("List", "ℕ", "[]") and raw]
     lines = ["-- The contents of listed values, which their contracts cite.", f"use {PRELUDE}.{{{', '.join(names)}}}"]

@@ -29,6 +29,10 @@ _OWN_WORDS = {
 -- the type has those values alone that the text says
 abbrev pub narrower : Notation → Notation
 narrower t = t""",
+    "encoded": """
+-- the element that a value of this type is, which is read as any element is
+abbrev pub encoded : Notation → Notation
+encoded t = ANY""",
     "one-of": """
 -- one of these, which the whole element says and its first byte doesn't: the type is read as any element is
 abbrev pub one-of : Alternatives → Notation

@@ -6,7 +6,7 @@ called after their places. A word of terms that has no notation becomes this:
 | Term | Notation |
 |---|---|
 | `wider t`, `narrower t` | `t (CONSTRAINED BY {})` |
-| `one-of ts` | `ANY (CONSTRAINED BY {})` |
+| `one-of ts`, `encoded t` | `ANY (CONSTRAINED BY {})` |
 | `default-as-optional t` | `t DEFAULT {}` |
 | `added t` | a member after `...` |
 | `any-content b` | OCTET STRING under the tag of this byte |
@@ -137,7 +137,7 @@ class _Printer:
     def type(self, term: Applied) -> str:
         """A term as a type."""
         word, given = term.word, term.arguments
-        if word == "one-of":
+        if word in ("one-of", "encoded"):
             return "ANY (CONSTRAINED BY {})"
         if word in ("wider", "narrower"):
             return f"{self.type(given[0])} (CONSTRAINED BY {{}})"

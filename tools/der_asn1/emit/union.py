@@ -78,8 +78,18 @@ def union_uses(declared: UnionDeclaration) -> Uses:
 
 def union_lines(declared: UnionDeclaration, home: str) -> list[str]:
     """The items of such a type. `home` is the module of terms of the types of its file."""
-    impls = [own_impl, equal_impl, serialize_impl, lambda it: try_via_impl(it, home), deserialize_impl, begins_impl, notated_impl, faithful_impl]
-    return [*definition(declared), *(line for it in impls for line in ["", *it(declared)])]
+    items = [
+        definition(declared),
+        own_impl(declared),
+        equal_impl(declared.name, parts(declared), "encoding()"),
+        serialize_impl(declared),
+        try_via_impl(declared, home),
+        deserialize_impl(declared),
+        begins_impl(declared),
+        element_notation(declared.name),
+        faithful_impl(declared),
+    ]
+    return [line for number, it in enumerate(items) for line in ([""] if number else []) + it]
 
 
 def definition(declared: UnionDeclaration) -> list[str]:
@@ -110,20 +120,20 @@ def own_impl(declared: UnionDeclaration) -> list[str]:
     ]
 
 
-def equal_impl(declared: UnionDeclaration) -> list[str]:
-    """Two are equal exactly if their elements are."""
+def equal_impl(name: str, part: str, element: str) -> list[str]:
+    """Two are equal exactly if their elements are, which are this term, and this in code."""
     return [
-        f"impl PartialEq for {declared.name} {{",
-        f"{STEP}ghost eq = {{ on {parts(declared)} {of_element('PartialEq', 'eq')} }};",
+        f"impl PartialEq for {name} {{",
+        f"{STEP}ghost eq = {{ on {part} {of_element('PartialEq', 'eq')} }};",
         "",
         f"{STEP}ghost laws = {{ Prim.search (comparing, rules) }};",
         "",
-        f"{STEP}fn eq(&self, other: &{declared.name}) -> bool {{",
-        f"{_TWO}self.encoding() == other.encoding()",
+        f"{STEP}fn eq(&self, other: &{name}) -> bool {{",
+        f"{_TWO}self.{element} == other.{element}",
         f"{STEP}}}",
         "}",
         "",
-        f"impl Eq for {declared.name} {{",
+        f"impl Eq for {name} {{",
         f"{STEP}ghost laws = {{ Prim.search (comparing, rules) }};",
         "}",
     ]
@@ -196,10 +206,10 @@ def begins_impl(declared: UnionDeclaration) -> list[str]:
     ]
 
 
-def notated_impl(declared: UnionDeclaration) -> list[str]:
+def element_notation(name: str) -> list[str]:
     """The implementation of `Notated`: any element, since the terms of the library don't say more."""
     return [
-        f"impl Notated for {declared.name} {{",
+        f"impl Notated for {name} {{",
         f"{STEP}ghost notation = {{ Notation.any-element }};",
         "",
         f"{STEP}ghost denoted = {{ refl }};",

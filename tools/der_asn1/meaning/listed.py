@@ -1,6 +1,6 @@
 """Single values as constraints (X.680, 51.2): a struct round those values of another type that have listed contents, or others."""
 from dataclasses import dataclass, replace
-from typing import TYPE_CHECKING, Optional
+from typing import TYPE_CHECKING
 
 from ..parse import tree
 from .contents import ANY_CONTENT, Contents
@@ -36,6 +36,7 @@ _STRING = Access(f"{PART}.as_bytes()", f"{PART}.content.items")
 _ACCESSES = {
     "bool": _BOOLEAN,
     "Asn1RawDer": Access(f"{PART}.0.first()", f"{PART}.0.items"),
+    "Encoded": Access(f"{PART}.encoding().0.as_slice()", f"{PART}.encoding.0.items"),
     "ObjectIdentifier": Access(f"{PART}.content()", f"{PART}.content.items"),
     "ByteBuf": Access(f"{PART}.0.as_slice()", f"{PART}.0.items"),
     "String": Access(f"{PART}.as_bytes()", f"(string_bytes {PART})"),
@@ -45,6 +46,10 @@ _ACCESSES = {
         _STRING,
     ),
 }
+
+
+# the types of the library whose contents may be listed, or other ones
+ACCESSED = frozenset(_ACCESSES) - {"Asn1RawDer", "Encoded"}
 
 
 def access_of(declared: ListedDeclaration) -> Access:
@@ -60,7 +65,7 @@ def narrower(term: Term) -> Term:
 def listed(meanings: "Meanings", meaning: Meaning, type_: tree.Type, scope: Scope, hint: Hint, limits: Limits) -> tuple[Meaning, Limits]:
     """The type of the values with listed contents, which is declared, and the limits that are left then."""
     rust, contents = meaning.rust, limits.contents
-    if contents.is_all() or rust is None or rust.own or rust.bounded or rust.core is Core.ELEMENT or rust.text not in _ACCESSES:
+    if contents.is_all() or rust is None or rust.own or rust.bounded or rust.text not in ACCESSED:
         return meaning, limits
     if not contents.is_other and limits.alphabet == NATURAL:
         contents = Contents(frozenset(it for it in contents.listed if _fits(it, limits, rust)), False)
@@ -87,10 +92,3 @@ def declared_list(meanings: "Meanings", meaning: Meaning, type_: tree.Type, scop
     declared.test = f"{declared.function} {access_of(declared).clause}"
     is_open = rust.core is Core.ELEMENT
     return found.as_(Rust(of(name), Core.OWN, rust.firsts, inner=rust, is_open=is_open, term=narrower(rust.term)))
-
-
-def excluded(meanings: "Meanings", rust: Rust, type_: tree.Type, scope: Scope, hint: Hint, content: bytes) -> Optional[Meaning]:
-    """The type of all values but the one with this content, or None if it can't be declared."""
-    if rust.own or rust.bounded or rust.text not in _ACCESSES:
-        return None
-    return declared_list(meanings, Meaning(rust), type_, scope, hint, Contents(frozenset((content,))))

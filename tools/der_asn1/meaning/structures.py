@@ -29,10 +29,11 @@ LATER, LATER_AUTOMATIC, NO_LATER = "later-members", "later-members-automatic", "
 
 @dataclass(frozen=True)
 class Part:
-    """A member or an alternative with its meaning."""
+    """A member or an alternative with its meaning, and the default of a member of a struct."""
 
     resolved: ResolvedMember
     meaning: Meaning
+    default: Optional["Default"] = None
 
     @property
     def firsts(self) -> frozenset[int]:
@@ -87,9 +88,12 @@ def structure(meanings: "Meanings", type_: tree.StructureType, scope: Scope, hin
     clash = first_clash(meanings, parts, type_.form)
     if clash:
         return _raw(tagged_bytes(first), parts, *ambiguity(parts)).placed(of_part(hint, clash))
+    is_open = is_extensible(type_, scope)
+    defaults = {it.name: default_of(meanings, it, hint.part(it.name), it is parts[-1] and not is_open) for it in parts}
+    parts, written = [[replace(it, default=defaults[it.name]) for it in found] for found in (parts, written)]
     found = declared_struct(meanings, type_, scope, hint, parts)
     end = last_word(type_, scope, parts)
-    return found.called(structure_term(meanings, type_, written, end, (found.rust.inner or found.rust).text))
+    return found.called(structure_term(type_, written, end, (found.rust.inner or found.rust).text))
 
 
 def included(meanings: "Meanings", type_: tree.StructureType, scope: Scope, hint: Hint) -> list[Part]:
@@ -115,9 +119,8 @@ def declared_struct(meanings: "Meanings", type_: tree.StructureType, scope: Scop
         return _raw(tagged_bytes(UNIVERSAL_TAGS[type_.form.value]), parts, Feature.MANY_MEMBERS)
     fields = []
     for it in parts:
-        default = default_of(meanings, it)
-        found = found.lacking(*default.features).noting(*default.notes).placed(of_part(hint, it))
-        fields.append(field_of(it, default))
+        found = found.lacking(*it.default.features).noting(*it.default.notes).placed(of_part(hint, it))
+        fields.append(field_of(it, it.default))
     end = last_word(type_, scope, parts)
     later = later_field(parts, fields, end) if end in (LATER, LATER_AUTOMATIC) else None
     if end == NO_LATER:
@@ -131,9 +134,9 @@ def declared_struct(meanings: "Meanings", type_: tree.StructureType, scope: Scop
     return found.as_(Rust(of("Asn1Set", record.type), Core.SET, frozenset((UNIVERSAL_TAGS["SET"],)), record) if is_set else record)
 
 
-def structure_term(meanings: "Meanings", type_: tree.StructureType, parts: list[Part], end: str, name: str) -> Term:
+def structure_term(type_: tree.StructureType, parts: list[Part], end: str, name: str) -> Term:
     """The term of a SEQUENCE or SET, its members in the order of the text, with the name of its struct."""
-    items = tuple(TermItem(item_text(it), presence_word(meanings, it), it.meaning.rust.term) for it in parts)
+    items = tuple(TermItem(item_text(it), presence_word(it), it.default.term or it.meaning.rust.term) for it in parts)
     return Term(type_.form.value, items=items, end=end, name=name)
 
 
@@ -173,11 +176,11 @@ def item_text(part: Part) -> str:
     return f"{part.name} {part.resolved.member.text}"
 
 
-def presence_word(meanings: "Meanings", part: Part) -> str:
+def presence_word(part: Part) -> str:
     """How a member is there."""
     member = part.resolved.member
     if member.presence is tree.Presence.DEFAULT:
-        return default_of(meanings, part).word
+        return part.default.word
     if member.presence is tree.Presence.OPTIONAL:
         return "optional"
     return "required" if member.group is None else "added"
@@ -352,8 +355,8 @@ def tag_key(first: int) -> tuple[int, int]:
 class Default:
     """The type of the library that says a default, or what is missing for it.
 
-    `others` is the type of the values that aren't the default, where the library has no value of it without memory, and `word` is how
-    the member is there in a term.
+    `others` is the type of the values that aren't the default, where the library has no value of it without memory. `word` is how the member is
+    there in a term, and `term` what it is then, if that isn't its type.
     """
 
     type: Optional[RustType] = None
@@ -361,10 +364,11 @@ class Default:
     word: str = "default-as-optional"
     features: tuple = ()
     notes: tuple = ()
+    term: Optional[Term] = None
 
 
-def default_of(meanings: "Meanings", part: Part) -> Default:
-    """The default of a member. It may be one of its own; or else the member is read as OPTIONAL is."""
+def default_of(meanings: "Meanings", part: Part, hint: Hint, is_last: bool) -> Default:
+    """The default of a member. It may be one of its own; or else the member is read as OPTIONAL is. `is_last` says that no member comes after it."""
     member, scope = part.resolved.member, part.resolved.scope
     if member.presence is not tree.Presence.DEFAULT:
         return Default()
@@ -383,7 +387,7 @@ def default_of(meanings: "Meanings", part: Part) -> Default:
         return Default(of("True" if value.truth else "False"), word="default TRUE" if value.truth else "default FALSE")
     if rust.own and rust.core is Core.CONTENTS and not rust.bounded:
         return Default(notes=(Note.DEFAULT,))
-    return Default(features=(Feature.DEFAULT_OTHER,))
+    return meanings.other_values(part, hint, is_last) or Default(features=(Feature.DEFAULT_OTHER,))
 
 
 @dataclass(frozen=True)

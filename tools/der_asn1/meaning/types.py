@@ -11,6 +11,7 @@ from .causes import Cause, Where, counts
 from .character_sets import has_all, own_set
 from .checks import Checks
 from .declarations import AliasDeclaration, Declaration, Declarations, Hint, NewtypeDeclaration
+from .defaults import other_values
 from .extensible import choice
 from .features import Feature, Level, Note
 from .library import Core, Rust, any_element, tagged_bytes, without_values
@@ -25,7 +26,7 @@ from . import recursion as recursive
 from .recursion import NONE, Recursion, recursion_of
 from .rust_types import UNIT, of
 from .scopes import BUILT_IN_ANY, Binding, Found, Program, Resolved, Scope, resolve, target_of
-from .structures import enumeration, named_integer, structure
+from .structures import Default, Part, enumeration, named_integer, structure
 from .subtypes import Limits, Reader, ScopedConstraint, only_contents
 from .tables import closed, objects_of, of_table, table_of
 from .tagging import default_mode, effective_mode, first_bytes, fixed_field_type
@@ -113,8 +114,16 @@ def alias(name: str, found: Found, type_: tree.Type, meaning: Meaning, kind: typ
 class Meanings:
     """The meanings of the types of a program. Each assignment is worked out once."""
 
-    def __init__(self, program: Program, declarations: Optional[Declarations] = None, distinct: Iterable[str] = (), recursion: Recursion = NONE) -> None:
+    def __init__(
+        self,
+        program: Program,
+        declarations: Optional[Declarations] = None,
+        distinct: Iterable[str] = (),
+        recursion: Recursion = NONE,
+        optional_defaults: bool = False,
+    ) -> None:
         self.program, self.recursion = program, recursion
+        self.optional_defaults = optional_defaults  # whether a default that the library has no type for is as if the member were OPTIONAL
         self.level: Optional[recursive.Level] = None  # where the type is that is being worked out
         self.edges: dict[tuple, set[tuple]] = {}  # which assignments each names
         self.distinct = frozenset(distinct)  # the names of types that are structs of their own, in place of names of others
@@ -486,6 +495,10 @@ class Meanings:
         fallback = plain(replace(type_, constraints=[]), scope, Hint(f"{hint.text}-any", root=hint.root, where=hint.where)).noting(Note.CONSTRAINT)
         meaning = union(self, type_, scope, hint, choices, fallback)
         return meaning and self.checked(meaning, type_, scope, found.others)
+
+    def other_values(self, part: Part, hint: Hint, is_last: bool) -> Optional[Default]:
+        """The type of all values of a member but its default, or None."""
+        return None if self.optional_defaults else other_values(self, part, hint, is_last)
 
     def of_choicetype(self, type_: tree.ChoiceType, scope: Scope, hint: Hint, constraints: tuple[ScopedConstraint, ...]) -> Meaning:
         return self.inner(type_, scope, hint, constraints) or self.checked(choice(self, type_, scope, hint), type_, scope, constraints)

@@ -170,7 +170,7 @@ MISSING = [
     ("SET { ... }", Level.WIDER, Feature.EXTENSION),
     ("CHOICE { a CHOICE { b NULL, ... }, c [0] NULL }", Level.WIDER, Feature.EXTENSION),
     (f"SEQUENCE {{ a INTEGER DEFAULT {2**64} }}", Level.WIDER, Feature.DEFAULT_INTEGER),
-    ("SEQUENCE { a BIT STRING { x(0) } DEFAULT {} }", Level.WIDER, Feature.DEFAULT_OTHER),
+    ("SEQUENCE { a BIT STRING { x(0) } DEFAULT {}, b NULL }", Level.WIDER, Feature.DEFAULT_OTHER),
     ("OCTET STRING (CONTAINING INTEGER ENCODED BY { 2 1 1 })", Level.WIDER, Feature.ENCODING),
     ("BIT STRING { a(0) } (SIZE (1..9))", Level.WIDER, Feature.NAMED_BITS_SIZE),
     ("INTEGER (0..missing)", Level.WIDER, Feature.UNKNOWN_BOUND),
