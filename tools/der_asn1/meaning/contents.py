@@ -36,6 +36,10 @@ class Contents:
         """The contents of either set."""
         return self.complement().both(more.complement()).complement()
 
+    def has(self, content: bytes) -> bool:
+        """Whether a content is in the set."""
+        return (content in self.listed) != self.is_other
+
     def is_all(self) -> bool:
         """Whether it has every content."""
         return self.is_other and not self.listed

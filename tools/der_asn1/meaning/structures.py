@@ -5,6 +5,7 @@ from typing import TYPE_CHECKING, Callable, Iterable, Optional, Union
 from ..parse import tree
 from ..parse.source import NotationError, NotGiven
 from .causes import Where
+from .contents import Contents, integer_content
 from .declarations import ChoiceDeclaration, Declaration, EnumDeclaration, Field, Hint, Item, StructDeclaration
 from .features import Feature, Level, Note
 from .intervals import Intervals
@@ -451,6 +452,13 @@ def enumeration(meanings: "Meanings", type_: tree.EnumeratedType, scope: Scope, 
         rust = Rust(of("Enumerated"), Core.CONTENTS, first, own=True, term=Term("ENUMERATED-extensible"))
         return Meaning(rust).noting(Note.WIDE_ENUMERATION)
     return declared_enum(meanings, type_, scope, hint, zip(type_.items, numbers), "ENUMERATED")
+
+
+def left_items(program: Program, type_: tree.EnumeratedType, scope: Scope, contents: Contents) -> Optional[tree.EnumeratedType]:
+    """An ENUMERATED with those items alone whose contents are left, each with its number. None if there is none."""
+    numbers = enumerated_numbers(program, type_.items, scope)
+    left = [replace(it, number=tree.IntegerValue(it.place, number)) for it, number in zip(type_.items, numbers) if contents.has(integer_content(number))]
+    return replace(type_, items=left) if left else None
 
 
 def named_integer(meanings: "Meanings", type_: tree.IntegerType, scope: Scope, hint: Hint, numbers: Intervals) -> Optional[Meaning]:

@@ -8,6 +8,7 @@ from ..parse.modules import read_text
 from ..parse.source import Problems
 from .bounds import bounded, integer, whole_number_limits
 from .causes import Cause, Where, counts
+from .contents import ANY_CONTENT
 from .character_sets import has_all, own_set
 from .checks import Checks
 from .declarations import AliasDeclaration, Declaration, Declarations, Hint, NewtypeDeclaration
@@ -26,7 +27,7 @@ from . import recursion as recursive
 from .recursion import NONE, Recursion, recursion_of
 from .rust_types import UNIT, of
 from .scopes import BUILT_IN_ANY, Binding, Found, Program, Resolved, Scope, resolve, target_of
-from .structures import Default, Part, enumeration, named_integer, structure
+from .structures import Default, Part, enumeration, left_items, named_integer, structure
 from .subtypes import Limits, Reader, ScopedConstraint, only_contents
 from .tables import closed, objects_of, of_table, table_of
 from .tagging import default_mode, effective_mode, first_bytes, fixed_field_type
@@ -297,12 +298,14 @@ class Meanings:
         return meaning.lacking(Feature.UNKNOWN_BOUND) if limits.unknown else meaning
 
     def of_enumeratedtype(self, type_: tree.EnumeratedType, scope: Scope, hint: Hint, constraints: tuple[ScopedConstraint, ...]) -> Meaning:
-        """An enum of its own, or any number if later versions may have others (X.680, 20)."""
-        if type_.extensible or scope.module.extensibility_implied:
-            meaning = Meaning(library_type(BY_NAME["ENUMERATED"]))
-        else:
-            meaning = enumeration(self, type_, scope, hint)
-        return self.checked(meaning, type_, scope, constraints)
+        """An enum of its own, or any number if later versions may have others (X.680, 20). Single values leave an enum of these."""
+        limits = self.limits(constraints, type_, scope)
+        is_open = type_.extensible or scope.module.extensibility_implied
+        left = None if is_open or limits.contents.is_all() else left_items(self.program, type_, scope, limits.contents)
+        if left:
+            type_, limits = left, replace(limits, contents=ANY_CONTENT)
+        meaning = Meaning(library_type(BY_NAME["ENUMERATED"])) if is_open else enumeration(self, type_, scope, hint)
+        return bounded(in_words(meaning, constraints), limits)
 
     def of_bitstringtype(self, type_: tree.BitStringType, scope: Scope, hint: Hint, constraints: tuple[ScopedConstraint, ...]) -> Meaning:
         firsts = frozenset((UNIVERSAL_TAGS["BIT STRING"],))
@@ -372,8 +375,10 @@ class Meanings:
         self.checks.assignment(found)
         self.busy.append(key)
         try:
-            text = f"{hint.text}-members" if hint.key else hint.text
-            own = Hint(text if is_inner else found.assignment.name + self.depth_suffix(), root=hint.root if is_inner else found.assignment.name, where=hint.where)
+            own = Hint(found.assignment.name + self.depth_suffix(), root=found.assignment.name, where=hint.where)
+            if is_inner or base.type is not None and not self.limits(constraints, base.type, base.scope).contents.is_all():
+                word = "members" if is_inner else "values"
+                own = Hint(f"{hint.text}-{word}" if hint.key else hint.text, root=hint.root, where=hint.where)
             return self.of_type(target.type, target.scope, own, constraints)
         finally:
             self.busy.pop()
