@@ -6,6 +6,7 @@ from typing import Iterable, Optional
 from ..parse import tree
 from ..parse.modules import read_text
 from ..parse.source import Problems
+from ..parse.tokens import Kind
 from .bounds import bounded, integer, whole_number_limits
 from .causes import Cause, Where, counts
 from .contents import ANY_CONTENT
@@ -63,8 +64,10 @@ def in_words(meaning: Meaning, constraints: tuple[ScopedConstraint, ...]) -> Mea
 
 
 def instance_name(found: Found) -> str:
-    """The name of an assignment, with those of the types that are given for its parameters."""
-    given = [type_name(it.argument.type) for _, it in found.scope.bindings if it.argument.type]
+    """The name of an assignment, with those of the types and of the tables that are given for its parameters."""
+    arguments = [it.argument for _, it in found.scope.bindings]
+    sets = [it.set_tokens[0].text if it.set_tokens and len(it.set_tokens) == 1 and it.set_tokens[0].kind is Kind.UPPER else "" for it in arguments]
+    given = [type_name(it.type) if it.type else name for it, name in zip(arguments, sets)]
     return "-".join(it for it in [found.assignment.name, *given] if it)
 
 
