@@ -3,7 +3,7 @@
 use Rattle.std.specs.Prelude.{[], ◌∷◌}
 use Rattle.der_types.specs.ContentForms.{BIT-STRING, INTEGER, OBJECT-IDENTIFIER}
 use Rattle.der_types.specs.Notation.{Notation, NULL, OCTET-STRING, end, none, optional, required}
-use Rattle.der_types.specs.NotationForms.{ANY, CHOICE, CONTEXT, EXPLICIT, INTEGER-from-to, INTEGER-in, Mode, SEQUENCE, SEQUENCE-OF, SIZE, default-as-optional, default-of, from-on, from-to, number, wider, ◌∣◌, ◌⨾◌}
+use Rattle.der_types.specs.NotationForms.{ANY, CHOICE, CONTEXT, EXPLICIT, INTEGER-from-to, INTEGER-in, Mode, SEQUENCE, SEQUENCE-OF, SIZE, default-as-optional, default-of, from-on, number, wider, ◌∣◌, ◌⨾◌}
 use Rattle.der_x509.specs.Notation.{AlgorithmIdentifier}
 
 -- PKIX1-PSS-OAEP-Algorithms DEFINITIONS EXPLICIT TAGS
@@ -12,7 +12,7 @@ TAGS = EXPLICIT
 
 -- AES-CCM-ICVlen of CMS-AES-CCM-and-AES-GCM: INTEGER (4 | 6 | 8 | 10 | 12 | 14 | 16)
 abbrev pub AesCcmIcVlen : Notation
-AesCcmIcVlen = INTEGER-in (from-to (number 4) (number 4) ∷ from-to (number 6) (number 6) ∷ from-to (number 8) (number 8) ∷ from-to (number 10) (number 10) ∷ from-to (number 12) (number 12) ∷ from-to (number 14) (number 14) ∷ from-to (number 16) (number 16) ∷ [])
+AesCcmIcVlen = wider INTEGER
 
 -- AES-GCM-ICVlen of CMS-AES-CCM-and-AES-GCM: INTEGER (12 | 13 | 14 | 15 | 16)
 abbrev pub AesGcmIcVlen : Notation
@@ -24,12 +24,12 @@ AesIv = SIZE 16 16 OCTET-STRING
 
 -- CCMParameters of CMS-AES-CCM-and-AES-GCM
 abbrev pub CcmParameters : Notation
-CcmParameters = SEQUENCE (
+CcmParameters = wider (SEQUENCE (
     -- aes-nonce OCTET STRING (SIZE (7..13))
     required (SIZE 7 13 OCTET-STRING) ⨾
     -- aes-ICVlen AES-CCM-ICVlen DEFAULT 12
-    default-of (number 12) AesCcmIcVlen ⨾
-    end)
+    default-as-optional AesCcmIcVlen ⨾
+    end))
 
 -- Characteristic-two of PKIX1Algorithms88
 abbrev pub CharacteristicTwo : Notation

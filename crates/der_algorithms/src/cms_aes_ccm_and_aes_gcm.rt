@@ -9,7 +9,7 @@ ghost use Rattle.der_types.specs.ExactMembers.{struct_values};
 ghost use Rattle.der_types.specs.SampleTrees.{exact_example};
 
 use der_types::{
-    Exact, ExactMembers, InRange, Notated, NotatedMembers, OtherThan, Outside, Plus, WithSize,
+    Exact, ExactMembers, InRange, Integer, Notated, NotatedMembers, OtherThan, WithSize,
 };
 use picky_asn1_der::asn1::{ByteBuf, Tag};
 use picky_asn1_der::de::{Begins, Faithful, FaithfulMembers, Inhabited};
@@ -103,19 +103,18 @@ impl Inhabited for GcmParameters {
 pub type AesGcmIcVlen = InRange<u8, 12, 16>;
 
 /// `CCMParameters` of CMS-AES-CCM-and-AES-GCM, as a SEQUENCE.
+///
+/// Its values differ from the notation's. The crate lacks: DEFAULT of a constrained type; a type of
+/// its own with `Constrained`.
 #[derive(Debug, Drop, PartialEq, Eq)]
 pub struct CcmParameters {
     /// `OCTET STRING (SIZE (7..13))`.
     pub aes_nonce: WithSize<ByteBuf, 7, 13>,
-    /// `AES-CCM-ICVlen DEFAULT 12`. `None` is the default.
-    pub aes_ic_vlen: Option<OtherThan<AesCcmIcVlen, 12>>,
+    /// `AES-CCM-ICVlen DEFAULT 12`. A default that is written out is read, too.
+    pub aes_ic_vlen: Option<AesCcmIcVlen>,
 }
 
-type CcmParametersParts = (
-    WithSize<ByteBuf, 7, 13>,
-    Optional<OtherThan<AesCcmIcVlen, 12>>,
-    (),
-);
+type CcmParametersParts = (WithSize<ByteBuf, 7, 13>, Optional<AesCcmIcVlen>, ());
 
 impl Struct for CcmParameters {
     type Members = CcmParametersParts;
@@ -186,20 +185,6 @@ impl Inhabited for CcmParameters {
 }
 
 /// `AES-CCM-ICVlen` of CMS-AES-CCM-and-AES-GCM: `INTEGER (4 | 6 | 8 | 10 | 12 | 14 | 16)`.
-pub type AesCcmIcVlen = Outside<
-    Outside<
-        Outside<
-            Outside<
-                Outside<Outside<InRange<u8, 4, 16>, Plus<5>, Plus<5>>, Plus<7>, Plus<7>>,
-                Plus<9>,
-                Plus<9>,
-            >,
-            Plus<11>,
-            Plus<11>,
-        >,
-        Plus<13>,
-        Plus<13>,
-    >,
-    Plus<15>,
-    Plus<15>,
->;
+///
+/// Its values differ from the notation's. The crate lacks: a type of its own with `Constrained`.
+pub type AesCcmIcVlen = Integer;

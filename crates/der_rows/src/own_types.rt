@@ -9,8 +9,8 @@ use crate::seen::Seen;
 use der_examples::{
     AgeGroups, Change, Contact, EmailText, EncryptedData, EvenNumber, GeneralName, Gust, Host,
     Interval, Marker, Moment, Named, Noted, NumberOrFlag, Parcel, Place, Point, PrincipalName,
-    PrivateKeyInfo, Report, RiverLevels, RsaPublicKey, SerialNumber, Setting, Stay, Tagged,
-    Temperature, Ticket, Track,
+    PrivateKeyInfo, Report, Reservation, RiverLevels, RsaPublicKey, SerialNumber, Setting, Stay,
+    Tagged, Temperature, Ticket, Track,
 };
 use der_tool_lib::{AlgorithmIdentifier, SubjectPublicKeyInfo, TestStruct};
 use der_x509::{CertificateList, Extension, TbsCertificate, Version};
@@ -108,6 +108,7 @@ fn last_example(alloc: Global, name: &str, row: &RowBytes) -> Result<String, All
     match name {
         "Marker" => read_as::<Marker>(alloc, row),
         "Parcel" => read_as::<Parcel>(alloc, row),
+        "Reservation" => read_as::<Reservation>(alloc, row),
         "Track" => read_as::<Track>(alloc, row),
         "Tagged" => read_as::<Tagged>(alloc, row),
         "Kept" => read_as::<Kept>(alloc, row),

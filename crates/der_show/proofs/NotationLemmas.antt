@@ -288,6 +288,8 @@ mutual
       let parts = and_parts (is_checked n) (are_members_checked ms) e in
       maybe_checked (λ x. Denotes n x × (x ≢ value)) (DenoteMembers ms) (λ x p. checked n parts.0 x p.0)
       (members_checked ms parts.1) ts d
+  members_checked (Members.added ms) e ts (inl d) = members_checked ms e ts d
+  members_checked (Members.added ms) e ts (inr d) = none_checked ts d
   members_checked (Members.others excluded) e ts d = cc
   members_checked (Members.others-from least) e ts d = cc
 

@@ -66,6 +66,7 @@ abbrev mutual
   pub are_members_checked : Members → Bool
   are_members_checked Members.end = true
   are_members_checked (Members.member m ms) = is_member_checked m && are_members_checked ms
+  are_members_checked (Members.added ms) = are_members_checked ms
   are_members_checked (Members.others excluded) = false
   are_members_checked (Members.others-from least) = false
 

@@ -7,7 +7,7 @@ use Rattle.picky_der_core.specs.Tag.{class_of, number_of}
 use Rattle.picky_der_core.specs.Integer.{integer_content, integer_value, integer_tree, fits_signed}
 use Rattle.picky_der_core.specs.Primitive.{Primitive, primitive_content}
 use Rattle.picky_der_core.specs.Readable.{IsReadable}
-use Rattle.picky_der_core.specs.Shape.{AreOthers, EachIs, FirstAndRest, FirstOrNone, IsEmpty, contains}
+use Rattle.picky_der_core.specs.Shape.{AllOrNone, AreOthers, EachIs, FirstAndRest, FirstOrNone, IsEmpty, contains}
 use Rattle.picky_der_core.specs.Tree.{ListKind, Tree, Trees}
 use Rattle.std.specs.List.{list_all}
 use Rattle.der_types.specs.Alphabets.{is_of}
@@ -115,6 +115,7 @@ abbrev mutual
   pub DenoteMembers : Members → Trees → Type 0
   DenoteMembers Members.end = IsEmpty
   DenoteMembers (Members.member m ms) = DenoteFirst m (DenoteMembers ms)
+  DenoteMembers (Members.added ms) = AllOrNone (DenoteMembers ms)
   DenoteMembers (Members.others excluded) = AreOthers excluded
   DenoteMembers (Members.others-from least) = AreNumberedFrom least
 

@@ -18,6 +18,7 @@ pub mod DateTimes
 pub mod Denotes
 pub mod Dotted
 pub mod Exact
+pub mod ExactAdded
 pub mod ExactArrays
 pub mod ExactCharacters
 pub mod ExactChoices

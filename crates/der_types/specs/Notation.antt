@@ -62,6 +62,8 @@ mutual
   pub data Members : Type 0 where
     end : Members
     member : Member → Members → Members
+    -- the members that an extension added and those after them, or none in a value of an earlier version
+    added : Members → Members
     -- the members of later versions, of which the first begins with none of these bytes
     others : List ℕ → Members
     -- the same, of which each has an automatic tag whose number isn't below this one
@@ -108,6 +110,7 @@ abbrev mutual
   pub layout_of : Members → Layout
   layout_of Members.end = Layout.empty
   layout_of (Members.member m ms) = member_then m (layout_of ms)
+  layout_of (Members.added ms) = Layout.added (layout_of ms)
   layout_of (Members.others excluded) = Layout.others excluded
   layout_of (Members.others-from least) = Layout.others (numbered_below least)
 

@@ -175,9 +175,14 @@ default-of n t = Member.optional (other-than (whole n) t)
 abbrev pub default-as-optional : Notation → Member
 default-as-optional = Member.optional
 
--- an extension addition, which an earlier version hasn't
-abbrev pub added : Notation → Member
-added = Member.optional
+-- the members of an extension addition, one or those between `[[` and `]]`, and all members after them. A value has all
+-- of them, or none if it is one of an earlier version. An addition without a member that is always there needs no word.
+abbrev pub added : Members → Members
+added = Members.added
+
+-- a member of an extension addition, where a value of the type may have others of it alone
+abbrev pub added-as-optional : Notation → Member
+added-as-optional = Member.optional
 
 -- The first member of a later version has another tag than each member directly before it that may be absent (25.6),
 -- whether it is primitive or constructed. These are the bytes of those that came so far. An automatic tag has a number
@@ -190,6 +195,7 @@ excluding count before (Members.member (Member.optional t) ms) =
     Members.member (Member.optional t) (excluding (count + 1) (before ++ firsts (shape_of t)) ms)
 excluding count before (Members.member (Member.defaulted value t) ms) =
     Members.member (Member.defaulted value t) (excluding (count + 1) (before ++ firsts (shape_of t)) ms)
+excluding count before (Members.added ms) = Members.added (excluding count before ms)
 excluding count before (Members.others excluded) = Members.others (in_both_forms before)
 excluding count before (Members.others-from least) = Members.others-from count
 
@@ -211,12 +217,14 @@ place_of (Member.defaulted value t) = least_place (firsts (shape_of t))
 
 abbrev insert : Member → Members → Members
 insert m Members.end = m ⨾ Members.end
+insert m (Members.added ms) = m ⨾ Members.added ms
 insert m (Members.others excluded) = m ⨾ Members.others excluded
 insert m (Members.others-from least) = m ⨾ Members.others-from least
 insert m (Members.member n ns) = if nat_lt (place_of m) (place_of n) then m ⨾ n ⨾ ns else n ⨾ insert m ns
 
 abbrev in_tag_order : Members → Members
 in_tag_order Members.end = Members.end
+in_tag_order (Members.added ms) = Members.added ms
 in_tag_order (Members.others excluded) = Members.others excluded
 in_tag_order (Members.others-from least) = Members.others-from least
 in_tag_order (Members.member m ms) = insert m (in_tag_order ms)

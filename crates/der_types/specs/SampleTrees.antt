@@ -536,6 +536,8 @@ abbrev mutual
       with (members_sample ms) (λ others. Some (absent_optional n ms others))
   members_sample (Members.member (Member.defaulted value n) ms) =
       with (members_sample ms) (λ others. Some (absent_default value n ms others))
+  members_sample (Members.added ms) =
+      Some (record { trees = Trees.none; denoted = inr tt; readable = tt; short = tt })
   members_sample (Members.others excluded) =
       Some (record { trees = Trees.none; denoted = tt; readable = tt; short = tt })
   members_sample (Members.others-from least) =

@@ -37,12 +37,14 @@ abbrev pub layout_firsts : Layout → List ℕ
 layout_firsts Layout.empty = []
 layout_firsts (Layout.required s l) = firsts s ++ layout_firsts l
 layout_firsts (Layout.maybe s l) = firsts s ++ layout_firsts l
+layout_firsts (Layout.added l) = layout_firsts l
 layout_firsts (Layout.others excluded) = tags_below 256
 
 abbrev pub is_layout_in_order : Layout → Bool
 is_layout_in_order Layout.empty = true
 is_layout_in_order (Layout.required s l) = are_before (firsts s) (layout_firsts l) && is_layout_in_order l
 is_layout_in_order (Layout.maybe s l) = are_before (firsts s) (layout_firsts l) && is_layout_in_order l
+is_layout_in_order (Layout.added l) = is_layout_in_order l
 is_layout_in_order (Layout.others excluded) = false
 
 -- a SEQUENCE of different members, each with tags before the tags of the members after it

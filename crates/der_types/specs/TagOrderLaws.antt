@@ -66,6 +66,9 @@ module _ (x : ℕ) (xs ys : List ℕ) (apart : are_before xs ys ≡ true) (is : 
   )
   members_after (Layout.maybe s l) ts among (inr p) r =
       members_after l ts (λ b c. among b (contains-append_right b (firsts s) (layout_firsts l) c)) p r
+  members_after (Layout.added l) ts among (inl p) r = members_after l ts among p r
+  members_after (Layout.added l) Trees.none among (inr p) r = tt
+  members_after (Layout.added l) (Trees.more t ts) among (inr p) r = absurd p
   members_after (Layout.others excluded) ts among p r = raws_after ts among (others_each excluded ts p) r
 
 -- ---- members in order
@@ -93,6 +96,9 @@ members_in_order (Layout.maybe s l) (Trees.more t ts) h (inl p) r =
     (first_in_order s l t ts parts.0 p.0 r.0 p.1 r.1, members_in_order l ts parts.1 p.1 r.1)
 members_in_order (Layout.maybe s l) ts h (inr p) r =
     members_in_order l ts (and_parts (are_before (firsts s) (layout_firsts l)) (is_layout_in_order l) h).1 p r
+members_in_order (Layout.added l) ts h (inl p) r = members_in_order l ts h p r
+members_in_order (Layout.added l) Trees.none h (inr p) r = tt
+members_in_order (Layout.added l) (Trees.more t ts) h (inr p) r = absurd p
 members_in_order (Layout.others excluded) ts h p r = cc
 
 -- of each list of such a shape

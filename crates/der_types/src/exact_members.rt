@@ -2,13 +2,14 @@
 ghost use Rattle.std.specs.Prelude.{refl};
 ghost use Rattle.der_types.specs.ExactMembers.{MemberValues, ProvedMember, MembersValues, ProvedMembers};
 ghost use Rattle.der_types.specs.ExactMembers.{required_values, optional_values, none_values};
+ghost use Rattle.der_types.specs.ExactAdded.{added_values};
 ghost use Rattle.der_types.specs.ExactLater.{others_values, numbered_values};
 ghost use Rattle.der_types.specs.MadeValues.{vec_of};
 ghost use Rattle.picky_der_core.specs.Shape.{firsts_of};
 ghost use Rattle.picky_asn1_der.specs.LaterTags.{in_both_forms};
 
 use crate::{Exact, NotatedMember, NotatedMembers};
-use picky_asn1_der::{LaterMembers, LaterMembersFrom};
+use picky_asn1_der::{Added, AddedMembers, LaterMembers, LaterMembersFrom};
 use picky_der_de::{Alternatives, Begins};
 use picky_der_ser::Optional;
 
@@ -40,6 +41,13 @@ impl<T: Exact + Begins> ExactMember for Optional<T> {
     ghost member_values = { optional_values T.values T.notation T.meaning (λ it. it.0) (λ o. (record { 0 = o }, refl)) };
 
     ghost exact_member = { Prim.assumption };
+}
+
+impl<M: ExactMembers + AddedMembers> ExactMembers for Added<M> {
+    ghost all_values = { added_values M.all_values M.members_notation M.members (λ it. it.0)
+        (λ o. (record { 0 = o }, refl)) };
+
+    ghost exact_members = { Prim.assumption };
 }
 
 impl<A: Alternatives> ExactMembers for LaterMembers<A> {

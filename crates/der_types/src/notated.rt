@@ -14,7 +14,7 @@ use crate::{
     TagOrdered,
 };
 use picky_asn1_der::application_tag::ApplicationTag;
-use picky_asn1_der::{Asn1RawDer, LaterMembers, LaterMembersFrom};
+use picky_asn1_der::{Added, AddedMembers, Asn1RawDer, LaterMembers, LaterMembersFrom};
 use picky_der_core::asn1::{
     Asn1SequenceOf, Asn1SetOf, BitStringAsn1Container, ExplicitContextTag, ImplicitContextTag,
     ImplicitList, OctetStringAsn1Container, TaggedBytes,
@@ -171,6 +171,12 @@ impl NotatedMembers for () {
     ghost members_notation = { Members.end };
 
     ghost denoted_layout = { refl };
+}
+
+impl<M: NotatedMembers + AddedMembers> NotatedMembers for Added<M> {
+    ghost members_notation = { Members.added M.members_notation };
+
+    ghost denoted_layout = { ap Layout.added M.denoted_layout };
 }
 
 impl<A: Alternatives> NotatedMembers for LaterMembers<A> {

@@ -8,6 +8,7 @@ ghost use Rattle.der_types.specs.ObjectIdentifier.{arcs_error, RefusesArcs, IsTe
 use crate::dotted::arcs_of_text;
 use crate::subidentifiers::{push_subidentifier, push_subidentifiers};
 use crate::{Arcs, Contents, OidError};
+use picky_der_core::{Asn1DerError, Result};
 use smallvec::SmallVec;
 use std::alloc::{AllocError, Global};
 use std::fmt;
@@ -79,6 +80,21 @@ impl ObjectIdentifier {
     {
         let arcs = arcs_of_text(alloc, text)?;
         ObjectIdentifier::from_arcs(alloc, &arcs)
+    }
+
+    /// Returns the object identifier with this content, as `from_bytes(alloc, names::KEY_USAGE)`.
+    ///
+    /// `InvalidData` if a number in it begins with a needless 80 or the last one doesn't end (X.690, 8.19.2), and
+    /// `OutOfMemory` if an allocation fails.
+    pub fn from_bytes(alloc: Global, content: &[u8]) -> Result<ObjectIdentifier>
+        ensures ok { IfOk result (λ it. ⟦<ObjectIdentifier as Contents>⟧.content it ≡ content.now) }
+        ensures err { IfErr result (λ e. (e ≡ Asn1DerError.OutOfMemory)
+            ⊎ (is_object_identifier content.now ≡ false) × (e ≡ Asn1DerError.InvalidData)) }
+    {
+        match ObjectIdentifier::from_content(content.to_vec(alloc)?) {
+            Some(identifier) => Ok(identifier),
+            None => Err(Asn1DerError::InvalidData),
+        }
     }
 
     /// The bytes of its content (X.690, 8.19.2), as they are after the tag and the length.

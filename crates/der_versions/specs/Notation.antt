@@ -33,12 +33,12 @@ Lease2 = SEQUENCE (
     -- furnished BOOLEAN DEFAULT FALSE
     default FALSE (CONTEXT 3 AUTOMATIC BOOLEAN) ⨾
     -- deposit INTEGER (0..65535)
-    added (CONTEXT 4 AUTOMATIC (INTEGER-from-to 0 65535)) ⨾
+    added (required (CONTEXT 4 AUTOMATIC (INTEGER-from-to 0 65535)) ⨾
     -- garden BOOLEAN
-    added (CONTEXT 5 AUTOMATIC BOOLEAN) ⨾
+    added (required (CONTEXT 5 AUTOMATIC BOOLEAN) ⨾
     -- shed UTF8String OPTIONAL
     optional (CONTEXT 6 AUTOMATIC UTF8String) ⨾
-    later-members-automatic)
+    later-members-automatic)))
 
 -- Room of Leases
 abbrev pub Room : Notation
@@ -59,18 +59,18 @@ Lease3 = SEQUENCE (
     -- furnished BOOLEAN DEFAULT FALSE
     default FALSE (CONTEXT 3 AUTOMATIC BOOLEAN) ⨾
     -- deposit INTEGER (0..65535)
-    added (CONTEXT 4 AUTOMATIC (INTEGER-from-to 0 65535)) ⨾
+    added (required (CONTEXT 4 AUTOMATIC (INTEGER-from-to 0 65535)) ⨾
     -- garden BOOLEAN
-    added (CONTEXT 5 AUTOMATIC BOOLEAN) ⨾
+    added (required (CONTEXT 5 AUTOMATIC BOOLEAN) ⨾
     -- shed UTF8String OPTIONAL
     optional (CONTEXT 6 AUTOMATIC UTF8String) ⨾
     -- pets INTEGER (0..255) OPTIONAL
     optional (CONTEXT 7 AUTOMATIC (INTEGER-from-to 0 255)) ⨾
     -- keys INTEGER (0..255)
-    added (CONTEXT 8 AUTOMATIC (INTEGER-from-to 0 255)) ⨾
+    added (required (CONTEXT 8 AUTOMATIC (INTEGER-from-to 0 255)) ⨾
     -- rooms SEQUENCE OF Room
-    added (CONTEXT 9 AUTOMATIC (SEQUENCE-OF Room)) ⨾
-    later-members-automatic)
+    required (CONTEXT 9 AUTOMATIC (SEQUENCE-OF Room)) ⨾
+    later-members-automatic))))
 
 -- Parcel-1 of Parcels
 abbrev pub Parcel1 : Notation
@@ -93,9 +93,9 @@ Parcel2 = SEQUENCE (
     -- note UTF8String OPTIONAL
     optional UTF8String ⨾
     -- sender IA5String
-    added IA5String ⨾
+    added (required IA5String ⨾
     -- stamps [0] SEQUENCE OF INTEGER (0..255) OPTIONAL
     optional (CONTEXT 0 TAGS (SEQUENCE-OF (INTEGER-from-to 0 255))) ⨾
     -- returned BOOLEAN
-    added BOOLEAN ⨾
-    later-members)
+    added (required BOOLEAN ⨾
+    later-members)))

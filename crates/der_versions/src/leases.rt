@@ -2,9 +2,10 @@
 //!
 //! Types of Leases.
 ghost use Rattle.std.specs.Prelude.{refl};
-ghost use Rattle.picky_der_de.specs.Faithful.{struct_sameness};
-ghost use Rattle.picky_der_de.specs.MembersFacts.{sequence_of, sequence_shape, struct_facts};
+ghost use Rattle.picky_der_de.specs.Faithful.{members_at, struct_sameness};
+ghost use Rattle.picky_der_de.specs.MembersFacts.{members_facts, sequence_of, sequence_shape, struct_facts};
 ghost use Rattle.der_types.specs.Notation.{Notation};
+ghost use Rattle.der_types.specs.ExactAdded.{fields_values};
 ghost use Rattle.der_types.specs.ExactMembers.{struct_values};
 ghost use Rattle.der_types.specs.SampleTrees.{exact_example};
 
@@ -18,8 +19,9 @@ use picky_asn1_der::de::{Begins, Faithful, FaithfulMembers, Inhabited};
 use picky_asn1_der::misc::{ReadExt, WriteExt};
 use picky_asn1_der::ser::{Defaulted, DefaultedRef, False, Optional, OptionalRef};
 use picky_asn1_der::{
-    Deserialize, DeserializeMembers, Deserializer, LaterMembersFrom, List, Result, Serialize,
-    SerializeMembers, Serializer, Struct, deserialize_struct_as,
+    Added, AddedMembers, Deserialize, DeserializeMembers, Deserializer, LaterMembersFrom, List,
+    Result, Serialize, SerializeMembers, Serializer, Struct, deserialize_members_as,
+    deserialize_struct_as,
 };
 
 /// `Lease-1` of Leases, as a SEQUENCE.
@@ -149,14 +151,8 @@ pub struct Lease2 {
     pub notice: Option<ImplicitContextTag2<u8>>,
     /// `BOOLEAN DEFAULT FALSE`.
     pub furnished: ImplicitContextTag3<bool>,
-    /// `INTEGER (0..65535)`.
-    pub deposit: Option<ImplicitContextTag4<u16>>,
-    /// `BOOLEAN`.
-    pub garden: Option<ImplicitContextTag5<bool>>,
-    /// `UTF8String OPTIONAL`.
-    pub shed: Option<ImplicitContextTag6<String>>,
-    /// The members of later versions, in their order. `...`.
-    pub later_members: LaterMembersFrom<7>,
+    /// The members that an extension added, or `None` in a value of an earlier version. `...`.
+    pub additions: Added<Lease2Additions>,
 }
 
 type Lease2Parts = (
@@ -164,10 +160,7 @@ type Lease2Parts = (
     ImplicitContextTag1<String>,
     Optional<ImplicitContextTag2<u8>>,
     Defaulted<ImplicitContextTag3<bool>, False>,
-    Optional<ImplicitContextTag4<u16>>,
-    Optional<ImplicitContextTag5<bool>>,
-    Optional<ImplicitContextTag6<String>>,
-    LaterMembersFrom<7>,
+    Added<Lease2Additions>,
 );
 
 impl Struct for Lease2 {
@@ -178,32 +171,17 @@ impl Struct for Lease2 {
       it.tenant,
       record { 0 = it.notice },
       record { value = it.furnished; default = record {} },
-      record { 0 = it.deposit },
-      record { 0 = it.garden },
-      record { 0 = it.shed },
-      it.later_members,
+      it.additions,
     ) };
 
     fn from_parts(members: Lease2Parts) -> Lease2 {
-        let (
-            number,
-            tenant,
-            Optional(notice),
-            furnished,
-            Optional(deposit),
-            Optional(garden),
-            Optional(shed),
-            later_members,
-        ) = members;
+        let (number, tenant, Optional(notice), furnished, additions) = members;
         Lease2 {
             number,
             tenant,
             notice,
             furnished: furnished.value,
-            deposit,
-            garden,
-            shed,
-            later_members,
+            additions,
         }
     }
 }
@@ -217,10 +195,7 @@ impl Serialize for Lease2 {
             &self.tenant,
             OptionalRef(&self.notice),
             DefaultedRef::<ImplicitContextTag3<bool>, False>::new(&self.furnished),
-            OptionalRef(&self.deposit),
-            OptionalRef(&self.garden),
-            OptionalRef(&self.shed),
-            &self.later_members,
+            &self.additions,
         )
             .serialize_sequence(serializer)
     }
@@ -263,10 +238,7 @@ impl Exact for Lease2 {
             tenant = m.1;
             notice = m.2.0;
             furnished = m.3.value;
-            deposit = m.4.0;
-            garden = m.5.0;
-            shed = m.6.0;
-            later_members = m.7;
+            additions = m.4;
           },
           refl {a = m},
         )) };
@@ -284,6 +256,164 @@ impl Inhabited for Lease2 {
     ghost example = { exact_example ⟦<Self as Exact>⟧.values ⟦<Self as Notated>⟧.notation ⟦<Self as Serialize>⟧.meaning refl Prim.assumption };
 }
 
+/// The members that an extension added to `Lease-2` of Leases, and all members after them.
+#[derive(Debug, Drop, PartialEq, Eq)]
+pub struct Lease2Additions {
+    /// `INTEGER (0..65535)`.
+    pub deposit: ImplicitContextTag4<u16>,
+    /// The members that an extension added, or `None` in a value of an earlier version. `...`.
+    pub additions: Added<Lease2Additions2>,
+}
+
+type Lease2AdditionsParts = (ImplicitContextTag4<u16>, Added<Lease2Additions2>);
+
+impl Struct for Lease2Additions {
+    type Members = Lease2AdditionsParts;
+
+    ghost parts = { λ it. (it.deposit, it.additions) };
+
+    fn from_parts(members: Lease2AdditionsParts) -> Lease2Additions {
+        let (deposit, additions) = members;
+        Lease2Additions { deposit, additions }
+    }
+}
+
+impl SerializeMembers for Lease2Additions {
+    ghost members = { λ it. ⟦<Lease2AdditionsParts as SerializeMembers>⟧.members (⟦<Self as Struct>⟧.parts it) };
+
+    fn serialize_members<W: WriteExt>(
+        &self,
+        sequence: &mut picky_asn1_der::ser::Sequence<'_, W>,
+    ) -> Result<()> {
+        (&self.deposit, &self.additions).serialize_members(sequence)
+    }
+}
+
+impl DeserializeMembers for Lease2Additions {
+    ghost layout = { ⟦<Lease2AdditionsParts as DeserializeMembers>⟧.layout };
+
+    ghost facts = { members_facts ⟦<Self as Struct>⟧.parts ⟦<Lease2AdditionsParts as DeserializeMembers>⟧.facts
+        ⟦<Lease2AdditionsParts as SerializeMembers>⟧.members };
+
+    fn deserialize_members<R: ReadExt>(
+        sequence: &mut picky_asn1_der::de::Sequence<'_, R>,
+    ) -> Result<Lease2Additions> {
+        deserialize_members_as(sequence)
+    }
+
+    ghost proved = { Prim.assumption };
+}
+
+impl AddedMembers for Lease2Additions {
+    ghost present = { refl };
+}
+
+impl NotatedMembers for Lease2Additions {
+    ghost members_notation = { ⟦<Lease2AdditionsParts as NotatedMembers>⟧.members_notation };
+
+    ghost denoted_layout = { refl };
+}
+
+impl ExactMembers for Lease2Additions {
+    ghost all_values = { fields_values ⟦<Lease2AdditionsParts as ExactMembers>⟧.all_values
+        ⟦<Lease2AdditionsParts as NotatedMembers>⟧.members_notation ⟦<Lease2AdditionsParts as SerializeMembers>⟧.members ⟦<Self as Struct>⟧.parts
+        (λ m. (record { deposit = m.0; additions = m.1 }, refl {a = m})) };
+
+    ghost exact_members = { Prim.assumption };
+}
+
+impl FaithfulMembers for Lease2Additions {
+    ghost sameness = { members_at ⟦<Self as Struct>⟧.parts ⟦<Lease2AdditionsParts as FaithfulMembers>⟧.sameness
+        ⟦<Lease2AdditionsParts as DeserializeMembers>⟧.facts.tests
+        ⟦<Lease2AdditionsParts as SerializeMembers>⟧.members };
+
+    ghost respects = { Prim.assumption };
+}
+
+/// The members that an extension added to `Lease-2` of Leases, and all members after them.
+#[derive(Debug, Drop, PartialEq, Eq)]
+pub struct Lease2Additions2 {
+    /// `BOOLEAN`.
+    pub garden: ImplicitContextTag5<bool>,
+    /// `UTF8String OPTIONAL`.
+    pub shed: Option<ImplicitContextTag6<String>>,
+    /// The members of later versions, in their order. `...`.
+    pub later_members: LaterMembersFrom<7>,
+}
+
+type Lease2Additions2Parts = (
+    ImplicitContextTag5<bool>,
+    Optional<ImplicitContextTag6<String>>,
+    LaterMembersFrom<7>,
+);
+
+impl Struct for Lease2Additions2 {
+    type Members = Lease2Additions2Parts;
+
+    ghost parts = { λ it. (it.garden, record { 0 = it.shed }, it.later_members) };
+
+    fn from_parts(members: Lease2Additions2Parts) -> Lease2Additions2 {
+        let (garden, Optional(shed), later_members) = members;
+        Lease2Additions2 {
+            garden,
+            shed,
+            later_members,
+        }
+    }
+}
+
+impl SerializeMembers for Lease2Additions2 {
+    ghost members = { λ it. ⟦<Lease2Additions2Parts as SerializeMembers>⟧.members (⟦<Self as Struct>⟧.parts it) };
+
+    fn serialize_members<W: WriteExt>(
+        &self,
+        sequence: &mut picky_asn1_der::ser::Sequence<'_, W>,
+    ) -> Result<()> {
+        (&self.garden, OptionalRef(&self.shed), &self.later_members).serialize_members(sequence)
+    }
+}
+
+impl DeserializeMembers for Lease2Additions2 {
+    ghost layout = { ⟦<Lease2Additions2Parts as DeserializeMembers>⟧.layout };
+
+    ghost facts = { members_facts ⟦<Self as Struct>⟧.parts ⟦<Lease2Additions2Parts as DeserializeMembers>⟧.facts
+        ⟦<Lease2Additions2Parts as SerializeMembers>⟧.members };
+
+    fn deserialize_members<R: ReadExt>(
+        sequence: &mut picky_asn1_der::de::Sequence<'_, R>,
+    ) -> Result<Lease2Additions2> {
+        deserialize_members_as(sequence)
+    }
+
+    ghost proved = { Prim.assumption };
+}
+
+impl AddedMembers for Lease2Additions2 {
+    ghost present = { refl };
+}
+
+impl NotatedMembers for Lease2Additions2 {
+    ghost members_notation = { ⟦<Lease2Additions2Parts as NotatedMembers>⟧.members_notation };
+
+    ghost denoted_layout = { refl };
+}
+
+impl ExactMembers for Lease2Additions2 {
+    ghost all_values = { fields_values ⟦<Lease2Additions2Parts as ExactMembers>⟧.all_values
+        ⟦<Lease2Additions2Parts as NotatedMembers>⟧.members_notation ⟦<Lease2Additions2Parts as SerializeMembers>⟧.members ⟦<Self as Struct>⟧.parts
+        (λ m. (record { garden = m.0; shed = m.1.0; later_members = m.2 }, refl {a = m})) };
+
+    ghost exact_members = { Prim.assumption };
+}
+
+impl FaithfulMembers for Lease2Additions2 {
+    ghost sameness = { members_at ⟦<Self as Struct>⟧.parts ⟦<Lease2Additions2Parts as FaithfulMembers>⟧.sameness
+        ⟦<Lease2Additions2Parts as DeserializeMembers>⟧.facts.tests
+        ⟦<Lease2Additions2Parts as SerializeMembers>⟧.members };
+
+    ghost respects = { Prim.assumption };
+}
+
 /// `Lease-3` of Leases, as a SEQUENCE.
 #[derive(Debug, Drop, PartialEq, Eq)]
 pub struct Lease3 {
@@ -295,20 +425,8 @@ pub struct Lease3 {
     pub notice: Option<ImplicitContextTag2<u8>>,
     /// `BOOLEAN DEFAULT FALSE`.
     pub furnished: ImplicitContextTag3<bool>,
-    /// `INTEGER (0..65535)`.
-    pub deposit: Option<ImplicitContextTag4<u16>>,
-    /// `BOOLEAN`.
-    pub garden: Option<ImplicitContextTag5<bool>>,
-    /// `UTF8String OPTIONAL`.
-    pub shed: Option<ImplicitContextTag6<String>>,
-    /// `INTEGER (0..255) OPTIONAL`.
-    pub pets: Option<ImplicitContextTag7<u8>>,
-    /// `INTEGER (0..255)`.
-    pub keys: Option<ImplicitContextTag8<u8>>,
-    /// `SEQUENCE OF Room`.
-    pub rooms: Option<ImplicitList<Vec<Room>, 0xA9>>,
-    /// The members of later versions, in their order. `...`.
-    pub later_members: LaterMembersFrom<10>,
+    /// The members that an extension added, or `None` in a value of an earlier version. `...`.
+    pub additions: Added<Lease3Additions>,
 }
 
 type Lease3Parts = (
@@ -316,17 +434,7 @@ type Lease3Parts = (
     ImplicitContextTag1<String>,
     Optional<ImplicitContextTag2<u8>>,
     Defaulted<ImplicitContextTag3<bool>, False>,
-    Optional<ImplicitContextTag4<u16>>,
-    Optional<ImplicitContextTag5<bool>>,
-    Optional<ImplicitContextTag6<String>>,
-    Optional<ImplicitContextTag7<u8>>,
-    Lease3Parts2,
-);
-
-type Lease3Parts2 = (
-    Optional<ImplicitContextTag8<u8>>,
-    Optional<ImplicitList<Vec<Room>, 0xA9>>,
-    LaterMembersFrom<10>,
+    Added<Lease3Additions>,
 );
 
 impl Struct for Lease3 {
@@ -337,38 +445,17 @@ impl Struct for Lease3 {
       it.tenant,
       record { 0 = it.notice },
       record { value = it.furnished; default = record {} },
-      record { 0 = it.deposit },
-      record { 0 = it.garden },
-      record { 0 = it.shed },
-      record { 0 = it.pets },
-      (record { 0 = it.keys }, record { 0 = it.rooms }, it.later_members),
+      it.additions,
     ) };
 
     fn from_parts(members: Lease3Parts) -> Lease3 {
-        let (
-            number,
-            tenant,
-            Optional(notice),
-            furnished,
-            Optional(deposit),
-            Optional(garden),
-            Optional(shed),
-            Optional(pets),
-            others,
-        ) = members;
-        let (Optional(keys), Optional(rooms), later_members) = others;
+        let (number, tenant, Optional(notice), furnished, additions) = members;
         Lease3 {
             number,
             tenant,
             notice,
             furnished: furnished.value,
-            deposit,
-            garden,
-            shed,
-            pets,
-            keys,
-            rooms,
-            later_members,
+            additions,
         }
     }
 }
@@ -382,13 +469,7 @@ impl Serialize for Lease3 {
             &self.tenant,
             OptionalRef(&self.notice),
             DefaultedRef::<ImplicitContextTag3<bool>, False>::new(&self.furnished),
-            OptionalRef(&self.deposit),
-            OptionalRef(&self.garden),
-            OptionalRef(&self.shed),
-            OptionalRef(&self.pets),
-            OptionalRef(&self.keys),
-            OptionalRef(&self.rooms),
-            &self.later_members,
+            &self.additions,
         )
             .serialize_sequence(serializer)
     }
@@ -431,13 +512,7 @@ impl Exact for Lease3 {
             tenant = m.1;
             notice = m.2.0;
             furnished = m.3.value;
-            deposit = m.4.0;
-            garden = m.5.0;
-            shed = m.6.0;
-            pets = m.7.0;
-            keys = m.8.0.0;
-            rooms = m.8.1.0;
-            later_members = m.8.2;
+            additions = m.4;
           },
           refl {a = m},
         )) };
@@ -453,6 +528,258 @@ impl Faithful for Lease3 {
 
 impl Inhabited for Lease3 {
     ghost example = { exact_example ⟦<Self as Exact>⟧.values ⟦<Self as Notated>⟧.notation ⟦<Self as Serialize>⟧.meaning refl Prim.assumption };
+}
+
+/// The members that an extension added to `Lease-3` of Leases, and all members after them.
+#[derive(Debug, Drop, PartialEq, Eq)]
+pub struct Lease3Additions {
+    /// `INTEGER (0..65535)`.
+    pub deposit: ImplicitContextTag4<u16>,
+    /// The members that an extension added, or `None` in a value of an earlier version. `...`.
+    pub additions: Added<Lease3Additions2>,
+}
+
+type Lease3AdditionsParts = (ImplicitContextTag4<u16>, Added<Lease3Additions2>);
+
+impl Struct for Lease3Additions {
+    type Members = Lease3AdditionsParts;
+
+    ghost parts = { λ it. (it.deposit, it.additions) };
+
+    fn from_parts(members: Lease3AdditionsParts) -> Lease3Additions {
+        let (deposit, additions) = members;
+        Lease3Additions { deposit, additions }
+    }
+}
+
+impl SerializeMembers for Lease3Additions {
+    ghost members = { λ it. ⟦<Lease3AdditionsParts as SerializeMembers>⟧.members (⟦<Self as Struct>⟧.parts it) };
+
+    fn serialize_members<W: WriteExt>(
+        &self,
+        sequence: &mut picky_asn1_der::ser::Sequence<'_, W>,
+    ) -> Result<()> {
+        (&self.deposit, &self.additions).serialize_members(sequence)
+    }
+}
+
+impl DeserializeMembers for Lease3Additions {
+    ghost layout = { ⟦<Lease3AdditionsParts as DeserializeMembers>⟧.layout };
+
+    ghost facts = { members_facts ⟦<Self as Struct>⟧.parts ⟦<Lease3AdditionsParts as DeserializeMembers>⟧.facts
+        ⟦<Lease3AdditionsParts as SerializeMembers>⟧.members };
+
+    fn deserialize_members<R: ReadExt>(
+        sequence: &mut picky_asn1_der::de::Sequence<'_, R>,
+    ) -> Result<Lease3Additions> {
+        deserialize_members_as(sequence)
+    }
+
+    ghost proved = { Prim.assumption };
+}
+
+impl AddedMembers for Lease3Additions {
+    ghost present = { refl };
+}
+
+impl NotatedMembers for Lease3Additions {
+    ghost members_notation = { ⟦<Lease3AdditionsParts as NotatedMembers>⟧.members_notation };
+
+    ghost denoted_layout = { refl };
+}
+
+impl ExactMembers for Lease3Additions {
+    ghost all_values = { fields_values ⟦<Lease3AdditionsParts as ExactMembers>⟧.all_values
+        ⟦<Lease3AdditionsParts as NotatedMembers>⟧.members_notation ⟦<Lease3AdditionsParts as SerializeMembers>⟧.members ⟦<Self as Struct>⟧.parts
+        (λ m. (record { deposit = m.0; additions = m.1 }, refl {a = m})) };
+
+    ghost exact_members = { Prim.assumption };
+}
+
+impl FaithfulMembers for Lease3Additions {
+    ghost sameness = { members_at ⟦<Self as Struct>⟧.parts ⟦<Lease3AdditionsParts as FaithfulMembers>⟧.sameness
+        ⟦<Lease3AdditionsParts as DeserializeMembers>⟧.facts.tests
+        ⟦<Lease3AdditionsParts as SerializeMembers>⟧.members };
+
+    ghost respects = { Prim.assumption };
+}
+
+/// The members that an extension added to `Lease-3` of Leases, and all members after them.
+#[derive(Debug, Drop, PartialEq, Eq)]
+pub struct Lease3Additions2 {
+    /// `BOOLEAN`.
+    pub garden: ImplicitContextTag5<bool>,
+    /// `UTF8String OPTIONAL`.
+    pub shed: Option<ImplicitContextTag6<String>>,
+    /// `INTEGER (0..255) OPTIONAL`.
+    pub pets: Option<ImplicitContextTag7<u8>>,
+    /// The members that an extension added, or `None` in a value of an earlier version. `...`.
+    pub additions: Added<Lease3Additions3>,
+}
+
+type Lease3Additions2Parts = (
+    ImplicitContextTag5<bool>,
+    Optional<ImplicitContextTag6<String>>,
+    Optional<ImplicitContextTag7<u8>>,
+    Added<Lease3Additions3>,
+);
+
+impl Struct for Lease3Additions2 {
+    type Members = Lease3Additions2Parts;
+
+    ghost parts = { λ it. (it.garden, record { 0 = it.shed }, record { 0 = it.pets }, it.additions) };
+
+    fn from_parts(members: Lease3Additions2Parts) -> Lease3Additions2 {
+        let (garden, Optional(shed), Optional(pets), additions) = members;
+        Lease3Additions2 {
+            garden,
+            shed,
+            pets,
+            additions,
+        }
+    }
+}
+
+impl SerializeMembers for Lease3Additions2 {
+    ghost members = { λ it. ⟦<Lease3Additions2Parts as SerializeMembers>⟧.members (⟦<Self as Struct>⟧.parts it) };
+
+    fn serialize_members<W: WriteExt>(
+        &self,
+        sequence: &mut picky_asn1_der::ser::Sequence<'_, W>,
+    ) -> Result<()> {
+        (
+            &self.garden,
+            OptionalRef(&self.shed),
+            OptionalRef(&self.pets),
+            &self.additions,
+        )
+            .serialize_members(sequence)
+    }
+}
+
+impl DeserializeMembers for Lease3Additions2 {
+    ghost layout = { ⟦<Lease3Additions2Parts as DeserializeMembers>⟧.layout };
+
+    ghost facts = { members_facts ⟦<Self as Struct>⟧.parts ⟦<Lease3Additions2Parts as DeserializeMembers>⟧.facts
+        ⟦<Lease3Additions2Parts as SerializeMembers>⟧.members };
+
+    fn deserialize_members<R: ReadExt>(
+        sequence: &mut picky_asn1_der::de::Sequence<'_, R>,
+    ) -> Result<Lease3Additions2> {
+        deserialize_members_as(sequence)
+    }
+
+    ghost proved = { Prim.assumption };
+}
+
+impl AddedMembers for Lease3Additions2 {
+    ghost present = { refl };
+}
+
+impl NotatedMembers for Lease3Additions2 {
+    ghost members_notation = { ⟦<Lease3Additions2Parts as NotatedMembers>⟧.members_notation };
+
+    ghost denoted_layout = { refl };
+}
+
+impl ExactMembers for Lease3Additions2 {
+    ghost all_values = { fields_values ⟦<Lease3Additions2Parts as ExactMembers>⟧.all_values
+        ⟦<Lease3Additions2Parts as NotatedMembers>⟧.members_notation ⟦<Lease3Additions2Parts as SerializeMembers>⟧.members ⟦<Self as Struct>⟧.parts
+        (λ m. (record { garden = m.0; shed = m.1.0; pets = m.2.0; additions = m.3 }, refl {a = m})) };
+
+    ghost exact_members = { Prim.assumption };
+}
+
+impl FaithfulMembers for Lease3Additions2 {
+    ghost sameness = { members_at ⟦<Self as Struct>⟧.parts ⟦<Lease3Additions2Parts as FaithfulMembers>⟧.sameness
+        ⟦<Lease3Additions2Parts as DeserializeMembers>⟧.facts.tests
+        ⟦<Lease3Additions2Parts as SerializeMembers>⟧.members };
+
+    ghost respects = { Prim.assumption };
+}
+
+/// The members that an extension added to `Lease-3` of Leases, and all members after them.
+#[derive(Debug, Drop, PartialEq, Eq)]
+pub struct Lease3Additions3 {
+    /// `INTEGER (0..255)`.
+    pub keys: ImplicitContextTag8<u8>,
+    /// `SEQUENCE OF Room`.
+    pub rooms: ImplicitList<Vec<Room>, 0xA9>,
+    /// The members of later versions, in their order. `...`.
+    pub later_members: LaterMembersFrom<10>,
+}
+
+type Lease3Additions3Parts = (
+    ImplicitContextTag8<u8>,
+    ImplicitList<Vec<Room>, 0xA9>,
+    LaterMembersFrom<10>,
+);
+
+impl Struct for Lease3Additions3 {
+    type Members = Lease3Additions3Parts;
+
+    ghost parts = { λ it. (it.keys, it.rooms, it.later_members) };
+
+    fn from_parts(members: Lease3Additions3Parts) -> Lease3Additions3 {
+        let (keys, rooms, later_members) = members;
+        Lease3Additions3 {
+            keys,
+            rooms,
+            later_members,
+        }
+    }
+}
+
+impl SerializeMembers for Lease3Additions3 {
+    ghost members = { λ it. ⟦<Lease3Additions3Parts as SerializeMembers>⟧.members (⟦<Self as Struct>⟧.parts it) };
+
+    fn serialize_members<W: WriteExt>(
+        &self,
+        sequence: &mut picky_asn1_der::ser::Sequence<'_, W>,
+    ) -> Result<()> {
+        (&self.keys, &self.rooms, &self.later_members).serialize_members(sequence)
+    }
+}
+
+impl DeserializeMembers for Lease3Additions3 {
+    ghost layout = { ⟦<Lease3Additions3Parts as DeserializeMembers>⟧.layout };
+
+    ghost facts = { members_facts ⟦<Self as Struct>⟧.parts ⟦<Lease3Additions3Parts as DeserializeMembers>⟧.facts
+        ⟦<Lease3Additions3Parts as SerializeMembers>⟧.members };
+
+    fn deserialize_members<R: ReadExt>(
+        sequence: &mut picky_asn1_der::de::Sequence<'_, R>,
+    ) -> Result<Lease3Additions3> {
+        deserialize_members_as(sequence)
+    }
+
+    ghost proved = { Prim.assumption };
+}
+
+impl AddedMembers for Lease3Additions3 {
+    ghost present = { refl };
+}
+
+impl NotatedMembers for Lease3Additions3 {
+    ghost members_notation = { ⟦<Lease3Additions3Parts as NotatedMembers>⟧.members_notation };
+
+    ghost denoted_layout = { refl };
+}
+
+impl ExactMembers for Lease3Additions3 {
+    ghost all_values = { fields_values ⟦<Lease3Additions3Parts as ExactMembers>⟧.all_values
+        ⟦<Lease3Additions3Parts as NotatedMembers>⟧.members_notation ⟦<Lease3Additions3Parts as SerializeMembers>⟧.members ⟦<Self as Struct>⟧.parts
+        (λ m. (record { keys = m.0; rooms = m.1; later_members = m.2 }, refl {a = m})) };
+
+    ghost exact_members = { Prim.assumption };
+}
+
+impl FaithfulMembers for Lease3Additions3 {
+    ghost sameness = { members_at ⟦<Self as Struct>⟧.parts ⟦<Lease3Additions3Parts as FaithfulMembers>⟧.sameness
+        ⟦<Lease3Additions3Parts as DeserializeMembers>⟧.facts.tests
+        ⟦<Lease3Additions3Parts as SerializeMembers>⟧.members };
+
+    ghost respects = { Prim.assumption };
 }
 
 /// `Room` of Leases, as a SEQUENCE.

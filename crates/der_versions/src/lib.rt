@@ -7,5 +7,8 @@ mod leases;
 pub mod notation;
 mod parcels;
 
-pub use leases::{Lease1, Lease2, Lease3, Room};
-pub use parcels::{Parcel1, Parcel2};
+pub use leases::{
+    Lease1, Lease2, Lease2Additions, Lease2Additions2, Lease3, Lease3Additions, Lease3Additions2,
+    Lease3Additions3, Room,
+};
+pub use parcels::{Parcel1, Parcel2, Parcel2Additions, Parcel2Additions2};

@@ -2,9 +2,10 @@
 //!
 //! Types of Parcels.
 ghost use Rattle.std.specs.Prelude.{refl};
-ghost use Rattle.picky_der_de.specs.Faithful.{struct_sameness};
-ghost use Rattle.picky_der_de.specs.MembersFacts.{sequence_of, sequence_shape, struct_facts};
+ghost use Rattle.picky_der_de.specs.Faithful.{members_at, struct_sameness};
+ghost use Rattle.picky_der_de.specs.MembersFacts.{members_facts, sequence_of, sequence_shape, struct_facts};
 ghost use Rattle.der_types.specs.Notation.{Notation};
+ghost use Rattle.der_types.specs.ExactAdded.{fields_values};
 ghost use Rattle.der_types.specs.ExactMembers.{struct_values};
 ghost use Rattle.der_types.specs.SampleTrees.{exact_example};
 
@@ -14,8 +15,9 @@ use picky_asn1_der::de::{Begins, Faithful, FaithfulMembers, Inhabited};
 use picky_asn1_der::misc::{ReadExt, WriteExt};
 use picky_asn1_der::ser::{Optional, OptionalRef};
 use picky_asn1_der::{
-    Choice4, Deserialize, DeserializeMembers, Deserializer, LaterMembers, List, NoneOf, OneOf,
-    Result, Serialize, SerializeMembers, Serializer, Struct, deserialize_struct_as,
+    Added, AddedMembers, Deserialize, DeserializeMembers, Deserializer, LaterMembers, List, NoneOf,
+    OneOf, Result, Serialize, SerializeMembers, Serializer, Struct, deserialize_members_as,
+    deserialize_struct_as,
 };
 
 /// `Parcel-1` of Parcels, as a SEQUENCE.
@@ -123,59 +125,24 @@ pub struct Parcel2 {
     pub fragile: bool,
     /// `UTF8String OPTIONAL`.
     pub note: Option<String>,
-    /// `IA5String`.
-    pub sender: Option<Ia5String>,
-    /// `[0] SEQUENCE OF INTEGER (0..255) OPTIONAL`.
-    pub stamps: Option<ImplicitList0<Vec<u8>>>,
-    /// `BOOLEAN`.
-    pub returned: Option<bool>,
-    /// The members of later versions, in their order. `...`.
-    pub later_members: LaterMembers<
-        Choice4<String, Ia5String, ImplicitList0<Vec<u8>>, bool, NoneOf>,
-    >,
+    /// The members that an extension added, or `None` in a value of an earlier version. `...`.
+    pub additions: Added<Parcel2Additions>,
 }
 
-type Parcel2Parts = (
-    u32,
-    bool,
-    Optional<String>,
-    Optional<Ia5String>,
-    Optional<ImplicitList0<Vec<u8>>>,
-    Optional<bool>,
-    LaterMembers<Choice4<String, Ia5String, ImplicitList0<Vec<u8>>, bool, NoneOf>>,
-);
+type Parcel2Parts = (u32, bool, Optional<String>, Added<Parcel2Additions>);
 
 impl Struct for Parcel2 {
     type Members = Parcel2Parts;
 
-    ghost parts = { λ it. (
-      it.number,
-      it.fragile,
-      record { 0 = it.note },
-      record { 0 = it.sender },
-      record { 0 = it.stamps },
-      record { 0 = it.returned },
-      it.later_members,
-    ) };
+    ghost parts = { λ it. (it.number, it.fragile, record { 0 = it.note }, it.additions) };
 
     fn from_parts(members: Parcel2Parts) -> Parcel2 {
-        let (
-            number,
-            fragile,
-            Optional(note),
-            Optional(sender),
-            Optional(stamps),
-            Optional(returned),
-            later_members,
-        ) = members;
+        let (number, fragile, Optional(note), additions) = members;
         Parcel2 {
             number,
             fragile,
             note,
-            sender,
-            stamps,
-            returned,
-            later_members,
+            additions,
         }
     }
 }
@@ -188,10 +155,7 @@ impl Serialize for Parcel2 {
             &self.number,
             &self.fragile,
             OptionalRef(&self.note),
-            OptionalRef(&self.sender),
-            OptionalRef(&self.stamps),
-            OptionalRef(&self.returned),
-            &self.later_members,
+            &self.additions,
         )
             .serialize_sequence(serializer)
     }
@@ -228,18 +192,7 @@ impl Notated for Parcel2 {
 impl Exact for Parcel2 {
     ghost values = { struct_values ⟦<Parcel2Parts as ExactMembers>⟧.all_values ⟦<Parcel2Parts as NotatedMembers>⟧.members_notation
         ⟦<Parcel2Parts as SerializeMembers>⟧.members ⟦<Self as Struct>⟧.parts
-        (λ m. (
-          record {
-            number = m.0;
-            fragile = m.1;
-            note = m.2.0;
-            sender = m.3.0;
-            stamps = m.4.0;
-            returned = m.5.0;
-            later_members = m.6;
-          },
-          refl {a = m},
-        )) };
+        (λ m. (record { number = m.0; fragile = m.1; note = m.2.0; additions = m.3 }, refl {a = m})) };
 
     ghost exact = { Prim.assumption };
 }
@@ -252,4 +205,165 @@ impl Faithful for Parcel2 {
 
 impl Inhabited for Parcel2 {
     ghost example = { exact_example ⟦<Self as Exact>⟧.values ⟦<Self as Notated>⟧.notation ⟦<Self as Serialize>⟧.meaning refl Prim.assumption };
+}
+
+/// The members that an extension added to `Parcel-2` of Parcels, and all members after them.
+#[derive(Debug, Drop, PartialEq, Eq)]
+pub struct Parcel2Additions {
+    /// `IA5String`.
+    pub sender: Ia5String,
+    /// `[0] SEQUENCE OF INTEGER (0..255) OPTIONAL`.
+    pub stamps: Option<ImplicitList0<Vec<u8>>>,
+    /// The members that an extension added, or `None` in a value of an earlier version. `...`.
+    pub additions: Added<Parcel2Additions2>,
+}
+
+type Parcel2AdditionsParts = (
+    Ia5String,
+    Optional<ImplicitList0<Vec<u8>>>,
+    Added<Parcel2Additions2>,
+);
+
+impl Struct for Parcel2Additions {
+    type Members = Parcel2AdditionsParts;
+
+    ghost parts = { λ it. (it.sender, record { 0 = it.stamps }, it.additions) };
+
+    fn from_parts(members: Parcel2AdditionsParts) -> Parcel2Additions {
+        let (sender, Optional(stamps), additions) = members;
+        Parcel2Additions {
+            sender,
+            stamps,
+            additions,
+        }
+    }
+}
+
+impl SerializeMembers for Parcel2Additions {
+    ghost members = { λ it. ⟦<Parcel2AdditionsParts as SerializeMembers>⟧.members (⟦<Self as Struct>⟧.parts it) };
+
+    fn serialize_members<W: WriteExt>(
+        &self,
+        sequence: &mut picky_asn1_der::ser::Sequence<'_, W>,
+    ) -> Result<()> {
+        (&self.sender, OptionalRef(&self.stamps), &self.additions).serialize_members(sequence)
+    }
+}
+
+impl DeserializeMembers for Parcel2Additions {
+    ghost layout = { ⟦<Parcel2AdditionsParts as DeserializeMembers>⟧.layout };
+
+    ghost facts = { members_facts ⟦<Self as Struct>⟧.parts ⟦<Parcel2AdditionsParts as DeserializeMembers>⟧.facts
+        ⟦<Parcel2AdditionsParts as SerializeMembers>⟧.members };
+
+    fn deserialize_members<R: ReadExt>(
+        sequence: &mut picky_asn1_der::de::Sequence<'_, R>,
+    ) -> Result<Parcel2Additions> {
+        deserialize_members_as(sequence)
+    }
+
+    ghost proved = { Prim.assumption };
+}
+
+impl AddedMembers for Parcel2Additions {
+    ghost present = { refl };
+}
+
+impl NotatedMembers for Parcel2Additions {
+    ghost members_notation = { ⟦<Parcel2AdditionsParts as NotatedMembers>⟧.members_notation };
+
+    ghost denoted_layout = { refl };
+}
+
+impl ExactMembers for Parcel2Additions {
+    ghost all_values = { fields_values ⟦<Parcel2AdditionsParts as ExactMembers>⟧.all_values
+        ⟦<Parcel2AdditionsParts as NotatedMembers>⟧.members_notation ⟦<Parcel2AdditionsParts as SerializeMembers>⟧.members ⟦<Self as Struct>⟧.parts
+        (λ m. (record { sender = m.0; stamps = m.1.0; additions = m.2 }, refl {a = m})) };
+
+    ghost exact_members = { Prim.assumption };
+}
+
+impl FaithfulMembers for Parcel2Additions {
+    ghost sameness = { members_at ⟦<Self as Struct>⟧.parts ⟦<Parcel2AdditionsParts as FaithfulMembers>⟧.sameness
+        ⟦<Parcel2AdditionsParts as DeserializeMembers>⟧.facts.tests
+        ⟦<Parcel2AdditionsParts as SerializeMembers>⟧.members };
+
+    ghost respects = { Prim.assumption };
+}
+
+/// The members that an extension added to `Parcel-2` of Parcels, and all members after them.
+#[derive(Debug, Drop, PartialEq, Eq)]
+pub struct Parcel2Additions2 {
+    /// `BOOLEAN`.
+    pub returned: bool,
+    /// The members of later versions, in their order. `...`.
+    pub later_members: LaterMembers<NoneOf>,
+}
+
+type Parcel2Additions2Parts = (bool, LaterMembers<NoneOf>);
+
+impl Struct for Parcel2Additions2 {
+    type Members = Parcel2Additions2Parts;
+
+    ghost parts = { λ it. (it.returned, it.later_members) };
+
+    fn from_parts(members: Parcel2Additions2Parts) -> Parcel2Additions2 {
+        let (returned, later_members) = members;
+        Parcel2Additions2 {
+            returned,
+            later_members,
+        }
+    }
+}
+
+impl SerializeMembers for Parcel2Additions2 {
+    ghost members = { λ it. ⟦<Parcel2Additions2Parts as SerializeMembers>⟧.members (⟦<Self as Struct>⟧.parts it) };
+
+    fn serialize_members<W: WriteExt>(
+        &self,
+        sequence: &mut picky_asn1_der::ser::Sequence<'_, W>,
+    ) -> Result<()> {
+        (&self.returned, &self.later_members).serialize_members(sequence)
+    }
+}
+
+impl DeserializeMembers for Parcel2Additions2 {
+    ghost layout = { ⟦<Parcel2Additions2Parts as DeserializeMembers>⟧.layout };
+
+    ghost facts = { members_facts ⟦<Self as Struct>⟧.parts ⟦<Parcel2Additions2Parts as DeserializeMembers>⟧.facts
+        ⟦<Parcel2Additions2Parts as SerializeMembers>⟧.members };
+
+    fn deserialize_members<R: ReadExt>(
+        sequence: &mut picky_asn1_der::de::Sequence<'_, R>,
+    ) -> Result<Parcel2Additions2> {
+        deserialize_members_as(sequence)
+    }
+
+    ghost proved = { Prim.assumption };
+}
+
+impl AddedMembers for Parcel2Additions2 {
+    ghost present = { refl };
+}
+
+impl NotatedMembers for Parcel2Additions2 {
+    ghost members_notation = { ⟦<Parcel2Additions2Parts as NotatedMembers>⟧.members_notation };
+
+    ghost denoted_layout = { refl };
+}
+
+impl ExactMembers for Parcel2Additions2 {
+    ghost all_values = { fields_values ⟦<Parcel2Additions2Parts as ExactMembers>⟧.all_values
+        ⟦<Parcel2Additions2Parts as NotatedMembers>⟧.members_notation ⟦<Parcel2Additions2Parts as SerializeMembers>⟧.members ⟦<Self as Struct>⟧.parts
+        (λ m. (record { returned = m.0; later_members = m.1 }, refl {a = m})) };
+
+    ghost exact_members = { Prim.assumption };
+}
+
+impl FaithfulMembers for Parcel2Additions2 {
+    ghost sameness = { members_at ⟦<Self as Struct>⟧.parts ⟦<Parcel2Additions2Parts as FaithfulMembers>⟧.sameness
+        ⟦<Parcel2Additions2Parts as DeserializeMembers>⟧.facts.tests
+        ⟦<Parcel2Additions2Parts as SerializeMembers>⟧.members };
+
+    ghost respects = { Prim.assumption };
 }

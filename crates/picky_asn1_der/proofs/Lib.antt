@@ -1,3 +1,4 @@
+mod AddedReads
 mod LaterReads
 mod LaterWrites
 pub mod RawTags

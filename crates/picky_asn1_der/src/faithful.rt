@@ -8,10 +8,12 @@ ghost use Rattle.picky_der_de.specs.Examples.{null_element, null_element_readabl
 ghost use Rattle.picky_der_de.specs.Faithful.{plain_sameness, plain_members, wrapped_sameness, bytes_respect};
 ghost use Rattle.picky_der_de.specs.Faithful.{others_respect};
 ghost use Rattle.picky_der_de.specs.OtherLaws.{others_of};
+ghost use Rattle.picky_asn1_der.specs.AddedLaws.{added_sameness};
 
 use crate::application_tag::ApplicationTag;
 use crate::{
-    Alternatives, Asn1RawDer, Faithful, FaithfulMembers, Inhabited, LaterMembers, LaterMembersFrom,
+    Added, AddedMembers, Alternatives, Asn1RawDer, Faithful, FaithfulMembers, Inhabited,
+    LaterMembers, LaterMembersFrom,
 };
 use std::fmt::Debug;
 
@@ -30,6 +32,12 @@ impl Faithful for Asn1RawDer {
 
 impl Inhabited for Asn1RawDer {
     ghost example = { (record { 0 = null_element }, null_element_readable) };
+}
+
+impl<M: FaithfulMembers + AddedMembers> FaithfulMembers for Added<M> {
+    ghost sameness = { added_sameness M.sameness M.facts.tests M.members (λ it. it.0) };
+
+    ghost respects = { Prim.assumption };
 }
 
 impl<A: Alternatives> FaithfulMembers for LaterMembers<A> {

@@ -1,6 +1,7 @@
 //! Typed values to canonical ASN.1 DER and back: the items of the crates beneath, under the paths of the Rust crate.
 #![tactic(auto)]
 
+pub mod added;
 pub mod application_tag;
 
 /// Reads values.
@@ -33,6 +34,7 @@ pub mod parts;
 pub mod raw_der;
 pub mod round_trip;
 
+pub use added::{Added, AddedMembers, deserialize_members_as};
 pub use later_members::LaterMembers;
 pub use later_members_from::LaterMembersFrom;
 pub use parts::{Signed, from_der_signed, part_range};

@@ -12,8 +12,8 @@ use Rattle.picky_der_core.specs.Encoding.{plain_encoding, wrapper_encoding, tree
 use Rattle.picky_der_core.specs.Readable.{IsReadable, AreReadable, IsHeadedIfChoice}
 use Rattle.picky_der_core.specs.Shape.{Shape, Shapes, Layout, IsOf, IsOneOf, AreMembersOf, firsts, firsts_of}
 use Rattle.picky_der_core.specs.Shape.{next_firsts, are_disjoint, IsPrimitiveTree, IsRaw, IsList, IsWrapped, IsOptional}
-use Rattle.picky_der_core.specs.Shape.{IsChoice, EachIs, FirstAndRest, FirstOrNone, IsEmpty, AreOthers, IsSound}
-use Rattle.picky_der_core.specs.Shape.{AreSound, AreDistinct, AreMembersSound, AreMembersDistinct}
+use Rattle.picky_der_core.specs.Shape.{IsChoice, EachIs, FirstAndRest, FirstOrNone, AllOrNone, IsEmpty, AreOthers}
+use Rattle.picky_der_core.specs.Shape.{IsSound, AreSound, AreDistinct, AreMembersSound, AreMembersDistinct}
 use Rattle.picky_der_core.specs.ElementLaws.{tlv-same}
 use Rattle.picky_der_core.specs.EncodingLaws.{is_absent-readable, list_content-in_order, never_absent, same_encoding}
 use Rattle.picky_der_core.specs.EncodingLaws.{length-der}
@@ -187,6 +187,19 @@ first_or_none_known s l disjoint known others ts us (inl p) (inr q) r v e =
 first_or_none_known s l disjoint known others ts us (inr p) (inl q) r v e =
     absurd (absent_distinct s l disjoint us ts q p v r (sym e))
 
+-- ---- members that an extension added
+
+all_or_none_known : (P : Trees → Type 0) → AreKnown P → AreKnown (AllOrNone P)
+unfolding tree_bytes der
+all_or_none_known P known ts us (inl p) (inl q) r v e = known ts us p q r v e
+all_or_none_known P known Trees.none Trees.none p q r v e = refl
+all_or_none_known P known (Trees.more t ts) Trees.none (inl p) (inr q) r v e =
+    absurd (not_empty t (concat (encodings ts)) r.0 e)
+all_or_none_known P known Trees.none (Trees.more u us) (inr p) (inl q) r v e =
+    absurd (not_empty u (concat (encodings us)) v.0 (sym e))
+all_or_none_known P known ts (Trees.more u us) p (inr q) r v e = absurd q
+all_or_none_known P known (Trees.more t ts) us (inr p) q r v e = absurd p
+
 mutual
   pub known : (s : Shape) → IsSound s → (header : Bool) → IsKnown header (IsOf s)
   known (Shape.primitive k) = λ sound header. primitive_known k header
@@ -203,6 +216,7 @@ mutual
       λ sound disjoint. first_and_rest_known _ _ (known s sound.0 true) (members_known l sound.1 disjoint)
   members_known (Layout.maybe s l) = λ sound disjoint. first_or_none_known s l disjoint.0 (known s sound.0 true)
       (members_known l sound.1 disjoint.1)
+  members_known (Layout.added l) = λ sound disjoint. all_or_none_known (AreMembersOf l) (members_known l sound disjoint)
   members_known (Layout.others excluded) = λ sound disjoint. others_known excluded
 
   alternatives_known : (ss : Shapes) → AreSound ss → AreDistinct ss → IsKnown true (IsOneOf ss)

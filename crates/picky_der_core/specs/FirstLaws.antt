@@ -14,7 +14,8 @@ use Rattle.picky_der_core.specs.Tree.{ListKind, Tree, Trees}
 use Rattle.picky_der_core.specs.Encoding.{plain_encoding, tree_bytes, der, list_tag}
 use Rattle.picky_der_core.specs.Readable.{IsReadable}
 use Rattle.picky_der_core.specs.Shape.{Shape, Shapes, Layout, IsOf, IsOneOf, AreMembersOf, FirstOrNone, EachIs, firsts}
-use Rattle.picky_der_core.specs.Shape.{firsts_of, next_firsts, contains, are_disjoint, tags_below, tag_with_number}
+use Rattle.picky_der_core.specs.Shape.{AllOrNone, firsts_of, next_firsts, contains, are_disjoint, tags_below}
+use Rattle.picky_der_core.specs.Shape.{tag_with_number}
 use Rattle.picky_der_core.specs.Shape.{IsPrimitiveTree, IsRaw, begins_outside, IsRawOutside, AreOthers, IsList}
 use Rattle.picky_der_core.specs.Shape.{IsOptional, IsWrapped, IsChoice}
 use Rattle.picky_der_core.specs.EncodingLaws.{is_absent-readable, der-wrapped_present}
@@ -248,10 +249,16 @@ raw_outside_first excluded (Tree.raw s) p r =
     }
 raw_outside_first excluded _ p r = absurd p
 
+all_or_none_first : (P : Trees → Type 0) (fs : List ℕ) → ((t : Tree) (ts : Trees) → P (Trees.more t ts) → IsReadable t
+    → BeginsIn fs t) → (t : Tree) (ts : Trees) → AllOrNone P (Trees.more t ts) → IsReadable t → BeginsIn fs t
+all_or_none_first P fs first t ts (inl p) r = first t ts p r
+all_or_none_first P fs first t ts (inr p) r = absurd p
+
 pub begins_next : (l : Layout) (t : Tree) (ts : Trees) → AreMembersOf l (Trees.more t ts) → IsReadable t
     → BeginsIn (next_firsts l) t
 begins_next Layout.empty = λ t ts p r. absurd p
 begins_next (Layout.required s l) = λ t ts p r. begins_in s t p.0 r
 begins_next (Layout.maybe s l) = first_or_none_first (IsOf s) (AreMembersOf l) (firsts s) (next_firsts l) (begins_in s)
     (begins_next l)
+begins_next (Layout.added l) = all_or_none_first (AreMembersOf l) (next_firsts l) (begins_next l)
 begins_next (Layout.others excluded) = λ t ts p r. raw_outside_first excluded t p.0 r

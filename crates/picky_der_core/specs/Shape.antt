@@ -34,8 +34,9 @@ mutual
     required : Shape → Layout → Layout
     -- a member that may be missing, and the members after it
     maybe : Shape → Layout → Layout
-    -- any further elements, of which the first begins with none of these bytes: elements of a later version (X.680,
-    -- 25.1)
+    -- members that an extension added, or nothing more: a value of an earlier version ends before them (X.680, 25.1)
+    added : Layout → Layout
+    -- any further elements, of which the first begins with none of these bytes: elements of a later version
     others : List ℕ → Layout
 
 abbrev pub shapes : List Shape → Shapes
@@ -90,6 +91,10 @@ abbrev pub IsEmpty : Trees → Type 0
 IsEmpty Trees.none = ⊤
 IsEmpty (Trees.more t ts) = ⊥
 
+-- P of all, or there are none
+abbrev pub AllOrNone : (Trees → Type 0) → Trees → Type 0
+AllOrNone P ts = P ts ⊎ IsEmpty ts
+
 -- these bytes begin with none of the excluded ones
 abbrev pub begins_outside : List ℕ → List ℕ → Bool
 begins_outside excluded [] = true
@@ -120,6 +125,7 @@ abbrev mutual
   AreMembersOf Layout.empty = IsEmpty
   AreMembersOf (Layout.required s l) = FirstAndRest (IsOf s) (AreMembersOf l)
   AreMembersOf (Layout.maybe s l) = FirstOrNone (IsOf s) (AreMembersOf l)
+  AreMembersOf (Layout.added l) = AllOrNone (AreMembersOf l)
   AreMembersOf (Layout.others excluded) = AreOthers excluded
 
   -- the tree is of one of the shapes
@@ -158,6 +164,7 @@ abbrev pub next_firsts : Layout → List ℕ
 next_firsts Layout.empty = []
 next_firsts (Layout.required s l) = firsts s
 next_firsts (Layout.maybe s l) = firsts s ++ next_firsts l
+next_firsts (Layout.added l) = next_firsts l
 next_firsts (Layout.others excluded) = filter (λ b. not (contains excluded b)) (tags_below 256)
 
 -- an encoding of the shape can begin with this byte
@@ -180,6 +187,7 @@ abbrev pub AreMembersDistinct : Layout → Type 0
 AreMembersDistinct Layout.empty = ⊤
 AreMembersDistinct (Layout.required s l) = AreMembersDistinct l
 AreMembersDistinct (Layout.maybe s l) = IsTrue (are_disjoint (firsts s) (next_firsts l)) × AreMembersDistinct l
+AreMembersDistinct (Layout.added l) = AreMembersDistinct l
 AreMembersDistinct (Layout.others excluded) = ⊤
 
 -- inside, the alternatives of every choice and the members of every layout are distinguished by their first byte
@@ -200,4 +208,5 @@ abbrev mutual
   AreMembersSound Layout.empty = ⊤
   AreMembersSound (Layout.required s l) = IsSound s × AreMembersSound l
   AreMembersSound (Layout.maybe s l) = IsSound s × AreMembersSound l
+  AreMembersSound (Layout.added l) = AreMembersSound l
   AreMembersSound (Layout.others excluded) = ⊤

@@ -25,4 +25,5 @@ pub mod SetOrder
 pub mod WrapperRuled
 pub mod MemberRuled
 pub mod ChoiceRuled
+pub mod NextRuled
 pub mod WholeRuled

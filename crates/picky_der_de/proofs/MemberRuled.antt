@@ -35,6 +35,7 @@ use Rattle.picky_der_de.specs.Rules.{IsNext, spot_before, soft_spot, AreNext, ea
 use Rattle.picky_der_de.specs.Rules.{RefusesEachBy, list_of_rule, field_rule, always_rule, at_field, after_field}
 use Rattle.picky_der_de.specs.Rules.{perhaps_rule, cut, there, is_default, after_there, at_end, absent, layout_rule}
 use Rattle.picky_der_de.specs.Rules.{missing, refused, next_byte_refusal, fields_rule, LeadsTo, RefusesBefore}
+use Rattle.picky_der_de.specs.Rules.{added_rule, at_cut, at_members, end_rule}
 use Rattle.picky_der_de.proofs.Refusals.{front_consumed}
 use Rattle.picky_der_de.proofs.Order.{judged_after_any_order}
 use Rattle.picky_der_de.proofs.KnownBytes.{kept_known}
@@ -172,6 +173,33 @@ still_unordered {b = b} {t = t} r none =
     without None e = refl
     without (Some x) e = absurd (let q : Some x ≡ None = e in cc)
 
+-- a look at the next byte isn't seen
+looked_by : (R Q : Rule) {b c d : State} {x : ℕ} {e : Asn1DerError} → Peeks b c x
+    → ((bs rest left : List ℕ) → bs ≡ x ∷ rest → R (spot_of b) bs e left → Q (spot_of b) bs e left)
+    → RefusesBy R c d e → RefusesBy Q b d e
+looked_by R Q {b} {c} {d} {x} {e} p lead by j bs left k l =
+    let q = by (peeks_judged p j) bs left (kept_known b.input c.input bs p.input k) l in
+    let f = known_next b.input bs p.next k in
+    lead bs f.0 left f.1 (subst (λ at. R at bs e left) (ap spot_of p.same) q)
+  where
+    known_next : (i : Option (List ℕ)) (bs : List ℕ) → IfSome i (IsPrefix (x ∷ [])) → i ≡ Some bs
+        → (rest : List ℕ) × (bs ≡ x ∷ rest)
+    known_next None bs h e = absurd (let q : None ≡ Some bs = e in cc)
+    known_next (Some xs) bs h e = let same : xs ≡ bs = cc in (h.rest, sym same ∙ h.is)
+
+-- no byte is there
+no_byte_by : (d : Option ℕ) (a : State) (rest : List ℕ) → d ≡ None
+    → identifier_refusal_in d a rest ≡ next_byte_refusal (spot_of a) rest
+no_byte_by None a [] e = refl
+no_byte_by None a (b ∷ rest) e = refl
+no_byte_by (Some number) a rest e = absurd (let q : Some number ≡ None = e in cc)
+
+unseen_by : {b d : State} {e : Asn1DerError} → b.implicit_tag ≡ None → RefusesIdentifier b d e
+    → RefusesBy (by_bytes next_byte_refusal) b d e
+unseen_by {b} whole h = λ j bs left k l.
+    bytes_by (identifier_refusal b) next_byte_refusal (λ rest. no_byte_by b.implicit_tag b rest whole) h.refuses.just j
+    bs left k l
+
 module _ {W : Type 0} (meaning : W → Tree) (left_out : W → Bool) (s : Shape) (member others : Rule) where
   unfoldable member_is_next : {b c : State} {bs rest : List ℕ} (w : W) → ReadsMember s b c (meaning w)
       → b.input ≡ Some bs
@@ -190,20 +218,6 @@ module _ {W : Type 0} (meaning : W → Tree) (left_out : W → Bool) (s : Shape)
       let q = by (judged_after_any_order t j) p.0 left p.1 l in
       lead bs p.0 left (member_is_next w r k p.1)
       (subst (λ at. others at p.0 e left) (after_spot b c t (member_not_implicit r)) q)
-
-  -- a look at the next byte isn't seen
-  looked_by : (R Q : Rule) {b c d : State} {x : ℕ} {e : Asn1DerError} → Peeks b c x
-      → ((bs rest left : List ℕ) → bs ≡ x ∷ rest → R (spot_of b) bs e left → Q (spot_of b) bs e left)
-      → RefusesBy R c d e → RefusesBy Q b d e
-  looked_by R Q {b} {c} {d} {x} {e} p lead by j bs left k l =
-      let q = by (peeks_judged p j) bs left (kept_known b.input c.input bs p.input k) l in
-      let f = known_next b.input bs p.next k in
-      lead bs f.0 left f.1 (subst (λ at. R at bs e left) (ap spot_of p.same) q)
-    where
-      known_next : (i : Option (List ℕ)) (bs : List ℕ) → IfSome i (IsPrefix (x ∷ [])) → i ≡ Some bs
-          → (rest : List ℕ) × (bs ≡ x ∷ rest)
-      known_next None bs h e = absurd (let q : None ≡ Some bs = e in cc)
-      known_next (Some xs) bs h e = let same : xs ≡ bs = cc in (h.rest, sym same ∙ h.is)
 
   -- a member was read whose order isn't tested
   not_tested : {m : List ℕ} {a b c : State} {e : Asn1DerError} → b.sets ≡ a.sets → a.sets.last ≡ None
@@ -235,19 +249,11 @@ module _ {W : Type 0} (meaning : W → Tree) (left_out : W → Bool) (s : Shape)
 
   -- ---- one that may be missing
 
-  no_byte_by : (d : Option ℕ) (a : State) (rest : List ℕ) → d ≡ None
-      → identifier_refusal_in d a rest ≡ next_byte_refusal (spot_of a) rest
-  no_byte_by None a [] e = refl
-  no_byte_by None a (b ∷ rest) e = refl
-  no_byte_by (Some number) a rest e = absurd (let q : Some number ≡ None = e in cc)
-
   optional_head : {b d : State} {e : Asn1DerError} → b.sets.last ≡ None → b.implicit_tag ≡ None
       → RefusesOptional meaning s (field_rule member) b d e
       → RefusesBy (perhaps_rule meaning left_out s member others) b d e
-  optional_head {b} {d} {e} none whole (no_tag h ahead) = λ j bs left k l.
-      cut (ahead j.had_not_failed)
-      (bytes_by (identifier_refusal b) next_byte_refusal (λ rest. no_byte_by b.implicit_tag b rest whole)
-      h.refuses.just j bs left k l)
+  optional_head none whole (no_tag h ahead) = λ j bs left k l.
+      cut (ahead j.had_not_failed) (unseen_by whole h j bs left k l)
   optional_head {b} {d} {e} none whole (no_member mid tag i own r) =
       let p = as_look whole i in
       let unordered : mid.sets.last ≡ None = ap (λ (z : State). z.sets.last) p.same ∙ none in
@@ -308,6 +314,34 @@ still_none meaning s b c none whole (Some w) r l = still_unordered r none
 still_none meaning s b c none whole None r (no_more n) = ap (λ (z : State). z.sets.last) n.same ∙ none
 still_none meaning s b c none whole None r (begins_otherwise tag i other) =
     ap (λ (z : State). z.sets.last) (as_look whole i).same ∙ none
+
+-- ---- members that an extension added
+
+module _ (members : Rule) where
+  -- no byte is there, though the end isn't here
+  pub added_cut_by : {b d : State} {e : Asn1DerError} → b.implicit_tag ≡ None → RefusesIdentifier b d e
+      → (b.failed ≡ None → 0 < b.until_end) → RefusesBefore (added_rule members) b d e
+  added_cut_by whole h ahead = λ none j bs left k l.
+      at_cut (ahead j.had_not_failed) (unseen_by whole h j bs left k l)
+
+  -- a byte is there, and they were refused
+  pub added_there_by : {b c d : State} {tag : ℕ} {e : Asn1DerError} → b.implicit_tag ≡ None → Identifies b c tag
+      → RefusesBefore members c d e → RefusesBefore (added_rule members) b d e
+  added_there_by {tag = tag} whole i by none =
+      let p = as_look whole i in
+      looked_by members (added_rule members) p (λ bs rest left is h. at_members p.ahead tag rest is h)
+      (by (ap (λ (z : State). z.sets.last) p.same ∙ none))
+
+  -- they were read
+  pub added_leads : {b c d : State} {tag : ℕ} → b.implicit_tag ≡ None → Identifies b c tag → LeadsTo members c d
+      → LeadsTo (added_rule members) b d
+  added_leads whole i leads none last e by = added_there_by whole i (λ still. leads still last e by) none
+
+  -- the end is here, so that nothing is left over after it
+  pub added_ends : {b c : State} → HasNoMore b c → LeadsTo (added_rule members) b c
+  added_ends n none last e by j bs left k l =
+      let h = subst (λ z. RefusesBy end_rule z last e) n.same by j bs left k l in
+      absurd (omega (arith, h.more, n.reached))
 
 -- ---- whole lists of one type
 

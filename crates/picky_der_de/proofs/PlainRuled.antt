@@ -1,5 +1,5 @@
 -- Plain values and elements are refused by their rules.
-use Rattle.std.proofs.Common.{◌≡◌, ℕ, List, ◌++◌, take, drop, Option, Some, None, refl, sym, ◌∙◌}
+use Rattle.std.proofs.Common.{◌≡◌, ℕ, List, take, Option, Some, None, refl, sym, ◌∙◌}
 use Rattle.picky_der_core.specs.declared.error.Asn1DerError.{Asn1DerError}
 use Rattle.picky_der_core.specs.Refusal.{Refusal, Judge, element_refusal}
 use Rattle.picky_der_core.specs.Tree.{Tree}
@@ -7,7 +7,7 @@ use Rattle.picky_der_core.specs.Shape.{Shape}
 use Rattle.picky_der_de.specs.State.{State}
 use Rattle.picky_der_de.specs.Reading.{Refuses, RefusesPlain, refusal_in, refusal_at, AreJustRefused}
 use Rattle.picky_der_de.specs.Elements.{raw_refusal, RefusesRaw}
-use Rattle.picky_der_de.specs.RefusesBy.{Spot, Rule, spot_of, RefusesBy}
+use Rattle.picky_der_de.specs.RefusesBy.{Spot, spot_of, RefusesBy}
 use Rattle.picky_der_de.specs.PlainRules.{by_bytes, plain_refusal_in, plain_rule}
 
 -- one input is known

@@ -1,5 +1,5 @@
 -- Whole inputs are refused by the rules of their types.
-use Rattle.std.proofs.Common.{◌≡◌, ◌≢◌, ℕ, ◌+◌, ◌<◌, List, [], ◌++◌, length, Option, Some, None, refl, sym, ◌∙◌, ap}
+use Rattle.std.proofs.Common.{◌≡◌, ◌≢◌, ℕ, ◌+◌, ◌<◌, List, [], length, Option, Some, refl, sym, ◌∙◌, ap}
 use Rattle.std.proofs.Common.{subst}
 use Rattle.std.proofs.Common.{arith, length-append}
 use Rattle.picky_der_core.specs.declared.error.Asn1DerError.{Asn1DerError}

@@ -1,25 +1,24 @@
 -- Values in wrappers, sequences and sets are refused by their rules.
-use Rattle.std.proofs.Common.{◌≡◌, ℕ, ◌+◌, ◌-◌, ◌<◌, ◌≤◌, List, ◌++◌, length, Option, Some, None, refl, sym, ◌∙◌, ap}
+use Rattle.std.proofs.Common.{◌≡◌, ℕ, ◌+◌, List, ◌++◌, length, Option, Some, None, refl, sym, ◌∙◌, ap}
 use Rattle.std.proofs.Common.{subst, arith}
 use Rattle.picky_der_core.specs.declared.error.Asn1DerError.{Asn1DerError}
 use Rattle.picky_der_core.specs.declared.asn1.wrapper.Wrapper.{Wrapper}
-use Rattle.picky_der_core.specs.Wrapper.{wrapper_front, counts_unused_bits}
+use Rattle.picky_der_core.specs.Wrapper.{counts_unused_bits}
 use Rattle.picky_der_core.specs.Tree.{Tree}
 use Rattle.picky_der_core.specs.Reading.{written_at}
-use Rattle.picky_der_core.specs.Refusal.{Refusal, header_refusal, wrapper_header}
+use Rattle.picky_der_core.specs.Refusal.{header_refusal, wrapper_header}
 use Rattle.picky_der_core.specs.Shape.{Shape}
 use Rattle.picky_der_de.specs.declared.end.End.TheVariants.{Soft}
 use Rattle.picky_der_de.specs.State.{State}
-use Rattle.picky_der_de.specs.Steps.{Fails, IsJudged, is_hard, place_of}
+use Rattle.picky_der_de.specs.Steps.{IsJudged, is_hard, place_of}
 use Rattle.picky_der_de.specs.Order.{order_of, sets_inside}
-use Rattle.picky_der_de.specs.Reading.{Reads, AreJustRefused}
+use Rattle.picky_der_de.specs.Reading.{Reads}
 use Rattle.picky_der_de.specs.Headers.{header_bytes}
-use Rattle.picky_der_de.specs.Ends.{EnclosingEnd, innermost, with_inner_end, RefusesClose, OpensList, RefusesList}
+use Rattle.picky_der_de.specs.Ends.{EnclosingEnd, RefusesClose, OpensList, RefusesList}
 use Rattle.picky_der_de.specs.Wrappers.{refusal_after, opening_refusal, wrapper_opening, OpensWrapper, RefusesOpening}
-use Rattle.picky_der_de.specs.RefusesBy.{Spot, Rule, spot_of, RefusesBy}
-use Rattle.picky_der_de.specs.PlainRules.{by_bytes}
+use Rattle.picky_der_de.specs.RefusesBy.{Rule, spot_of, RefusesBy}
 use Rattle.picky_der_de.specs.Rules.{IsNext, IsOpened, inside_spot, soft_spot, wrapped_rule, at_opening, at_value}
-use Rattle.picky_der_de.specs.Rules.{after_value, list_refusal_at, IsListOpened, list_rule, at_header, at_content}
+use Rattle.picky_der_de.specs.Rules.{after_value, list_refusal_at, list_rule, at_header, at_content}
 use Rattle.picky_der_de.specs.Rules.{end_rule}
 use Rattle.picky_der_de.proofs.Steps.{judged_after}
 use Rattle.picky_der_de.proofs.Refusals.{front_consumed}

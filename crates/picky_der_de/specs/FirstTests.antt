@@ -14,12 +14,14 @@ abbrev pub is_disjoint : List ℕ → Layout → Bool
 is_disjoint fs Layout.empty = true
 is_disjoint fs (Layout.required s l) = are_disjoint fs (firsts s)
 is_disjoint fs (Layout.maybe s l) = are_disjoint fs (firsts s) && is_disjoint fs l
+is_disjoint fs (Layout.added l) = is_disjoint fs l
 is_disjoint fs (Layout.others excluded) = list_all (contains excluded) fs
 
 abbrev pub are_members_distinct : Layout → Bool
 are_members_distinct Layout.empty = true
 are_members_distinct (Layout.required s l) = are_members_distinct l
 are_members_distinct (Layout.maybe s l) = is_disjoint (firsts s) l && are_members_distinct l
+are_members_distinct (Layout.added l) = are_members_distinct l
 are_members_distinct (Layout.others excluded) = true
 
 -- ---- what it tests
@@ -80,6 +82,7 @@ disjoint_of fs (Layout.required s l) h = h
 disjoint_of fs (Layout.maybe s l) h =
     let parts = and_parts (are_disjoint fs (firsts s)) (is_disjoint fs l) h in
     disjoint_from_both fs (firsts s) (next_firsts l) parts.0 (disjoint_of fs l parts.1)
+disjoint_of fs (Layout.added l) h = disjoint_of fs l h
 disjoint_of fs (Layout.others excluded) h = disjoint_from_left excluded fs h
 
 pub members_distinct : (l : Layout) → are_members_distinct l ≡ true → AreMembersDistinct l
@@ -88,4 +91,5 @@ members_distinct (Layout.required s l) h = members_distinct l h
 members_distinct (Layout.maybe s l) h =
     let parts = and_parts (is_disjoint (firsts s) l) (are_members_distinct l) h in
     (disjoint_of (firsts s) l parts.0, members_distinct l parts.1)
+members_distinct (Layout.added l) h = members_distinct l h
 members_distinct (Layout.others excluded) h = tt

@@ -1,7 +1,7 @@
 -- With which error bytes are refused, and which bytes are left then: what the bytes alone decide. The rule of a type is
 -- made of those of its parts. Each kind of type has its own, which says in which order it is refused.
 use Rattle.std.specs.Prelude.{◌≡◌, ◌≢◌, ◌<◌, ◌≤◌, ◌+◌, ℕ, Bool, true, false, List, [], ◌∷◌, ◌++◌, length, map}
-use Rattle.std.specs.Prelude.{Option, None, Some, IfSome, IsTrue}
+use Rattle.std.specs.Prelude.{◌⊎◌, Option, None, Some, IfSome, IsTrue}
 use Rattle.picky_der_core.specs.declared.error.Asn1DerError.{Asn1DerError}
 use Rattle.picky_der_core.specs.declared.error.Asn1DerError.TheVariants.{TruncatedData, InvalidData, OutOfMemory}
 use Rattle.picky_der_core.specs.declared.asn1.wrapper.Wrapper.{Wrapper}
@@ -167,6 +167,12 @@ pub data perhaps_rule {V : Type 0} (meaning : V → Tree) (left_out : V → Bool
   absent : 0 < at.ahead → (b : ℕ) (rest : List ℕ) → bs ≡ b ∷ rest → (IsFirst s b → ⊥) → others at bs e left
       → perhaps_rule meaning left_out s member others at bs e left
 
+-- Members that an extension added: a value that isn't at its end has all of them, with their errors (X.680, 25.1).
+pub data added_rule (members : Rule) (at : Spot) (bs : List ℕ) (e : Asn1DerError) (left : List ℕ) : Type 0 where
+  at_cut : 0 < at.ahead → by_bytes next_byte_refusal at bs e left → added_rule members at bs e left
+  at_members : 0 < at.ahead → (b : ℕ) (rest : List ℕ) → bs ≡ b ∷ rest → members at bs e left
+      → added_rule members at bs e left
+
 -- by whether it may be missing
 abbrev pub layout_rule : {V : Type 0} → Presence → (V → Tree) → (V → Bool) → Shape → Rule → Rule → Rule
 layout_rule always meaning left_out s = always_rule meaning s
@@ -242,6 +248,16 @@ abbrev pub RefusesFrontBy : Rule → ℕ → ReaderView → ReaderView → Asn1D
 RefusesFrontBy rule limit old new e = new.faults ≡ old.faults → e ≢ OutOfMemory → (input : List ℕ)
     → old.input ≡ Some input → (left : List ℕ) × rule (soft_spot limit) input e left
 
+-- The next of several values. At a limit of 0 there is none.
+pub data next_rule (rule : Rule) (at : Spot) (bs : List ℕ) (e : Asn1DerError) (left : List ℕ) : Type 0 where
+  no_byte : by_bytes next_byte_refusal at bs e left → next_rule rule at bs e left
+  as_next : rule at bs e left → next_rule rule at bs e left
+
 -- the same of a slice
 abbrev pub RefusesSliceBy : Rule → List ℕ → Asn1DerError → Type 0
 RefusesSliceBy rule bytes e = e ≢ OutOfMemory → (left : List ℕ) × rule (soft_spot (length bytes)) bytes e left
+
+-- The next value in a reader is refused with its error, or with the one that every value of the type has.
+abbrev pub RefusesNextBy : Rule → ℕ → ReaderView → ReaderView → Asn1DerError → Type 0
+RefusesNextBy rule limit old new e =
+    RefusesFrontBy (next_rule rule) limit old new e ⊎ ((e ≢ TruncatedData) × RefusesSliceBy rule [] e)

@@ -6,7 +6,8 @@ ghost use Rattle.picky_der_de.specs.Reading.{Reads, Refuses};
 ghost use Rattle.picky_der_core.specs.Reading.{Place, IsMendable};
 ghost use Rattle.picky_der_de.specs.Steps.{IsJudged, IsOther};
 ghost use Rattle.picky_der_de.specs.Entry.{IsFront, HasNoFront, ReadsFront, HasNoneLeft, RefusesNextValue};
-ghost use Rattle.picky_der_de.specs.Rules.{RefusesSliceBy};
+ghost use Rattle.picky_der_de.specs.RefusesBy.{RefusesBy};
+ghost use Rattle.picky_der_de.specs.Rules.{next_rule, RefusesFrontBy, RefusesNextBy, RefusesSliceBy};
 ghost use Rattle.picky_der_de.specs.Entry.{view_of, any_length};
 
 use crate::{Deserialize, Deserializer, from_bytes, from_reader_with_max_len};
@@ -40,6 +41,7 @@ impl<R: ReadExt> Deserializer<R> {
             (λ value. Reads T.shape self.old self.new (T.meaning value))) }
         ensures ended { IfOk result (λ next. IfNone next (HasEnded self.old self.new)) }
         ensures err { IfErr result (Refuses T.meaning T.shape self.old self.new) }
+        ensures refused_by { IfErr result (RefusesBy (next_rule T.facts.rule) self.old self.new) }
         ensures ahead { IfErr result (λ e. IsJudged self.old self.new e → 0 < self.old.until_end
             → IfSome self.old.input (λ bytes. 0 < length bytes)) }
     {
@@ -68,6 +70,8 @@ fn read_next_from<T: Deserialize, R: ReadExt>(
         (view_of R.remaining R.faults result.1))) }
     ensures err { IfErr result.0 (RefusesNextValue T.meaning T.shape max_len
         (view_of R.remaining R.faults reader) (view_of R.remaining R.faults result.1)) }
+    ensures refused_by { IfErr result.0 (RefusesFrontBy (next_rule T.facts.rule) max_len
+        (view_of R.remaining R.faults reader) (view_of R.remaining R.faults result.1)) }
     ensures same_references { R.references result.1 ≡ R.references reader }
 {
     let mut de = Deserializer::new_from_reader(alloc, reader, max_len);
@@ -81,6 +85,7 @@ fn refused_always<T: Deserialize>(alloc: Global) -> Option<Asn1DerError>
     ensures never { IfSome result (λ e. e ≢ Asn1DerError.OutOfMemory
         → IsMendable T.meaning T.shape Place.whole [] any_length → ⊥) }
     ensures kind { IfSome result (λ e. e ≢ Asn1DerError.TruncatedData × (IsOther e → ⊥)) }
+    ensures refused_by { IfSome result (RefusesSliceBy T.facts.rule []) }
 {
     match from_bytes::<T>(alloc, &[]) {
         Ok(_) | Err(Asn1DerError::TruncatedData) => None,
@@ -91,8 +96,9 @@ fn refused_always<T: Deserialize>(alloc: Global) -> Option<Asn1DerError>
 /// The next of several values in a reader, of at most `max_len` bytes, or `None` if the reader has no bytes left. Bytes
 /// after the value are left in the reader.
 ///
-/// The errors are those of `from_reader_with_max_len`. `TruncatedData` for a value that is cut short, and for a limit
-/// of 0. If no value of the type can be read, as with a tag number past 30, the error comes before a byte is read.
+/// The errors are those of `from_reader_with_max_len`, by the type's rule. `TruncatedData` for a value that is cut
+/// short, and for a limit of 0. If no value of the type can be read, as with a tag number past 30, the error comes
+/// before a byte is read.
 pub fn next_from_reader<T: Deserialize, R: ReadExt>(
     alloc: Global,
     reader: &mut R,
@@ -105,6 +111,8 @@ pub fn next_from_reader<T: Deserialize, R: ReadExt>(
         (HasNoneLeft max_len (view_of R.remaining R.faults reader.old)
         (view_of R.remaining R.faults reader.new))) }
     ensures err { IfErr result (RefusesNextValue T.meaning T.shape max_len
+        (view_of R.remaining R.faults reader.old) (view_of R.remaining R.faults reader.new)) }
+    ensures refused_by { IfErr result (RefusesNextBy T.facts.rule max_len
         (view_of R.remaining R.faults reader.old) (view_of R.remaining R.faults reader.new)) }
     ensures same_references { R.references reader.new ≡ R.references reader.old }
 {

@@ -4,7 +4,7 @@ from dataclasses import dataclass
 from typing import Optional
 
 from ..emit.struct import REFERENCES
-from ..meaning.declarations import ChoiceDeclaration, Declaration, EnumDeclaration, Field, Item as Named, NewtypeDeclaration, StructDeclaration, TestedDeclaration
+from ..meaning.declarations import AddedDeclaration, ChoiceDeclaration, Declaration, EnumDeclaration, Field, Item as Named, NewtypeDeclaration, StructDeclaration, TestedDeclaration
 from ..meaning.examples import has_example
 from ..meaning.library import ONE_BYTE
 from ..meaning.rust_types import RustType, of
@@ -19,8 +19,10 @@ _SIGNED = re.compile(r"i(8|16|32|64|128)$")
 # types without an ASN.1 type, and what to use
 _REFUSED = {"f32": "no number of ASN.1", "f64": "no number of ASN.1", "str": "not owned: use `String`", "Box": "no type that can be written"}
 # the notes of a type and of a field; one with `=` has a word after it
-_TYPE_NOTES = ("skip", "set", "integer", "notated", "exact", "faithful", "test")
+_TYPE_NOTES = ("skip", "set", "added", "integer", "notated", "exact", "faithful", "test")
 _FIELD_NOTES = ("element", "default")
+# the types of a last field that has no member of its own, but further ones
+_LAST = ("Added", "LaterMembers", "LaterMembersFrom")
 
 
 @dataclass
@@ -36,6 +38,8 @@ class Derived:
     def inhabited(self) -> bool:
         """Whether a readable value is found by the notation, which types with parameters don't say."""
         generics = self.declaration.generics if isinstance(self.declaration, StructDeclaration) else None
+        if isinstance(self.declaration, AddedDeclaration):
+            return False
         return self.exact and not (generics and generics.parameters) and has_example(self.declaration, {})
 
 
@@ -104,12 +108,16 @@ def _struct(file: RustFile, it: Item, notes: Notes, module: str) -> StructDeclar
     """A SEQUENCE, or the members of a SET."""
     parameters = {one.argument for one in it.generics.parameters}
     fields = [_member(file, part, parameters) for part in it.parts]
-    later = fields.pop() if fields[-1].type.name in ("LaterMembers", "LaterMembersFrom") else None
+    later = fields.pop() if fields[-1].type.name in _LAST else None
     if len(fields) > MOST_MEMBERS or not fields:
         raise file.source.error(it.line, f"`{it.name}` has {len(fields)} members, and not 1 to {MOST_MEMBERS}")
     unused = parameters - set().union(*(one.type.words() for one in [*fields, *([later] if later else [])]))
     if unused:
         raise file.source.error(it.line, f"no field of `{it.name}` has the parameter `{min(unused)}`")
+    if notes.has("added"):
+        if it.generics.parameters:
+            raise file.source.error(it.line, f"`{it.name}` has parameters, so that its members aren't known")
+        return AddedDeclaration(**_common(file, it, module), fields=fields, later=later)
     return StructDeclaration(**_common(file, it, module), fields=fields, is_set=notes.has("set"), later=later, generics=it.generics)
 
 

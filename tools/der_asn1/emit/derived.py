@@ -5,10 +5,11 @@ from pathlib import Path
 
 from ..derive.derived_types import Derived, derived_types, determined
 from ..derive.rust_items import RustFile, read_items
-from ..meaning.declarations import ChoiceDeclaration, Declaration, EnumDeclaration, StructDeclaration, TestedDeclaration
+from ..meaning.declarations import AddedDeclaration, ChoiceDeclaration, Declaration, EnumDeclaration, StructDeclaration, TestedDeclaration
 from ..meaning.library_table import LIBRARY_NAMES
 from ..meaning.wording import joined
-from . import choice as emit_choice, enum as emit_enum, newtype as emit_newtype, struct as emit_struct
+from . import added as emit_added, choice as emit_choice, enum as emit_enum, newtype as emit_newtype, struct as emit_struct
+from .added import added_impls, added_uses
 from .choice import choice_impls, choice_uses, serialize_answers, variants_import
 from .enum import enum_impls, enum_uses, terms_file
 from .faithful import faithful_impl, faithful_uses, inhabited_impl, inhabited_uses
@@ -24,9 +25,11 @@ MODULE = "derived"
 # what `Notated` names, and what `Exact` does
 _NOTATED = frozenset("Notated NotatedMembers NotatedAlternatives Notation".split())
 _EXACT = frozenset(
-    """Exact ExactMembers ExactAlternatives ExactContents struct_values choice_values enumerated_values named_values own_contents
+    """Exact ExactMembers ExactAlternatives ExactContents struct_values fields_values choice_values enumerated_values named_values own_contents
     newtype_values""".split()
 )
+# what added members name for the same of their `==`
+_FAITHFUL = frozenset("FaithfulMembers members_at".split())
 # names of the library that the compiler has no use for, by their modules
 _HOMES = {
     "Element": "picky_asn1_der::ser",
@@ -122,7 +125,9 @@ def check(file: RustFile, types: list[Derived]) -> None:
 def uses_of(it: Derived, place: Place) -> Uses:
     """What the items of a type name, with the type itself."""
     declared, found = it.declaration, Uses()
-    if isinstance(declared, StructDeclaration):
+    if isinstance(declared, AddedDeclaration):
+        found.add(added_uses(declared))
+    elif isinstance(declared, StructDeclaration):
         found.add(struct_uses(declared))
     elif isinstance(declared, ChoiceDeclaration):
         found.add(choice_uses(declared, it.exact))
@@ -130,7 +135,7 @@ def uses_of(it: Derived, place: Place) -> Uses:
         found.add(enum_uses(declared, place.crate, place.terms))
     else:
         found.add(tested_uses(declared) if isinstance(declared, TestedDeclaration) else newtype_uses(declared))
-    unused = (frozenset() if it.notated else _NOTATED) | (frozenset() if it.exact else _EXACT)
+    unused = (frozenset() if it.notated else _NOTATED) | (frozenset() if it.exact else _EXACT) | (frozenset() if it.faithful else _FAITHFUL)
     found.names -= unused
     found.terms = {home: names - unused for home, names in found.terms.items() if names - unused}
     if it.faithful:
@@ -184,7 +189,10 @@ def items_of(it: Derived, place: Place, names: PrivateNames) -> list[str]:
     """The items of a type, but for its definition."""
     declared = it.declaration
     variants, inner = variants_import(declared, place.home), ""
-    if isinstance(declared, StructDeclaration):
+    if isinstance(declared, AddedDeclaration):
+        inner = tuple_names(declared, names)[0]
+        impls, emitter, given = added_impls(declared, names), emit_added, ([inner], [inner])
+    elif isinstance(declared, StructDeclaration):
         inner = tuple_names(declared, names)[0]
         impls, emitter, given = struct_impls(declared, names), emit_struct, ([inner], [inner])
     elif isinstance(declared, ChoiceDeclaration):

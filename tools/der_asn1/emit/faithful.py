@@ -1,7 +1,8 @@
 """What says that the `==` of a type is sameness of encodings, and that some value of it is readable."""
 from typing import Union
 
-from ..meaning.declarations import ChoiceDeclaration, EnumDeclaration, NewtypeDeclaration, StructDeclaration
+from ..meaning.declarations import AddedDeclaration, ChoiceDeclaration, EnumDeclaration, NewtypeDeclaration, StructDeclaration
+from .added import faithful_impl as added_faithful
 from .choice import equal_alternatives, variants_import
 from .enum import content_words, default_proof, default_term, respects_proof
 from .imports import PRELUDE, Uses
@@ -18,6 +19,8 @@ Own = Union[StructDeclaration, ChoiceDeclaration, EnumDeclaration, NewtypeDeclar
 
 def faithful_uses(declared: Own, terms: str) -> Uses:
     """What the implementation of `Faithful` names. `terms` is the module of the terms of enumerations."""
+    if isinstance(declared, AddedDeclaration):
+        return Uses({"FaithfulMembers"}, terms={_FAITHFUL: {"members_at"}})
     if isinstance(declared, StructDeclaration):
         return Uses({"Faithful", "FaithfulMembers"}, terms={_FAITHFUL: {"struct_sameness"}})
     if isinstance(declared, ChoiceDeclaration):
@@ -32,6 +35,8 @@ def faithful_impl(declared: Own, inner: str, home: str) -> list[str]:
 
     `home` is the module of terms of the types of the file.
     """
+    if isinstance(declared, AddedDeclaration):
+        return added_faithful(declared, inner)
     if isinstance(declared, StructDeclaration):
         words = [f"struct_sameness ⟦<{inner} as FaithfulMembers>⟧.sameness", "⟦<Self as Struct>⟧.parts"]
         return faithful(declared.shown, sameness_lines(words), declared.generics.declared("Faithful"))

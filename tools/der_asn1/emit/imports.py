@@ -29,6 +29,7 @@ _TERM_ORDER = [
     "Rattle.der_types.specs.ContentsFacts",
     "Rattle.der_types.specs.Notation",
     "Rattle.der_types.specs.Exact",
+    "Rattle.der_types.specs.ExactAdded",
     "Rattle.der_types.specs.ExactChoices",
     "Rattle.der_types.specs.ExactContents",
     "Rattle.der_types.specs.ExactDefaults",

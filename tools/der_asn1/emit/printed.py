@@ -8,7 +8,8 @@ called after their places. A word of terms that has no notation becomes this:
 | `wider t`, `narrower t` | `t (CONSTRAINED BY {})` |
 | `one-of ts`, `encoded t` | `ANY (CONSTRAINED BY {})` |
 | `default-as-optional t` | `t DEFAULT {}` |
-| `added t` | a member after `...` |
+| `added (t ⨾ ..)` | members between `[[` and `]]` after `...`, up to the next `added` |
+| `added-as-optional t` | a member after `...` |
 | `any-content b` | OCTET STRING under the tag of this byte |
 """
 import re
@@ -21,7 +22,7 @@ _OPERATORS = frozenset("⨾∣∷")
 _CLASSES = {"UNIVERSAL": "UNIVERSAL ", "APPLICATION": "APPLICATION ", "CONTEXT": "", "PRIVATE": "PRIVATE "}
 _CLASS_BITS = {0x00: "UNIVERSAL ", 0x40: "APPLICATION ", 0x80: "", 0xC0: "PRIVATE "}
 # how a member is there: what comes after its type
-_PRESENCES = {"required": "", "added": "", "optional": " OPTIONAL", "default-as-optional": " DEFAULT {}"}
+_PRESENCES = {"required": "", "added-as-optional": "", "optional": " OPTIONAL", "default-as-optional": " DEFAULT {}"}
 _LISTS = {"SEQUENCE-OF": "SEQUENCE", "SET-OF": "SET"}
 # words that aren't names of types, and what each is in the notation
 _WORDS = {
@@ -197,13 +198,18 @@ class _Printer:
 
     def members(self, parts: list[Applied]) -> str:
         """Members, with the extension marker before the first one that earlier versions hadn't."""
-        end, found, is_marked = parts[-1].word, [], False
-        for place, it in enumerate(parts[:-1], 1):
-            if it.word == "added" and not is_marked:
-                found.append("...")
-                is_marked = True
-            found.append(f"member{place} {self.member(it)}")
-        return ", ".join(found if end == "end" or is_marked else [*found, "..."])
+        found, place = [], 0
+        while True:
+            level = []
+            for it in parts[:-1]:
+                place += 1
+                if it.word == "added-as-optional" and "..." not in level:
+                    level.append("...")
+                level.append(f"member{place} {self.member(it)}")
+            found += level if not found else [*([] if "..." in found else ["..."]), f"[[ {', '.join(level)} ]]"]
+            if parts[-1].word != "added":
+                return ", ".join(found if parts[-1].word == "end" or "..." in found else [*found, "..."])
+            parts = parts_of(parts[-1].arguments[0])
 
     def member(self, term: Applied) -> str:
         """The type of a member, and how it is there."""

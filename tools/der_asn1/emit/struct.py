@@ -1,5 +1,5 @@
 """A struct, in the form of docs/YOUR_TYPES.md."""
-from ..meaning.declarations import Field, Generics, StructDeclaration
+from ..meaning.declarations import AddedDeclaration, Field, Generics, StructDeclaration
 from ..meaning.rust_types import RustType, of
 from ..parse.tree import Presence
 from .comments import default_note, difference_note, sentence
@@ -118,6 +118,8 @@ def definition(declared: StructDeclaration) -> list[str]:
     """The struct with its comments: the module's comments, and the notation of each member."""
     form = "the members of a SET in the order of their tags" if declared.is_set else "a SEQUENCE"
     lines = comment("", "///", f"{sentence(declared.comment)} `{declared.source}` of {declared.module}, as {form}.")
+    if isinstance(declared, AddedDeclaration):
+        lines = comment("", "///", f"The members that an extension added to `{declared.source}` of {declared.module}, and all members after them.")
     lines += difference_note(declared)
     lines += ["#[derive(Debug, Drop, PartialEq, Eq)]", f"pub struct {declared.name} {{"]
     for it in declared.parts():

@@ -1,10 +1,11 @@
 """The files of a crate's types: which file each type is in, and the lines of a file."""
 from dataclasses import dataclass, field
 
-from ..meaning.declarations import AliasDeclaration, ChoiceDeclaration, Declaration, EnumDeclaration, ListedDeclaration, NewtypeDeclaration
-from ..meaning.declarations import SetDeclaration, StructDeclaration, UnionDeclaration
+from ..meaning.declarations import AddedDeclaration, AliasDeclaration, ChoiceDeclaration, Declaration, EnumDeclaration, ListedDeclaration
+from ..meaning.declarations import NewtypeDeclaration, SetDeclaration, StructDeclaration, UnionDeclaration
 from ..meaning.examples import has_example
 from ..meaning.wording import snake
+from .added import added_lines, added_uses
 from .character_set import set_lines, set_uses
 from .choice import choice_lines, choice_uses
 from .comments import difference_note, sentence
@@ -73,6 +74,8 @@ def uses_of(declared: Declaration, context: Context) -> Uses:
         return union_uses(declared)
     if isinstance(declared, NewtypeDeclaration):
         return newtype_uses(declared)
+    if isinstance(declared, AddedDeclaration):
+        return added_uses(declared)
     if isinstance(declared, StructDeclaration):
         return struct_uses(declared, declared.exact)
     if isinstance(declared, ChoiceDeclaration):
@@ -93,6 +96,8 @@ def lines_of(declared: Declaration, stem: str, context: Context) -> list[str]:
         return union_lines(declared, home)
     if isinstance(declared, NewtypeDeclaration):
         return newtype_lines(declared)
+    if isinstance(declared, AddedDeclaration):
+        return added_lines(declared, context.names)
     if isinstance(declared, StructDeclaration):
         return struct_lines(declared, context.names)
     if isinstance(declared, ChoiceDeclaration):
@@ -103,8 +108,12 @@ def lines_of(declared: Declaration, stem: str, context: Context) -> list[str]:
 
 
 def promises(declared: Declaration, stem: str, context: Context) -> list[tuple[Uses, list[str]]]:
-    """What says that a type's `==` is sameness of encodings, and that a value of it is readable. A name of another type has what that has."""
-    if isinstance(declared, (SetDeclaration, UnionDeclaration)) or isinstance(declared, AliasDeclaration) and not isinstance(declared, NewtypeDeclaration):
+    """What says that a type's `==` is sameness of encodings, and that a value of it is readable.
+
+    A name of another type has what that has, and members that were added are no type.
+    """
+    is_name = isinstance(declared, AliasDeclaration) and not isinstance(declared, NewtypeDeclaration)
+    if isinstance(declared, (AddedDeclaration, SetDeclaration, UnionDeclaration)) or is_name:
         return []
     inner = context.names.of(declared, "Parts") if isinstance(declared, (StructDeclaration, ChoiceDeclaration)) else ""
     terms = f"Rattle.{context.crate}.specs.{TERMS_FILE}"

@@ -15,6 +15,8 @@ _INTEGER_FIRST = frozenset((UNIVERSAL_TAGS["INTEGER"],))
 _SIZED = frozenset((Core.CONTENTS, Core.OCTETS, Core.UTF8, Core.LIST))
 # types with `Contents` that have no size in the library
 _UNSIZED = frozenset(it.rust for it in TYPES if not it.is_sized)
+# The checker doesn't find the impls of types that are nested deeper.
+_MOST_GAPS = 3
 
 
 def whole_number_limits(limits: Limits) -> tuple[Intervals, bool]:
@@ -38,14 +40,15 @@ def integer(meaning: Callable[[Rust], Meaning], limits: tuple[Intervals, bool]) 
 def _within(numbers: Intervals, any_size: Rust) -> Optional[Rust]:
     """An INTEGER with these numbers: the least width of Rust, or `Integer` without a bound, and the types of the constraints around it.
 
-    None if a bound is none that the type of a constraint may have. The bounds of a type of Rust need no type around it.
+    None if a bound is none that the type of a constraint may have, or if there are many gaps. The bounds of a type of Rust need no
+    type around it.
     """
     low, high = numbers.low, numbers.high
     width = unsigned_for(high) if low >= 0 else signed_for(low, high)
     gaps = [(before[1] + 1, after[0] - 1) for before, after in zip(numbers.pairs, numbers.pairs[1:])]
     is_whole = width is not None and (low, high) == numbers_of(width)
     around = [*([] if is_whole else range_types(low, high)), *(("Outside", *gap) for gap in gaps)]
-    if not all(map(are_bounds, around)):
+    if len(gaps) > _MOST_GAPS or not all(map(are_bounds, around)):
         return None
     cores = {"u": Core.UNSIGNED, "i": Core.SIGNED}
     found = Rust(of(width), cores[width[0]], _INTEGER_FIRST, term=any_size.term) if width else any_size

@@ -150,6 +150,11 @@ class StructDeclaration(Declaration):
 
 
 @dataclass
+class AddedDeclaration(StructDeclaration):
+    """The members that an extension added to a SEQUENCE, and all members after them. They are no type of their own."""
+
+
+@dataclass
 class ChoiceDeclaration(Declaration):
     """A CHOICE."""
 

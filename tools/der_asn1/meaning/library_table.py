@@ -73,8 +73,9 @@ _NAMES = {
     "picky_asn1_der::de": "Begins Faithful FaithfulAlternatives FaithfulDefault FaithfulMembers Inhabited deserialize_choice_as",
     "picky_asn1_der::misc": "ReadExt WriteExt",
     "picky_asn1_der::ser": "DefaultOf Defaulted DefaultedRef False Number Optional OptionalRef Sequence SignedNumber True",
-    _ROOT: """TryVia Via Alternatives Asn1DerError Asn1RawDer Choice Deserialize DeserializeMembers Deserializer LaterMembers LaterMembersFrom List NoneOf OneOf Choice4
-        Result Serialize SerializeMembers Serializer Struct deserialize_as deserialize_struct_as try_deserialize_as""",
+    _ROOT: """TryVia Via Added AddedMembers Alternatives Asn1DerError Asn1RawDer Choice Deserialize DeserializeMembers Deserializer LaterMembers
+        LaterMembersFrom List NoneOf OneOf Choice4 Result Serialize SerializeMembers Serializer Struct deserialize_as deserialize_members_as
+        deserialize_struct_as try_deserialize_as""",
 }
 _NUMBERED = re.compile(r"(ExplicitContextTag|ImplicitContextTag|ImplicitList)\d+$")
 _HOMES = {
@@ -91,8 +92,8 @@ _TERMS = {
     "ContentForms": "BIT-STRING-named",
     "Notation": "Alternatives INTEGER-named ENUMERATED any-content content-under end none optional required",
     "NotationForms": """ANY APPLICATION AUTOMATIC BIT-STRING-CONTAINING beyond-depth CHOICE CONTEXT EXPLICIT FALSE FROM IMPLICIT INTEGER-from-minus-to
-        INTEGER-from-to INTEGER-in MAX Mode OCTET-STRING-CONTAINING PRIVATE SEQUENCE SEQUENCE-OF SET SET-OF SIZE TRUE UNIVERSAL added default
-        default-as-optional default-of wider from-on from-to later-alternatives-refused later-members later-members-automatic
+        INTEGER-from-to INTEGER-in MAX Mode OCTET-STRING-CONTAINING PRIVATE SEQUENCE SEQUENCE-OF SET SET-OF SIZE TRUE UNIVERSAL added added-as-optional
+        default default-as-optional default-of wider from-on from-to later-alternatives-refused later-members later-members-automatic
         later-members-refused minus number up-to ◌⨾◌ ◌∣◌""",
 }
 _OWN_TERMS = {

@@ -6,7 +6,7 @@ from ..parse import tree
 from ..parse.source import NotationError, NotGiven
 from .causes import Where
 from .contents import Contents, integer_content
-from .declarations import ChoiceDeclaration, Declaration, EnumDeclaration, Field, Hint, Item, StructDeclaration
+from .declarations import AddedDeclaration, ChoiceDeclaration, Declaration, EnumDeclaration, Field, Hint, Item, StructDeclaration
 from .features import Feature, Level, Note
 from .intervals import Intervals
 from .library import ANY_FIRST, DEFAULT_SIGNED, DEFAULT_UNSIGNED, MOST_MEMBERS, ONE_BYTE, Core, Rust, any_element, are_bounds, parts_type, tagged_bytes, written
@@ -49,6 +49,10 @@ class Part:
         """Whether nothing is known of its tag, since its type isn't given."""
         return self.meaning.rust.is_open and bool(self.meaning.features & {Feature.IMPORT, Feature.UNDEFINED})
 
+    def is_required(self) -> bool:
+        """Whether it is always there in a value of a version that has it."""
+        return self.resolved.member.presence is tree.Presence.REQUIRED
+
     @property
     def name(self) -> str:
         """Its name in the module."""
@@ -86,14 +90,14 @@ def structure(meanings: "Meanings", type_: tree.StructureType, scope: Scope, hin
         parts = in_tag_order(parts)
         if parts is None:
             return Meaning(tagged_bytes(first)).lacking(Feature.SET_ORDER)
-    clash = first_clash(meanings, parts, type_.form)
+    end = last_word(type_, scope, parts)
+    clash = first_clash(meanings, parts, type_.form, end)
     if clash:
         return _raw(tagged_bytes(first), parts, *ambiguity(parts)).placed(of_part(hint, clash))
     is_open = is_extensible(type_, scope)
     defaults = {it.name: default_of(meanings, it, hint.part(it.name), it is parts[-1] and not is_open) for it in parts}
     parts, written = [[replace(it, default=defaults[it.name]) for it in found] for found in (parts, written)]
     found = declared_struct(meanings, type_, scope, hint, parts)
-    end = last_word(type_, scope, parts)
     return found.called(structure_term(type_, written, end, (found.rust.inner or found.rust).text))
 
 
@@ -118,18 +122,22 @@ def declared_struct(meanings: "Meanings", type_: tree.StructureType, scope: Scop
     found = Meaning(None).containing(*(it.meaning for it in parts))
     if len(parts) > MOST_MEMBERS:
         return _raw(tagged_bytes(UNIVERSAL_TAGS[type_.form.value]), parts, Feature.MANY_MEMBERS)
-    fields = []
+    fields, end = [], last_word(type_, scope, parts)
     for it in parts:
         found = found.lacking(*it.default.features).noting(*it.default.notes).placed(of_part(hint, it))
-        fields.append(field_of(it, it.default))
-    end = last_word(type_, scope, parts)
-    later = later_field(parts, fields, end) if end in (LATER, LATER_AUTOMATIC) else None
+        fields.append(field_of(it, it.default, is_optional(it, end)))
     if end == NO_LATER:
         found = found.lacking(Feature.EXTENSION)
-    fields = unique(fields if later is None else [*fields, later])
+    levels, later = levels_of(parts, end), None
+    if end in (LATER, LATER_AUTOMATIC):
+        later = later_field(parts, fields, levels[-1], end)
+    for number, level in reversed([*enumerate(levels)][1:]):
+        added = AddedDeclaration("", type_.place, scope.module.name, hint.text, later=later)
+        added.fields = with_unique_names(fields[level.start : level.stop], later)
+        later = added_field(declare(meanings, added, type_, scope, hint, found, "additions" if number == 1 else f"additions-{number}"))
     is_set = type_.form is tree.Form.SET
     declared = StructDeclaration("", type_.place, scope.module.name, hint.text, is_set=is_set, later=later)
-    declared.fields = fields[:-1] if later else fields
+    declared.fields = with_unique_names(fields[: levels[0].stop], later)
     name = declare(meanings, declared, type_, scope, hint, found, "members")
     record = Rust(of(name), Core.LIST, frozenset((UNIVERSAL_TAGS["SEQUENCE"],)))
     return found.as_(Rust(of("Asn1Set", record.type), Core.SET, frozenset((UNIVERSAL_TAGS["SET"],)), record) if is_set else record)
@@ -137,8 +145,11 @@ def declared_struct(meanings: "Meanings", type_: tree.StructureType, scope: Scop
 
 def structure_term(type_: tree.StructureType, parts: list[Part], end: str, name: str) -> Term:
     """The term of a SEQUENCE or SET, its members in the order of the text, with the name of its struct."""
-    items = tuple(TermItem(item_text(it), presence_word(it), it.default.term or it.meaning.rust.term) for it in parts)
-    return Term(type_.form.value, items=items, end=end, name=name)
+    items = [TermItem(item_text(it), presence_word(it, end), it.default.term or it.meaning.rust.term) for it in parts]
+    for level in levels_of(parts, end)[1:]:
+        items[level.start] = replace(items[level.start], presence=f"added ({items[level.start].presence}")
+        end += ")"
+    return Term(type_.form.value, items=tuple(items), end=end, name=name)
 
 
 def last_word(type_: tree.StructureType, scope: Scope, parts: list[Part]) -> str:
@@ -148,28 +159,58 @@ def last_word(type_: tree.StructureType, scope: Scope, parts: list[Part]) -> str
     """
     if not is_extensible(type_, scope):
         return "end"
-    is_any = any(it.firsts >= ANY_FIRST or it.begins_otherwise() for it in before_later(parts))
+    is_any = any(it.firsts >= ANY_FIRST or it.begins_otherwise() for it in parts[last_required(parts, range(len(parts))) :])
     if type_.form is tree.Form.SET or type_.continues or is_any:
         return NO_LATER
     return LATER_AUTOMATIC if is_automatic(type_, scope) else LATER
 
 
-def before_later(parts: list[Part]) -> list[Part]:
-    """The members directly before those of later versions that may be absent."""
-    last = max((index for index, it in enumerate(parts, 1) if not it.resolved.may_be_absent()), default=0)
-    return parts[last:]
+def is_optional(part: Part, end: str) -> bool:
+    """Whether a member may be absent among those that are there with it.
+
+    Where the type has no members of later versions, any extension addition may be absent.
+    """
+    return part.resolved.may_be_absent() if end == NO_LATER else not part.is_required()
 
 
-def later_field(parts: list[Part], fields: list[Field], end: str) -> Field:
-    """The field of the members of later versions.
+def levels_of(parts: list[Part], end: str) -> list[range]:
+    """The members of the struct, and those of each struct of added members, by their indices.
+
+    An extension addition with a member that is always there begins one, since a value of an earlier version ends before it.
+    """
+    starts = [0]
+    if end in (LATER, LATER_AUTOMATIC):
+        groups = [it.resolved.member.group for it in parts]
+        always = {it.resolved.member.group for it in parts if it.is_required()} - {None}
+        starts += sorted(groups.index(it) for it in always)
+    return [range(start, stop) for start, stop in zip(starts, [*starts[1:], len(parts)])]
+
+
+def later_field(parts: list[Part], fields: list[Field], level: range, end: str) -> Field:
+    """The field of the members of later versions, after the members of this level.
 
     Its type has the number of all members if the tags are automatic, and else the types of the members directly before that may be absent.
     """
     type_ = of("LaterMembersFrom", str(len(parts)))
     if end == LATER:
-        before = fields[len(parts) - len(before_later(parts)) :]
-        type_ = of("LaterMembers", parts_type([it.type for it in before]))
+        type_ = of("LaterMembers", parts_type([it.type for it in fields[last_required(parts, level) : level.stop]]))
     return Field("later_members", type_, notation="...", comment="The members of later versions, in their order.")
+
+
+def last_required(parts: list[Part], level: range) -> int:
+    """The index after the last member of this level that is always there in a value that has the level."""
+    return max((it + 1 for it in level if parts[it].is_required()), default=level.start)
+
+
+def added_field(name: str) -> Field:
+    """The field of the members that an extension added, which are a struct of this name."""
+    comment = "The members that an extension added, or `None` in a value of an earlier version."
+    return Field("additions", of("Added", of(name)), notation="...", comment=comment)
+
+
+def with_unique_names(fields: list[Field], later: Optional[Field]) -> list[Field]:
+    """The fields with names that differ, also from that of the last one."""
+    return unique([*fields, later])[:-1] if later else unique(fields)
 
 
 def item_text(part: Part) -> str:
@@ -177,30 +218,31 @@ def item_text(part: Part) -> str:
     return f"{part.name} {part.resolved.member.text}"
 
 
-def presence_word(part: Part) -> str:
+def presence_word(part: Part, end: str) -> str:
     """How a member is there."""
     member = part.resolved.member
     if member.presence is tree.Presence.DEFAULT:
         return part.default.word
     if member.presence is tree.Presence.OPTIONAL:
         return "optional"
-    return "required" if member.group is None else "added"
+    return "added-as-optional" if is_optional(part, end) else "required"
 
 
 def declare(meanings: "Meanings", declared: Declaration, type_: tree.Type, scope: Scope, hint: Hint, meaning: Meaning, suffix: str) -> str:
     """Keeps a declaration, and returns its name, which is that of an equal one if there is one.
 
-    The name is that of its assignment, or one with a suffix if a tag or a SET is around it.
+    The name is that of its assignment, or one with a suffix if a tag or a SET is around it, or if it is no type of its own.
     """
     equal = meanings.declarations.same(declared)
     if equal:
         return equal.name
-    is_inside = type_.tags or isinstance(declared, StructDeclaration) and declared.is_set
+    is_added = isinstance(declared, AddedDeclaration)
+    is_inside = type_.tags or is_added or isinstance(declared, StructDeclaration) and declared.is_set
     if hint.key and not is_inside:
         declared.name = meanings.declarations.fresh(hint.text, hint.key, declared.module)
     else:
-        wanted = f"{hint.text}-{suffix}" if hint.key else hint.text
-        declared.name = meanings.declarations.fresh(wanted, (*scope.key, str(type_.place)), declared.module)
+        wanted = f"{hint.text}-{suffix}" if hint.key or is_added else hint.text
+        declared.name = meanings.declarations.fresh(wanted, (*scope.key, str(type_.place), suffix), declared.module)
     declared.comment, declared.root, declared.level, declared.lacks = hint.comment, hint.root, meaning.level, lacks(meaning)
     declared.exact = Note.WITHOUT_TERM not in meaning.notes
     if hint.key and meanings.levels():
@@ -209,13 +251,13 @@ def declare(meanings: "Meanings", declared: Declaration, type_: tree.Type, scope
     return declared.name
 
 
-def field_of(part: Part, default: "Default") -> Field:
+def field_of(part: Part, default: "Default", may_be_absent: bool) -> Field:
     """A member as a field. One with a default that the library hasn't is as one that may be absent."""
     member = part.resolved.member
     presence = tree.Presence.REQUIRED
     if default.type:
         presence = tree.Presence.DEFAULT
-    elif part.resolved.may_be_absent():
+    elif may_be_absent:
         presence = tree.Presence.OPTIONAL
     type_ = default.others or part.meaning.rust.type
     return Field(snake(part.name), type_, presence, default.type, member.text, member.comment, bool(default.others))
@@ -286,10 +328,10 @@ def _has_to_be_known(parts: list[Part], index: int, form: Optional[tree.Form], i
 # ---- what distinguishes members
 
 
-def first_clash(meanings: "Meanings", parts: list[Part], form: tree.Form) -> Optional[Part]:
+def first_clash(meanings: "Meanings", parts: list[Part], form: tree.Form, end: str) -> Optional[Part]:
     """The first member of which the next byte doesn't say whether it comes (X.680, 25.6 and 27.3), or None. An error says so if its tag is known."""
     for index, it in enumerate(parts):
-        if not it.resolved.may_be_absent():
+        if not is_optional(it, end):
             continue
         for later in parts[index + 1 :]:
             if it.firsts & later.firsts:
@@ -298,7 +340,7 @@ def first_clash(meanings: "Meanings", parts: list[Part], form: tree.Form) -> Opt
                     text = f"`{it.name}` may be absent, and `{later.name}`, which may come in its place, can begin with the same tag"
                     meanings.program.problems.error(it.resolved.member.place, text, clause)
                 return it
-            if not later.resolved.may_be_absent():
+            if not is_optional(later, end):
                 break
     return None
 

@@ -65,6 +65,14 @@ class Side:
         return (found.numbers, found.size, characters_of(base).intersection(found.alphabet)), found.other or found.unknown
 
 
+def levels(members: list) -> list[int]:
+    """For each member, how many additions with a member that is always there have begun up to it. A value ends before one of them, or has all
+    members that are always there up to the next."""
+    always = {it.member.group for it in members if it.member.presence is tree.Presence.REQUIRED} - {None}
+    begun = [next(place for place, it in enumerate(members) if it.member.group == group) for group in always]
+    return [sum(it <= place for it in begun) for place in range(len(members))]
+
+
 class Agreement:
     """Compares the printed types of a crate with those of its modules."""
 
@@ -179,6 +187,8 @@ class Agreement:
     def members(self, mine: Side, other: Side) -> Optional[str]:
         """Members or alternatives, how each is there, and the extension marker."""
         ours, theirs = [members_of(it.program, it.type, it.scope) for it in (mine, other)]
+        if not mine.is_wide() and levels(ours) != levels(theirs):
+            return f"the additions differ: `{mine.type.text}`, `{other.type.text}`"
         if len(ours) != len(theirs) or is_extensible(mine.type, mine.scope) != is_extensible(other.type, other.scope):
             return f"the members differ: `{mine.type.text}`, `{other.type.text}`"
         for one, two in zip(ours, theirs):
@@ -188,15 +198,14 @@ class Agreement:
         return None
 
     def is_there_alike(self, mine: Side, one, other: Side, two) -> bool:
-        """Whether two members are there alike: with the same default, and where none may be absent both in the root or both after the marker."""
+        """Whether two members are there alike: with the same default, and if they are always there both in the root or both after the marker."""
         presences = (one.member.presence, two.member.presence)
         if presences[0] is not presences[1]:
             return False
         if presences[0] is tree.Presence.DEFAULT:
             return self.default(mine.program, one) in ("{}", self.default(other.program, two))
         groups = [it.member.group is not None for it in (one, two)]
-        grouped = two.member.group is not None and sum(it.group == two.member.group for it in other.type.members if isinstance(it, tree.Member)) > 1
-        return not grouped and (presences[0] is tree.Presence.OPTIONAL or groups[0] == groups[1])
+        return presences[0] is tree.Presence.OPTIONAL or groups[0] == groups[1]
 
     def default(self, program: Program, resolved) -> object:
         """A default: a truth, a number, the number of an item, or braces for none of these."""

@@ -303,7 +303,8 @@ class Parts(unittest.TestCase):
         body = "T ::= SEQUENCE { a NULL OPTIONAL, b INTEGER, ... }\nU ::= SEQUENCE { a NULL, b INTEGER (0..255) OPTIONAL, ..., c BOOLEAN }\nV ::= SEQUENCE { ... }"
         one = given(body)
         types = [str(one.meanings.declarations.by_name[one.meaning(it).rust.text].later.type) for it in "TU"]
-        self.assertEqual(["LaterMembers<NoneOf>", "LaterMembers<OneOf<u8, OneOf<bool, NoneOf>>>"], types)
+        self.assertEqual(["LaterMembers<NoneOf>", "Added<UAdditions>"], types)
+        self.assertEqual("LaterMembers<NoneOf>", str(one.meanings.declarations.by_name["UAdditions"].later.type))
         self.assertEqual((Level.EXACT, "Vec<Asn1RawDer>"), (one.meaning("V").level, str(one.meanings.declarations.by_name["V"].type)))
 
     def test_implied_extensibility(self):

@@ -36,14 +36,16 @@ PRINTED = [
     ("OCTET-STRING-CONTAINING ANY", "OCTET STRING (CONTAINING ANY)"),
     ("CHOICE (NULL ∣ BOOLEAN ∣ later-alternatives-refused)", "CHOICE { alternative1 NULL, alternative2 BOOLEAN, ... }"),
     (
-        "SEQUENCE (required NULL ⨾ default (minus 1) INTEGER ⨾ added BOOLEAN ⨾ default-of (number 7) INTEGER ⨾ later-members)",
-        "SEQUENCE { member1 NULL, member2 INTEGER DEFAULT -1, ..., member3 BOOLEAN, member4 INTEGER DEFAULT 7 }",
+        "SEQUENCE (required NULL ⨾ default (minus 1) INTEGER ⨾ added (required BOOLEAN ⨾ default-of (number 7) INTEGER ⨾ later-members))",
+        "SEQUENCE { member1 NULL, member2 INTEGER DEFAULT -1, ..., [[ member3 BOOLEAN, member4 INTEGER DEFAULT 7 ]] }",
     ),
+    (
+        "SEQUENCE (required NULL ⨾ added (required NULL ⨾ added (required NULL ⨾ later-members-automatic)))",
+        "SEQUENCE { member1 NULL, ..., [[ member2 NULL ]], [[ member3 NULL ]] }",
+    ),
+    ("SET (required NULL ⨾ added-as-optional NULL ⨾ later-members-refused)", "SET { member1 NULL, ..., member2 NULL }"),
     ("SET (optional NULL ⨾ default-as-optional IA5String ⨾ later-members)", "SET { member1 NULL OPTIONAL, member2 IA5String DEFAULT {}, ... }"),
 ]
-
-# the types with additions in brackets, which are there together or not at all: the first member of which terms don't say that
-GROUPED = {("Lease", "Lease"): "garden", ("Leases", "Lease-2"): "garden", ("Leases", "Lease-3"): "garden", ("Parcels", "Parcel-2"): "sender"}
 
 # a module's type, and another one in place of a part of its term
 ALTERED = [
@@ -53,7 +55,9 @@ ALTERED = [
     ("SEQUENCE { a NULL OPTIONAL }", "optional", "required"),
     ("SEQUENCE { a BOOLEAN DEFAULT TRUE }", "default TRUE", "default FALSE"),
     ("SEQUENCE { a NULL, ... }", "later-members", "end"),
-    ("SEQUENCE { a NULL, ..., b BOOLEAN }", "added", "required"),
+    ("SEQUENCE { a NULL, ..., b BOOLEAN }", "added (required BOOLEAN ⨾\n    later-members)", "required BOOLEAN ⨾\n    later-members"),
+    ("SEQUENCE { a NULL, ..., b BOOLEAN, c NULL }", "added (required NULL ⨾\n    later-members)", "required NULL ⨾\n    later-members"),
+    ("SEQUENCE { a NULL, ..., [[ b BOOLEAN, c NULL ]] }", "required NULL ⨾\n    later-members)", "added (required NULL ⨾\n    later-members))"),
     ("SET { a NULL, b BOOLEAN }", "SET", "SEQUENCE"),
     ("SET OF NULL", "SET-OF", "SEQUENCE-OF"),
     ("CHOICE { a NULL, b BOOLEAN }", "BOOLEAN ∣", "INTEGER ∣"),
@@ -125,9 +129,9 @@ class Comparing(unittest.TestCase):
 
                 self.assertIsNotNone(self.difference(text, change))
 
-    def test_a_group_of_additions(self):
-        """That members are there together or not at all isn't in a term."""
-        self.assertIn("is there otherwise", self.difference(module_text("T ::= SEQUENCE { a NULL, ..., [[ b BOOLEAN, c INTEGER ]] }")))
+    def test_groups_of_additions(self):
+        for notation in ("a NULL, ..., [[ b BOOLEAN, c INTEGER ]]", "a NULL, ..., [[ b NULL OPTIONAL, c INTEGER ]], d NULL, e BOOLEAN OPTIONAL"):
+            self.assertIsNone(self.difference(module_text(f"T ::= SEQUENCE {{ {notation} }}")))
 
 
 class Agreeing(unittest.TestCase):
@@ -143,7 +147,7 @@ class Agreeing(unittest.TestCase):
             for it in types_in(module, program):
                 with self.subTest(f"{module.name}.{it.name}"):
                     found = agreement.difference(it, module)
-                    self.assertEqual(GROUPED.get((module.name, it.name)), found and found.partition(":")[0])
+                    self.assertIsNone(found)
                     count += 1
         return count
 

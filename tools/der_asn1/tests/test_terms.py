@@ -91,9 +91,15 @@ class Terms(unittest.TestCase):
 
     def test_extensions(self):
         self.check([("SEQUENCE { a NULL, ... }", "SEQUENCE (required NULL ⨾ later-members)"), ("SEQUENCE { ... }", "SEQUENCE later-members")])
-        self.check([("SEQUENCE { a NULL, ..., b BOOLEAN }", "SEQUENCE (required NULL ⨾ added BOOLEAN ⨾ later-members)")])
-        self.check([("SEQUENCE { a NULL, ..., [[ b BOOLEAN ]] }", "SEQUENCE (required NULL ⨾ added BOOLEAN ⨾ later-members)")])
-        wanted = "wider (SEQUENCE (required NULL ⨾ added BOOLEAN ⨾ required INTEGER ⨾ later-members-refused))"
+        added = "SEQUENCE (required NULL ⨾ added (required BOOLEAN ⨾ later-members))"
+        self.check([("SEQUENCE { a NULL, ..., b BOOLEAN }", added), ("SEQUENCE { a NULL, ..., [[ b BOOLEAN ]] }", added)])
+        for text, wanted in (
+            ("..., b BOOLEAN OPTIONAL, c NULL", "optional BOOLEAN ⨾ added (required NULL ⨾ later-members)"),
+            ("..., b BOOLEAN, c NULL", "added (required BOOLEAN ⨾ added (required NULL ⨾ later-members))"),
+            ("..., [[ b BOOLEAN OPTIONAL, c NULL ]], d NULL OPTIONAL", "added (optional BOOLEAN ⨾ required NULL ⨾ optional NULL ⨾ later-members)"),
+        ):
+            self.check([(f"SEQUENCE {{ a NULL, {text} }}", f"SEQUENCE (required NULL ⨾ {wanted})")])
+        wanted = "wider (SEQUENCE (required NULL ⨾ added-as-optional BOOLEAN ⨾ required INTEGER ⨾ later-members-refused))"
         self.check([("SEQUENCE { a NULL, ..., b BOOLEAN, ..., c INTEGER }", wanted)])
         self.check([("SEQUENCE { a NULL, b ANY OPTIONAL, ... }", "wider (SEQUENCE (required NULL ⨾ optional ANY ⨾ later-members-refused))")])
         self.check([("SET { a NULL, ... }", "wider (SET (required NULL ⨾ later-members-refused))")])

@@ -15,7 +15,9 @@ ghost use Rattle.der_types.specs.Sameness.{content_sameness};
 ghost use Rattle.der_types.specs.SampleTrees.{exact_example};
 ghost use Rattle.der_types.specs.MadeValues.{vec_of};
 
-use crate::{Contents, Enumerated, Exact, ExactContents, Integer, Notated, deserialize_contents_as};
+use crate::{
+    Contents, Enumerated, Exact, ExactContents, Integer, Notated, deserialize_contents_as,
+};
 use picky_der_core::asn1::Tag;
 use picky_der_core::misc::{ReadExt, WriteExt};
 use picky_der_core::{Asn1DerError, Result};
@@ -55,7 +57,11 @@ impl Contents for Enumerated {
         }
     }
 
-    fn serialize_under<W: WriteExt>(&self, tag: Tag, serializer: &mut Serializer<W>) -> Result<usize> {
+    fn serialize_under<W: WriteExt>(
+        &self,
+        tag: Tag,
+        serializer: &mut Serializer<W>,
+    ) -> Result<usize> {
         serializer.serialize_tagged_bytes(tag, self.0.content())
     }
 

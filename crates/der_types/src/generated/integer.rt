@@ -58,7 +58,11 @@ impl Contents for Integer {
         }
     }
 
-    fn serialize_under<W: WriteExt>(&self, tag: Tag, serializer: &mut Serializer<W>) -> Result<usize> {
+    fn serialize_under<W: WriteExt>(
+        &self,
+        tag: Tag,
+        serializer: &mut Serializer<W>,
+    ) -> Result<usize> {
         serializer.serialize_tagged_bytes(tag, &self.content)
     }
 

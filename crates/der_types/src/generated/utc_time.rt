@@ -48,7 +48,11 @@ impl Contents for UtcTime {
         UtcTime::of(content)
     }
 
-    fn serialize_under<W: WriteExt>(&self, tag: Tag, serializer: &mut Serializer<W>) -> Result<usize> {
+    fn serialize_under<W: WriteExt>(
+        &self,
+        tag: Tag,
+        serializer: &mut Serializer<W>,
+    ) -> Result<usize> {
         self.write_under(tag, serializer)
     }
 

@@ -2,7 +2,7 @@
 
 use crate::tests::checks::{bytes, is_written};
 use der_examples::Parcel;
-use picky_asn1_der::{Asn1RawDer, LaterMembers, NoneOf, OneOf, from_der};
+use picky_asn1_der::{Asn1RawDer, LaterMembers, LaterMembersFrom, NoneOf, OneOf, from_der};
 use std::process::Abort;
 
 type Later = LaterMembers<OneOf<String, NoneOf>>;
@@ -49,4 +49,10 @@ fn the_first_has_another_tag(rt: HostRuntime) {
     same!(rt; later(&rt, &["2C 00"]).is_none(), true);
     same!(rt; later(&rt, &["05 00", "2C 00"]).is_some(), true);
     same!(rt; later(&rt, &[]).is_some(), true);
+}
+
+#[test]
+fn none_are_numbered(rt: HostRuntime) {
+    let later = LaterMembersFrom::<4>::none(rt.alloc());
+    same!(rt; later.elements.len(), 0);
 }

@@ -29,7 +29,10 @@ returns-in_err-value-clause-refused_by g c =
 
 pub returns-in-None-clause-refused_by : goal.returns-in-None-clause-refused_by
 returns-in-None-clause-refused_by g c =
-    no_value_by c.in_ok-value.value c.in_ok-value.ensures.ok (inr (refl, λ it same.
-    let determined = g.met.C.Constrained.determined (g.C.Constrained.unconstrained it) c.in_ok-value.value same in
-    let wrong : true ≡ false = sym (g.met.C.Constrained.kept it) ∙ determined ∙ c.in-None.ensures.none in
-    cc)) c.refuse.ensures.is
+    no_value_by c.in_ok-value.value c.in_ok-value.ensures.ok (inr (
+      refl,
+      λ it same.
+          let determined = g.met.C.Constrained.determined (g.C.Constrained.unconstrained it) c.in_ok-value.value same in
+          let wrong : true ≡ false = sym (g.met.C.Constrained.kept it) ∙ determined ∙ c.in-None.ensures.none in
+          cc,
+    )) c.refuse.ensures.is
