@@ -77,6 +77,9 @@ def _fields(type_: tree.Type, level: int) -> Iterator[tuple[tree.FieldType, int]
             yield from _fields(it.type, level + 1)
     elif isinstance(type_, tree.ListType):
         yield from _fields(type_.element, level + 1)
+    for it in type_.constraints:
+        if isinstance(it, tree.ContentsConstraint) and it.type is not None:
+            yield from _fields(it.type, level)
 
 
 def _is_whole(program: Program, table: Table) -> bool:
@@ -240,6 +243,8 @@ class _Rows:
         if isinstance(type_, tree.ListType):
             inner = self.type(type_.element, level + 1)
             return inner and replace(type_, element=inner)
+        if any(isinstance(it, tree.ContentsConstraint) and it.type is not None for it in type_.constraints):
+            return self.containing(type_, level)
         if not isinstance(type_, tree.FieldType) or not _refers(_constraint(type_, True), self.table.member.name, level):
             return type_
         if self.types is None:
@@ -247,3 +252,13 @@ class _Rows:
         name = self.types[tuple(type_.fields)]
         others = [it for it in type_.constraints if not isinstance(it, tree.TableConstraint)]
         return name and tree.ReferenceType(type_.place, name, tags=type_.tags, constraints=others, text=type_.text)
+
+    def containing(self, type_: tree.Type, level: int) -> Optional[tree.Type]:
+        """A string that contains a value of a type of the row."""
+        constraints = []
+        for it in type_.constraints:
+            inner = self.type(it.type, level) if isinstance(it, tree.ContentsConstraint) and it.type is not None else None
+            if inner is None and isinstance(it, tree.ContentsConstraint) and it.type is not None:
+                return None
+            constraints.append(replace(it, type=inner) if inner else it)
+        return replace(type_, constraints=constraints)

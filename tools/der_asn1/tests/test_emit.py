@@ -371,7 +371,7 @@ class Golden(unittest.TestCase):
 
     def test_each(self):
         names = golden_names()
-        self.assertEqual(14, len(names))
+        self.assertEqual(15, len(names))
         with tempfile.TemporaryDirectory() as there:
             for it in names:
                 with self.subTest(it):

@@ -370,6 +370,11 @@ Only ALGORITHM ::= { { OID { 1 2 3 } PARMS NULL } }
         found = self.meaning("SEQUENCE { a ALGORITHM.&id ({Known}), b SET OF SEQUENCE { c ALGORITHM.&Type ({Known}{@a}), d INTEGER } }")
         self.assertEqual((Level.EXACT, 2), (found.level, len(found.rust.choices)))
 
+    def test_a_type_in_a_string(self):
+        one = given(f"{self.BODY}T ::= SEQUENCE {{ a ALGORITHM.&id ({{Only}}), b OCTET STRING (CONTAINING ALGORITHM.&Type ({{Only}}{{@a}})) }}")
+        one.meaning("T")
+        self.assertEqual("OctetStringAsn1Container<()>", str(one.meanings.declarations.by_name["T"].fields[1].type))
+
     def test_an_implicit_tag_over_a_table(self):
         found = self.meaning("[3] IMPLICIT SEQUENCE { a ALGORITHM.&id ({Known}), b ALGORITHM.&Type ({Known}{@a}) OPTIONAL }")
         self.assertEqual([{0xA3}, {0xA3}], [it.meaning.rust.firsts for it in found.rust.choices])
