@@ -197,7 +197,7 @@ def set_of(program: Program, tokens: list[Token], class_: Optional[ClassInScope]
             found.extensible = True
         elif part[0].is_symbol("{"):
             one = object_of(program, part[1:-1], class_, scope, part[0].place) if class_ else None
-            _add(found, one and replace(one, name=_name_within(one)))
+            _add(found, one and replace(one, name=_name_within(one, class_.definition)))
         elif part[0].is_symbol("("):
             found.add(set_of(program, part[1:-1], class_, scope, depth + 1))
         elif len(part) == 1 and part[0].kind is Kind.LOWER:
@@ -210,9 +210,12 @@ def set_of(program: Program, tokens: list[Token], class_: Optional[ClassInScope]
     return found
 
 
-def _name_within(one: InformationObject) -> str:
-    """The first name of a value in an object, or nothing."""
-    return next((it.value.name for it in one.settings if isinstance(it.value, tree.NamedValue)), "")
+def _name_within(one: InformationObject, class_: tree.ClassDefinition) -> str:
+    """The name of an object's identifier, or else of a type that it has, or nothing."""
+    unique = {it.name for it in class_.fields if it.unique}
+    names = [it.value.name for it in one.settings if it.field_name in unique and isinstance(it.value, tree.NamedValue)]
+    types = [it.type.name for it in one.settings if isinstance(it.type, tree.ReferenceType)]
+    return next(iter([*names, *types]), "")
 
 
 def _add(found: ObjectSet, one: Optional[InformationObject]) -> None:

@@ -6,7 +6,7 @@ from ..parse import tree
 from .contents import content_of
 from .declarations import Hint
 from .objects import InformationObject, ObjectSet, class_named, object_named, set_of
-from .scopes import Binding, Program, Scope, resolve
+from .scopes import FIXED_FIELD, Binding, Program, Scope, resolve
 from .tagging import fixed_field_type
 from .unions import Choice, union
 from .values import integer_of
@@ -16,7 +16,8 @@ if TYPE_CHECKING:
     from .types import Meanings
 
 # what rows call what they stand for: no name of a module has such a sign
-_IDENTIFIER, _VALUE, _TYPE = "&identifier", "&value{}", "&type{}"
+_IDENTIFIER, _FIXED = f"{FIXED_FIELD}-identifier", f"{FIXED_FIELD}{{}}"
+_VALUE, _TYPE, _SETTING = "&value{}", "&type{}", "&setting{}"
 _DEPTH = 30
 
 
@@ -122,7 +123,7 @@ def of_table(meanings: "Meanings", table: Table, hint: Hint, plain: Callable[[tr
     """One of the types of the rows, or the only one. `plain` is the meaning of a SEQUENCE or SET by itself."""
     rows = [it for it in (_row(meanings.program, table, one, number) for number, one in enumerate(table.objects.objects)) if it]
     if table.objects.extensible:
-        rows.append(_other_row(table))
+        rows.append(_other_row(meanings.program, table))
     if not rows:
         return None
     if len(rows) == 1:
@@ -130,6 +131,14 @@ def of_table(meanings: "Meanings", table: Table, hint: Hint, plain: Callable[[tr
     choices = [Choice(it.name, plain(it.type, it.scope, Hint(f"{hint.text}-{it.name}", root=hint.root, where=hint.where)), it.text) for it in rows]
     fallback = plain(table.type, table.scope, Hint(f"{hint.text}-any", root=hint.root, where=hint.where))
     return union(meanings, table.type, table.scope, hint, choices, fallback)
+
+
+@dataclass(frozen=True)
+class Given:
+    """What stands for a field in a row: the name of a type, and a value that it is alone."""
+
+    name: str
+    value: Optional[tree.Element] = None
 
 
 @dataclass(frozen=True)
@@ -145,13 +154,12 @@ class Row:
 def _row(program: Program, table: Table, one: InformationObject, number: int) -> Optional[Row]:
     """The row of an object, or None if the object has no type for a member that is always there."""
     bindings = [(_VALUE.format(number), _bound(table, one)), (_IDENTIFIER, table.fixed)]
-    types = {}
+    types: dict[tuple, Optional[Given]] = {}
     for it in _governed(table.type, table.member):
-        key = tuple(it.fields)
-        if key not in types:
-            found = _type_of(program, one, it.fields)
-            types[key] = _TYPE.format(len(types)) if found else None
-            bindings += [(types[key], found)] if found else []
+        if tuple(it.fields) not in types:
+            found, more = _given(program, table, it, one, len(types))
+            types[tuple(it.fields)] = found
+            bindings += more
     chosen = [_VALUE.format(number)]
     built = _Rows(table, tree.Union_(table.member.place, _single(table, chosen)), types).structure(table.type, 0)
     if built is None:
@@ -160,11 +168,39 @@ def _row(program: Program, table: Table, one: InformationObject, number: int) ->
     return Row(name, built, _scope(table, name, number, bindings), f"{table.member.name} {name}")
 
 
-def _other_row(table: Table) -> Row:
+def _given(
+    program: Program,
+    table: Table,
+    type_: tree.FieldType,
+    one: Optional[InformationObject],
+    number: int,
+) -> tuple[Optional[Given], list[tuple[str, Binding]]]:
+    """What a field is in the row of an object, or of none, with what stands for it. A field of values has its type, and the object's value alone."""
+    fixed = fixed_field_type(program, type_, table.scope)
+    if fixed is None:
+        found = _type_of(program, one, type_.fields) if one else None
+        return (Given(_TYPE.format(number)), [(_TYPE.format(number), found)]) if found else (None, [])
+    bindings = [(_FIXED.format(number), Binding(tree.Argument(type_.place, type=fixed[0]), fixed[1]))]
+    setting = one.setting(type_.fields[0]) if one else None
+    if setting is None or setting.value is None:
+        return Given(_FIXED.format(number)), bindings
+    name = _SETTING.format(number)
+    value = tree.SingleValue(type_.place, tree.NamedValue(type_.place, name))
+    return Given(_FIXED.format(number), value), [*bindings, (name, Binding(tree.Argument(type_.place, value=setting.value), one.scope))]
+
+
+def _other_row(program: Program, table: Table) -> Row:
     """The row of every other identifier, in which each open type is any element."""
     element = tree.Except(table.member.place, None, tree.Union_(table.member.place, _single(table, _values(table))))
-    built = _Rows(table, element, None).structure(table.type, 0)
-    scope = _scope(table, "other", len(table.objects.objects), _bindings(table))
+    fixed: dict[tuple, Optional[Given]] = {}
+    bindings = _bindings(table)
+    for it in _governed(table.type, table.member):
+        if tuple(it.fields) not in fixed and fixed_field_type(program, it, table.scope):
+            found, more = _given(program, table, it, None, len(fixed))
+            fixed[tuple(it.fields)] = found
+            bindings += more
+    built = _Rows(table, element, fixed, is_open=True).structure(table.type, 0)
+    scope = _scope(table, "other", len(table.objects.objects), bindings)
     return Row("other", built, scope, f"{table.member.name} of no object of the table")
 
 
@@ -208,11 +244,15 @@ def _type_of(program: Program, one: InformationObject, fields: list[str], depth:
 
 @dataclass(frozen=True)
 class _Rows:
-    """Makes the type of a row: with this constraint of the identifier, and these types by the fields of the class, or any type for all fields."""
+    """Makes the type of a row: with this constraint of the identifier, and these types by the fields of the class.
+
+    `is_open` says that each other field is of any type, and not one that the object lacks.
+    """
 
     table: Table
     identifier: tree.Element
-    types: Optional[dict]
+    types: dict[tuple, Optional[Given]]
+    is_open: bool = False
 
     def structure(self, type_: tree.StructureType, level: int) -> Optional[tree.StructureType]:
         """A SEQUENCE or SET of a row, or None if a member has no type that is always there."""
@@ -247,11 +287,12 @@ class _Rows:
             return self.containing(type_, level)
         if not isinstance(type_, tree.FieldType) or not _refers(_constraint(type_, True), self.table.member.name, level):
             return type_
-        if self.types is None:
-            return tree.AnyType(type_.place, tags=type_.tags, text=type_.text)
-        name = self.types[tuple(type_.fields)]
+        given = self.types.get(tuple(type_.fields))
+        if given is None:
+            return tree.AnyType(type_.place, tags=type_.tags, text=type_.text) if self.is_open else None
         others = [it for it in type_.constraints if not isinstance(it, tree.TableConstraint)]
-        return name and tree.ReferenceType(type_.place, name, tags=type_.tags, constraints=others, text=type_.text)
+        value = [tree.ElementSet(type_.place, given.value)] if given.value else []
+        return tree.ReferenceType(type_.place, given.name, tags=type_.tags, constraints=[*others, *value], text=type_.text)
 
     def containing(self, type_: tree.Type, level: int) -> Optional[tree.Type]:
         """A string that contains a value of a type of the row."""

@@ -1,4 +1,5 @@
 """Which type of the library each type of the notation is, and what is missing: by docs/YOUR_TYPES.md, X.680 and X.690."""
+import re
 import unittest
 
 from ..meaning.declarations import Hint
@@ -374,6 +375,23 @@ Only ALGORITHM ::= { { OID { 1 2 3 } PARMS NULL } }
         one = given(f"{self.BODY}T ::= SEQUENCE {{ a ALGORITHM.&id ({{Only}}), b OCTET STRING (CONTAINING ALGORITHM.&Type ({{Only}}{{@a}})) }}")
         one.meaning("T")
         self.assertEqual("OctetStringAsn1Container<()>", str(one.meanings.declarations.by_name["T"].fields[1].type))
+
+    def test_automatic_tags_in_a_table(self):
+        """A tag over a field of values is as over its type, and one over an open type is EXPLICIT."""
+        body = """FIELD ::= CLASS { &id INTEGER (0..9) UNIQUE, &level ENUMERATED { low, high }, &Type } WITH SYNTAX { ID &id LEVEL &level TYPE &Type }
+Fields FIELD ::= { { ID 1 LEVEL low TYPE NULL } | { ID 2 LEVEL high TYPE UTF8String }, ... }
+T ::= SEQUENCE { id FIELD.&id ({Fields}), level FIELD.&level ({Fields}{@id}), value FIELD.&Type ({Fields}{@id}) }"""
+        one = given(body, "AUTOMATIC TAGS")
+        terms = [[item.term.inline() for item in it.meaning.rust.term.items] for it in one.meaning("T").rust.choices]
+        self.assertEqual(["CONTEXT 0 AUTOMATIC (INTEGER-from-to 1 1)", "CONTEXT 1 AUTOMATIC (ENUMERATED (0 ∷ []))", "CONTEXT 2 EXPLICIT NULL"], terms[0])
+        self.assertEqual("CONTEXT 1 AUTOMATIC (ENUMERATED (0 ∷ 1 ∷ []))", terms[2][1])
+        self.assertEqual([0x80, 0x81, 0xA2], [min(item) for item in self.firsts(one, "TRow1")])
+
+    def firsts(self, one, name):
+        """The first bytes of the members of a type that is declared."""
+        texts = [str(it.type) for it in one.meanings.declarations.by_name[name].fields]
+        tags = {"ExplicitContextTag": 0xA0, "ImplicitContextTag": 0x80, "InRange": 0x80}
+        return [{tags[re.match("[A-Za-z]+", it)[0]] + int(re.search(r"ContextTag(\d+)", it)[1])} for it in texts]
 
     def test_an_implicit_tag_over_a_table(self):
         found = self.meaning("[3] IMPLICIT SEQUENCE { a ALGORITHM.&id ({Known}), b ALGORITHM.&Type ({Known}{@a}) OPTIONAL }")
