@@ -5,6 +5,7 @@ from typing import TYPE_CHECKING, Callable, Iterator, Optional
 from ..parse import tree
 from .contents import content_of
 from .declarations import Hint
+from .members import is_automatic, is_extensible, members_of
 from .objects import InformationObject, ObjectSet, class_named, object_named, set_of
 from .scopes import FIXED_FIELD, Binding, Program, Scope, resolve
 from .tagging import fixed_field_type
@@ -45,8 +46,15 @@ def table_of(program: Program, type_: tree.StructureType, scope: Scope) -> Optio
         if fixed and any(_governed(type_, it)):
             objects = objects_of(program, it.type, constraint.tokens, scope)
             found = Table(type_, scope, it, Binding(tree.Argument(it.place, type=fixed[0]), fixed[1]), objects)
-            return found if _is_whole(program, found) else None
+            return found if _is_whole(program, found) and not _moves_later(program, found) else None
     return None
+
+
+def _moves_later(program: Program, table: Table) -> bool:
+    """Whether a member is left out of a row where the number of members says which automatic tags those of later versions have."""
+    fields = {tuple(it.fields) for it in _governed(table.type, table.member) if not fixed_field_type(program, it, table.scope)}
+    lacking = any(_type_of(program, one, list(it)) is None for one in table.objects.objects for it in fields)
+    return lacking and is_extensible(table.type, table.scope) and is_automatic(table.type, table.scope)
 
 
 def _constraint(type_: tree.Type, is_governed: bool) -> Optional[tree.TableConstraint]:
@@ -112,7 +120,7 @@ def closed(program: Program, type_: tree.FieldType, constraint: tree.TableConstr
     table = Table(tree.StructureType(type_.place, tree.Form.SEQUENCE, [member]), scope, member, Binding(tree.Argument(type_.place, type=fixed[0]), fixed[1]), objects)
     if not _is_whole(program, table):
         return None
-    built = _Rows(table, tree.Union_(type_.place, _single(table, _values(table))), {}).identified(type_)
+    built = _Rows(program, table, tree.Union_(type_.place, _single(table, _values(table))), {}).identified(type_)
     return replace(built, tags=[]), _scope(table, "closed", 0, _bindings(table))
 
 
@@ -161,7 +169,7 @@ def _row(program: Program, table: Table, one: InformationObject, number: int) ->
             types[tuple(it.fields)] = found
             bindings += more
     chosen = [_VALUE.format(number)]
-    built = _Rows(table, tree.Union_(table.member.place, _single(table, chosen)), types).structure(table.type, 0)
+    built = _Rows(program, table, tree.Union_(table.member.place, _single(table, chosen)), types).structure(table.type, 0)
     if built is None:
         return None
     name = one.name or f"row-{number + 1}"
@@ -199,7 +207,7 @@ def _other_row(program: Program, table: Table) -> Row:
             found, more = _given(program, table, it, None, len(fixed))
             fixed[tuple(it.fields)] = found
             bindings += more
-    built = _Rows(table, element, fixed, is_open=True).structure(table.type, 0)
+    built = _Rows(program, table, element, fixed, is_open=True).structure(table.type, 0)
     scope = _scope(table, "other", len(table.objects.objects), bindings)
     return Row("other", built, scope, f"{table.member.name} of no object of the table")
 
@@ -249,6 +257,7 @@ class _Rows:
     `is_open` says that each other field is of any type, and not one that the object lacks.
     """
 
+    program: Program
     table: Table
     identifier: tree.Element
     types: dict[tuple, Optional[Given]]
@@ -266,7 +275,14 @@ class _Rows:
                     return None
                 it = inner and replace(it, type=inner)
             members += [it] if it else []
-        return replace(type_, members=members)
+        return replace(type_, members=self.tagged(type_, members, len(type_.members)))
+
+    def tagged(self, type_: tree.Type, left: list, count: int) -> list:
+        """Members or alternatives that are left, with the automatic tags that they have among all of them."""
+        if len(left) == count or not is_automatic(type_, self.table.scope):
+            return left
+        tags = {it.member.name: it.member.type.tags for it in members_of(self.program, type_, self.table.scope)}
+        return [replace(it, type=replace(it.type, tags=tags[it.name])) if isinstance(it, tree.Member) else it for it in left]
 
     def identified(self, type_: tree.FieldType) -> tree.Type:
         """The type of the identifier."""
@@ -279,7 +295,8 @@ class _Rows:
             return self.structure(type_, level)
         if isinstance(type_, tree.ChoiceType):
             found = [(it, self.type(it.type, level + 1)) for it in type_.alternatives]
-            return replace(type_, alternatives=[replace(it, type=inner) for it, inner in found if inner])
+            left = [replace(it, type=inner) for it, inner in found if inner]
+            return replace(type_, alternatives=self.tagged(type_, left, len(type_.alternatives)))
         if isinstance(type_, tree.ListType):
             inner = self.type(type_.element, level + 1)
             return inner and replace(type_, element=inner)

@@ -387,6 +387,16 @@ T ::= SEQUENCE { id FIELD.&id ({Fields}), level FIELD.&level ({Fields}{@id}), va
         self.assertEqual("CONTEXT 1 AUTOMATIC (ENUMERATED (0 ∷ 1 ∷ []))", terms[2][1])
         self.assertEqual([0x80, 0x81, 0xA2], [min(item) for item in self.firsts(one, "TRow1")])
 
+    def test_automatic_tags_of_members_that_an_object_lacks(self):
+        body = """FIELD ::= CLASS { &id INTEGER (0..9) UNIQUE, &Type OPTIONAL } WITH SYNTAX { ID &id [TYPE &Type] }
+Fields FIELD ::= { { ID 1 } | { ID 2 TYPE UTF8String } }
+T ::= SEQUENCE { id FIELD.&id ({Fields}), value FIELD.&Type ({Fields}{@id}) OPTIONAL, last INTEGER }
+U ::= SEQUENCE { id FIELD.&id ({Fields}), value FIELD.&Type ({Fields}{@id}) OPTIONAL, ... }"""
+        one = given(body, "AUTOMATIC TAGS")
+        terms = [[item.term.inline() for item in it.meaning.rust.term.items] for it in one.meaning("T").rust.choices]
+        self.assertEqual([["CONTEXT 0 AUTOMATIC (INTEGER-from-to 1 1)", "CONTEXT 2 AUTOMATIC INTEGER"], 3], [terms[0], len(terms[1])])
+        self.assertEqual(Level.OPEN, one.meaning("U").level)
+
     def firsts(self, one, name):
         """The first bytes of the members of a type that is declared."""
         texts = [str(it.type) for it in one.meanings.declarations.by_name[name].fields]
