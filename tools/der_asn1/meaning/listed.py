@@ -39,6 +39,7 @@ _ACCESSES = {
     "Encoded": Access(f"{PART}.encoding().0.as_slice()", f"{PART}.encoding.0.items"),
     "ObjectIdentifier": Access(f"{PART}.content()", f"{PART}.content.items"),
     "ByteBuf": Access(f"{PART}.0.as_slice()", f"{PART}.0.items"),
+    "TaggedBytes": Access(f"{PART}.0.as_slice()", f"{PART}.0.items"),
     "String": Access(f"{PART}.as_bytes()", f"(string_bytes {PART})"),
     **dict.fromkeys(
         """NumericString PrintableString TeletexString Ia5String VisibleString GeneralString VideotexString GraphicString ObjectDescriptor
@@ -49,7 +50,7 @@ _ACCESSES = {
 
 
 # the types of the library whose contents may be listed, or other ones
-ACCESSED = frozenset(_ACCESSES) - {"Asn1RawDer", "Encoded"}
+ACCESSED = frozenset(_ACCESSES) - {"Asn1RawDer", "Encoded", "TaggedBytes"}
 
 
 def access_of(declared: ListedDeclaration) -> Access:

@@ -9,16 +9,16 @@ from ..parse.source import Problems
 from ..parse.tokens import Kind
 from .bounds import bounded, integer, whole_number_limits
 from .causes import Cause, Where, counts
-from .contents import ANY_CONTENT
+from .contents import ANY_CONTENT, Contents
 from .character_sets import has_all, own_set
 from .checks import Checks
 from .declarations import AliasDeclaration, Declaration, Declarations, Hint, NewtypeDeclaration
 from .defaults import other_values
 from .extensible import choice
 from .features import Feature, Level, Note
-from .library import Core, Rust, any_element, tagged_bytes, without_values
+from .library import MAX_TAG, Core, Rust, any_element, tagged_bytes, without_values
 from .library_table import BY_NAME, UNIVERSAL_TAGS, LibraryType
-from .listed import listed
+from .listed import declared_list, listed
 from .inner import inner_types
 from .intervals import NATURAL
 from .meaning import Meaning, lacks
@@ -53,6 +53,7 @@ END
 """
 # types of 2008 that the library has none for
 _TIMES = frozenset("TIME DATE TIME-OF-DAY DATE-TIME DURATION OID-IRI RELATIVE-OID-IRI".split())
+_BOOLEANS = frozenset((b"\x00", b"\xff"))  # the contents of a BOOLEAN (X.690, 8.2 and 11.1)
 _DER = [2, 1, 2, 1]  # the object identifier of DER (X.690, 12.2)
 ASSOCIATED = Program(read_text(_ASSOCIATED_TYPES, "associated types", Problems()), Problems())
 
@@ -244,14 +245,18 @@ class Meanings:
             number = integer_of(self.program, tag.number, scope)
             if number is None:
                 return self.unknown(Feature.UNDEFINED)
-            meaning = self.under(meaning, tag, number, effective_mode(self.program, tag, inner, scope), scope)
+            meaning = self.under(meaning, tag, number, effective_mode(self.program, tag, inner, scope), scope, hint)
             inner = None
         return meaning.placed(hint.where or Where(type_.place))
 
-    def under(self, inner: Meaning, tag: tree.Tag, number: int, mode: tree.TagMode, scope: Scope) -> Meaning:
+    def under(self, inner: Meaning, tag: tree.Tag, number: int, mode: tree.TagMode, scope: Scope, hint: Hint) -> Meaning:
         """The meaning of a type under a tag, with its term."""
         if mode is tree.TagMode.IMPLICIT and inner.rust and inner.rust.core is Core.UNION:
-            return tagged_union(self, inner, tag, number, scope, lambda it: self.under(it, tag, number, mode, scope)) or inner
+            return tagged_union(self, inner, tag, number, scope, lambda it: self.under(it, tag, number, mode, scope, hint)) or inner
+        if mode is tree.TagMode.IMPLICIT and inner.rust and inner.rust.core is Core.BOOL and tag.tag_class is not tree.TagClass.CONTEXT and number <= MAX_TAG:
+            kept = inner.as_(tagged_bytes(tag.tag_class.value | number))
+            place = tree.Type(tag.place, tags=[tag], text=f"[{tag.tag_class.name} {number}] IMPLICIT BOOLEAN")
+            return declared_list(self, kept, place, scope, hint, Contents(_BOOLEANS, False))
         meaning = wrapped(inner, tag.tag_class, number, mode)
         if inner.rust is None or meaning.rust is None or meaning.rust.term:
             return meaning.settled()

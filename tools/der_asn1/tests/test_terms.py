@@ -50,7 +50,7 @@ class Terms(unittest.TestCase):
         self.assertEqual("PNull", found)
 
     def test_a_tag_that_the_library_has_for_other_values_alone(self):
-        self.check([("[APPLICATION 1] BOOLEAN", "wider (any-content 0x41)")], "IMPLICIT TAGS")
+        self.check([("[APPLICATION 1] BOOLEAN", "narrower (any-content 0x41)")], "IMPLICIT TAGS")
         self.check([("[APPLICATION 1] INTEGER (0..255)", "APPLICATION 1 TAGS-M (INTEGER-from-to 0 255)")], "IMPLICIT TAGS")
         self.check([("[APPLICATION 1] OCTET STRING", "APPLICATION 1 TAGS-M OCTET-STRING")], "IMPLICIT TAGS")
 
