@@ -7,10 +7,10 @@ from .contents import content_of
 from .declarations import Hint
 from .members import is_automatic, is_extensible, members_of
 from .objects import InformationObject, ObjectSet, class_named, object_named, set_of
-from .scopes import FIXED_FIELD, Binding, Program, Scope, resolve
-from .tagging import fixed_field_type
+from .scopes import FIXED_FIELD, Binding, Program, Resolved, Scope, resolve
+from .tagging import default_mode, fixed_field_type
 from .unions import Choice, union
-from .values import integer_of
+from .values import integer_of, value_of
 
 if TYPE_CHECKING:
     from .meaning import Meaning
@@ -18,6 +18,7 @@ if TYPE_CHECKING:
 
 # what rows call what they stand for: no name of a module has such a sign
 _IDENTIFIER, _FIXED = f"{FIXED_FIELD}-identifier", f"{FIXED_FIELD}{{}}"
+_ALTERNATIVE = f"{FIXED_FIELD}-alternative-{{}}"
 _VALUE, _TYPE, _SETTING = "&value{}", "&type{}", "&setting{}"
 _DEPTH = 30
 
@@ -103,9 +104,27 @@ def _is_known(program: Program, table: Table, one: InformationObject) -> bool:
     if setting is None or setting.value is None:
         return False
     base = resolve(program, table.fixed.argument.type, table.fixed.scope)
+    if isinstance(base.type, tree.ChoiceType):
+        home = table.scope.module
+        is_alike = base.scope.module is home or home.tag_default is not tree.TagMode.AUTOMATIC and not home.extensibility_implied
+        return is_alike and _is_alternative(program, setting.value, one.scope, base)
+    return _is_value(program, setting.value, one.scope, base)
+
+
+def _is_value(program: Program, value: tree.Value, scope: Scope, base: Resolved) -> bool:
+    """Whether a value of a type without parts is known."""
     if isinstance(base.type, tree.IntegerType):
-        return integer_of(program, setting.value, one.scope, base.type.named) is not None
-    return content_of(program, setting.value, one.scope, base.type, base.scope) is not None
+        return integer_of(program, value, scope, base.type.named) is not None
+    return content_of(program, value, scope, base.type, base.scope) is not None
+
+
+def _is_alternative(program: Program, value: tree.Value, scope: Scope, base: Resolved) -> bool:
+    """Whether a value of a CHOICE that has no later alternatives is known, as `local : 1`."""
+    found, home = value_of(program, value, scope)
+    if not isinstance(found, tree.ChosenValue) or is_extensible(base.type, base.scope):
+        return False
+    chosen = next((it for it in members_of(program, base.type, base.scope) if it.member.name == found.name), None)
+    return chosen is not None and _is_value(program, found.value, home, resolve(program, replace(chosen.member.type, tags=[]), chosen.scope))
 
 
 def closed(program: Program, type_: tree.FieldType, constraint: tree.TableConstraint, home: Scope, scope: Scope) -> Optional[tuple[tree.Type, Scope]]:
@@ -120,8 +139,8 @@ def closed(program: Program, type_: tree.FieldType, constraint: tree.TableConstr
     table = Table(tree.StructureType(type_.place, tree.Form.SEQUENCE, [member]), scope, member, Binding(tree.Argument(type_.place, type=fixed[0]), fixed[1]), objects)
     if not _is_whole(program, table):
         return None
-    built = _Rows(program, table, tree.Union_(type_.place, _single(table, _values(table))), {}).identified(type_)
-    return replace(built, tags=[]), _scope(table, "closed", 0, _bindings(table))
+    built = _Rows(program, table, _values(table), {}).identified(type_)
+    return replace(built, tags=[]), _scope(table, "closed", 0, _bindings(program, table))
 
 
 # ---- rows
@@ -161,15 +180,14 @@ class Row:
 
 def _row(program: Program, table: Table, one: InformationObject, number: int) -> Optional[Row]:
     """The row of an object, or None if the object has no type for a member that is always there."""
-    bindings = [(_VALUE.format(number), _bound(table, one)), (_IDENTIFIER, table.fixed)]
+    bindings = [(_VALUE.format(number), _bound(program, table, one)), *_fixed(program, table)]
     types: dict[tuple, Optional[Given]] = {}
     for it in _governed(table.type, table.member):
         if tuple(it.fields) not in types:
             found, more = _given(program, table, it, one, len(types))
             types[tuple(it.fields)] = found
             bindings += more
-    chosen = [_VALUE.format(number)]
-    built = _Rows(program, table, tree.Union_(table.member.place, _single(table, chosen)), types).structure(table.type, 0)
+    built = _Rows(program, table, [_VALUE.format(number)], types).structure(table.type, 0)
     if built is None:
         return None
     name = one.name or f"row-{number + 1}"
@@ -199,15 +217,14 @@ def _given(
 
 def _other_row(program: Program, table: Table) -> Row:
     """The row of every other identifier, in which each open type is any element."""
-    element = tree.Except(table.member.place, None, tree.Union_(table.member.place, _single(table, _values(table))))
     fixed: dict[tuple, Optional[Given]] = {}
-    bindings = _bindings(table)
+    bindings = _bindings(program, table)
     for it in _governed(table.type, table.member):
         if tuple(it.fields) not in fixed and fixed_field_type(program, it, table.scope):
             found, more = _given(program, table, it, None, len(fixed))
             fixed[tuple(it.fields)] = found
             bindings += more
-    built = _Rows(program, table, element, fixed, is_open=True).structure(table.type, 0)
+    built = _Rows(program, table, _values(table), fixed, is_other=True).structure(table.type, 0)
     scope = _scope(table, "other", len(table.objects.objects), bindings)
     return Row("other", built, scope, f"{table.member.name} of no object of the table")
 
@@ -217,9 +234,17 @@ def _values(table: Table) -> list[str]:
     return [_VALUE.format(number) for number in range(len(table.objects.objects))]
 
 
-def _bindings(table: Table) -> list[tuple[str, Binding]]:
+def _bindings(program: Program, table: Table) -> list[tuple[str, Binding]]:
     """What stands for the identifiers of all objects, and for their type."""
-    return [*zip(_values(table), (_bound(table, it) for it in table.objects.objects)), (_IDENTIFIER, table.fixed)]
+    return [*zip(_values(table), (_bound(program, table, it) for it in table.objects.objects)), *_fixed(program, table)]
+
+
+def _fixed(program: Program, table: Table) -> list[tuple[str, Binding]]:
+    """What stands for the type of the identifier, and for those of its alternatives."""
+    base = resolve(program, table.fixed.argument.type, table.fixed.scope)
+    parts = members_of(program, base.type, base.scope) if isinstance(base.type, tree.ChoiceType) else []
+    found = [Binding(tree.Argument(it.member.place, type=replace(it.member.type, tags=[])), it.scope) for it in parts]
+    return [(_IDENTIFIER, table.fixed), *((_ALTERNATIVE.format(it.member.name), one) for it, one in zip(parts, found))]
 
 
 def _scope(table: Table, name: str, number: int, bindings: list) -> Scope:
@@ -228,14 +253,20 @@ def _scope(table: Table, name: str, number: int, bindings: list) -> Scope:
     return Scope(table.scope.module, key, (*bindings, *table.scope.bindings))
 
 
-def _bound(table: Table, one: InformationObject) -> Binding:
-    """The identifier of an object."""
-    return Binding(tree.Argument(table.member.place, value=one.setting(table.member.type.fields[0]).value), one.scope)
+def _bound(program: Program, table: Table, one: InformationObject) -> Binding:
+    """The identifier of an object, or the value of its alternative."""
+    value, scope = one.setting(table.member.type.fields[0]).value, one.scope
+    found, home = value_of(program, value, scope)
+    if isinstance(found, tree.ChosenValue):
+        value, scope = found.value, home
+    return Binding(tree.Argument(table.member.place, value=value), scope)
 
 
-def _single(table: Table, names: list[str]) -> list[tree.Element]:
-    """Single values by these names."""
-    return [tree.SingleValue(table.member.place, tree.NamedValue(table.member.place, it)) for it in names]
+def _single(table: Table, names: list[str], is_other: bool) -> tree.ElementSet:
+    """Single values by these names, or all others."""
+    place = table.member.place
+    values = tree.Union_(place, [tree.SingleValue(place, tree.NamedValue(place, it)) for it in names])
+    return tree.ElementSet(place, tree.Except(place, None, values) if is_other else values)
 
 
 def _type_of(program: Program, one: InformationObject, fields: list[str], depth: int = 0) -> Optional[Binding]:
@@ -252,16 +283,16 @@ def _type_of(program: Program, one: InformationObject, fields: list[str], depth:
 
 @dataclass(frozen=True)
 class _Rows:
-    """Makes the type of a row: with this constraint of the identifier, and these types by the fields of the class.
+    """Makes the type of a row: with one of these identifiers, and these types by the fields of the class.
 
-    `is_open` says that each other field is of any type, and not one that the object lacks.
+    `is_other` says that the identifier is another one, and that each other field is of any type, and not one that the object lacks.
     """
 
     program: Program
     table: Table
-    identifier: tree.Element
+    identifiers: list[str]
     types: dict[tuple, Optional[Given]]
-    is_open: bool = False
+    is_other: bool = False
 
     def structure(self, type_: tree.StructureType, level: int) -> Optional[tree.StructureType]:
         """A SEQUENCE or SET of a row, or None if a member has no type that is always there."""
@@ -286,8 +317,28 @@ class _Rows:
 
     def identified(self, type_: tree.FieldType) -> tree.Type:
         """The type of the identifier."""
-        constraint = tree.ElementSet(type_.place, self.identifier)
-        return tree.ReferenceType(type_.place, _IDENTIFIER, tags=type_.tags, constraints=[constraint], text=type_.text)
+        base = resolve(self.program, self.table.fixed.argument.type, self.table.fixed.scope)
+        if isinstance(base.type, tree.ChoiceType):
+            return self.chosen(type_, base)
+        values = _single(self.table, self.identifiers, self.is_other)
+        return tree.ReferenceType(type_.place, _IDENTIFIER, tags=type_.tags, constraints=[values], text=type_.text)
+
+    def chosen(self, type_: tree.FieldType, base: Resolved) -> tree.ChoiceType:
+        """The type of an identifier that is a CHOICE: the alternatives that the identifiers have, or those that others may have."""
+        by_name: dict[str, list[str]] = {}
+        for name, one in zip(_values(self.table), self.table.objects.objects):
+            if name in self.identifiers:
+                found, _ = value_of(self.program, one.setting(type_.fields[0]).value, one.scope)
+                by_name.setdefault(found.name, []).append(name)
+        alternatives = []
+        for it in members_of(self.program, base.type, base.scope):
+            names, tags = by_name.get(it.member.name, []), [replace(tag, mode=tag.mode or default_mode(it.scope)) for tag in it.member.type.tags]
+            if names or self.is_other:
+                values = [_single(self.table, names, self.is_other)] if names else []
+                name = _ALTERNATIVE.format(it.member.name)
+                own = tree.ReferenceType(it.member.place, name, tags=tags, constraints=values, text=it.member.type.text)
+                alternatives.append(replace(it.member, type=own))
+        return tree.ChoiceType(type_.place, alternatives, tags=type_.tags, text=type_.text)
 
     def type(self, type_: tree.Type, level: int) -> Optional[tree.Type]:
         """A type of a row. None if it, or what is always there in it, is of a field that the object lacks."""
@@ -306,7 +357,7 @@ class _Rows:
             return type_
         given = self.types.get(tuple(type_.fields))
         if given is None:
-            return tree.AnyType(type_.place, tags=type_.tags, text=type_.text) if self.is_open else None
+            return tree.AnyType(type_.place, tags=type_.tags, text=type_.text) if self.is_other else None
         others = [it for it in type_.constraints if not isinstance(it, tree.TableConstraint)]
         value = [tree.ElementSet(type_.place, given.value)] if given.value else []
         return tree.ReferenceType(type_.place, given.name, tags=type_.tags, constraints=[*others, *value], text=type_.text)

@@ -397,6 +397,18 @@ U ::= SEQUENCE { id FIELD.&id ({Fields}), value FIELD.&Type ({Fields}{@id}) OPTI
         self.assertEqual([["CONTEXT 0 AUTOMATIC (INTEGER-from-to 1 1)", "CONTEXT 2 AUTOMATIC INTEGER"], 3], [terms[0], len(terms[1])])
         self.assertEqual(Level.OPEN, one.meaning("U").level)
 
+    def test_an_identifier_that_is_a_choice(self):
+        body = """OPERATION ::= CLASS { &code Code UNIQUE, &Arg } WITH SYNTAX { ARGUMENT &Arg CODE &code }
+Code ::= CHOICE { local INTEGER, global OBJECT IDENTIFIER }
+open OPERATION ::= { ARGUMENT INTEGER CODE local : 1 }
+shut OPERATION ::= { ARGUMENT NULL CODE global : { 1 2 3 } }
+Known OPERATION ::= { open | shut, ... }
+T ::= SEQUENCE { op OPERATION.&code ({Known}), arg OPERATION.&Arg ({Known}{@op}) }"""
+        terms = [it.meaning.rust.term.items[0].term.inline() for it in given(body).meaning("T").rust.choices]
+        wanted = ["CHOICE (INTEGER-from-to 1 1 ∣ none)", "CHOICE (narrower OBJECT-IDENTIFIER ∣ none)"]
+        others = "CHOICE (INTEGER-in (up-to (number 0) ∷ from-on (number 2) ∷ []) ∣ narrower OBJECT-IDENTIFIER ∣ none)"
+        self.assertEqual([*wanted, others], terms)
+
     def firsts(self, one, name):
         """The first bytes of the members of a type that is declared."""
         texts = [str(it.type) for it in one.meanings.declarations.by_name[name].fields]
