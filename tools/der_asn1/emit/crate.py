@@ -14,6 +14,7 @@ from .choice import answers_path, serialize_answers
 from .constructors import constructor_file
 from .enum import TERMS_FILE, terms_file
 from .folder import NOTE
+from .imports import MOST_GROUPED
 from .layout import comment, filled, natural
 from .listed import LISTED_FILE, listed_terms
 from .named import named_file
@@ -23,8 +24,6 @@ from .types import ONLY, Context, stems_of, types_file
 from .union import ELEMENTS, TRIED, elements_file
 from .values import Value, value_file
 
-# with more names than these `rt fmt` has each import on a line of its own
-MOST_GROUPED = 100
 # the crates that each crate uses
 NEEDS = "der_types picky_asn1_der picky_der_core picky_der_ser picky_der_de".split()
 # what no file of a module or a group can be called

@@ -5,7 +5,7 @@ from ..meaning.listed import PART, access_of
 from ..meaning.wording import snake
 from .comments import difference_note, sentence
 from .imports import PRELUDE, Uses
-from .layout import STEP, WIDTH, comment
+from .layout import STEP, WIDTH, comment, head
 from .newtype import notated_impl
 from .tested import tested_impls, tested_uses
 from .union import element_notation, equal_impl
@@ -13,7 +13,7 @@ from .values import value_lines
 
 # the file of the terms of all listed values
 LISTED_FILE = "Listed"
-_TWO, _FOUR = STEP * 2, STEP * 4
+_TWO = STEP * 2
 _TRUTH, _RAW = "tree_truth", "raw_bytes"
 _OF_ENCODED = {
     "Rattle.std.proofs.Common": {"rules"},
@@ -110,7 +110,7 @@ def function(declared: ListedDeclaration) -> list[str]:
     clause = f"{declared.function} {access_of(declared).clause.replace(PART, now, 1)}"
     return [
         f"// Whether it is {'another value' if declared.contents.is_other else 'a listed value'}.",
-        f"fn {declared.function}({PART}: {given}) -> bool",
+        *head("", f"fn {declared.function}", [f"{PART}: {given}"], "bool"),
         f"{STEP}ensures {{ result ≡ {clause} }}",
         "{",
         *test(declared),
@@ -134,11 +134,11 @@ def test(declared: ListedDeclaration) -> list[str]:
     parts = [f"{PART}.is({it})" if declared.type.name == "ObjectIdentifier" else f"{code} == {it}" for it in constants(declared)]
     if declared.contents.is_other and len(parts) == 1:
         return [f"{STEP}{parts[0].replace(' == ', ' != ')}" if " == " in parts[0] else f"{STEP}!{parts[0]}"]
-    before, after, step = (f"{STEP}!(", ")", _TWO) if declared.contents.is_other else (STEP, "", STEP)
+    before, after = (f"{STEP}!(", ")") if declared.contents.is_other else (STEP, "")
     line = f"{before}{' || '.join(parts)}{after}"
     if len(line) <= WIDTH:
         return [line]
-    return [f"{before}{parts[0]}", *(f"{step}{STEP}|| {it}" for it in parts[1:-1]), f"{step}{STEP}|| {parts[-1]}{after}"]
+    return [f"{before}{parts[0]}", *(f"{_TWO}|| {it}" for it in parts[1:-1]), f"{_TWO}|| {parts[-1]}{after}"]
 
 
 def is_true(declared: ListedDeclaration) -> bool:
@@ -194,7 +194,7 @@ def broken(parts: list[str], after: str) -> list[str]:
         for word in words:
             if len(f"{now} {word}") > _TERMS_WIDTH:
                 lines.append(now)
-                now = f"{_FOUR}{word}"
+                now = f"{STEP}{word}"
             else:
                 now = f"{now}{word}" if now == STEP else f"{now} {word}"
         lines.append(now)

@@ -5,7 +5,7 @@ from typing import Optional
 from ..derive.derived_types import determined
 from ..meaning.declarations import TestedDeclaration
 from .imports import PRELUDE, Uses
-from .layout import GHOST_WIDTH, STEP
+from .layout import GHOST_WIDTH, STEP, head, signature
 from .newtype import begins_impl, deserialize_impl, serialize_impl
 
 _TWO = STEP * 2
@@ -49,7 +49,7 @@ def constructor(declared: TestedDeclaration) -> list[str]:
     return [
         f"impl {name} {{",
         f"{STEP}/// Returns the value, or `None` if it doesn't pass the test.",
-        f"{STEP}pub fn new({part}: {type_}) -> Option<{name}>",
+        *head(STEP, "pub fn new", [f"{part}: {type_}"], f"Option<{name}>"),
         f"{_TWO}ensures some {{ IfSome result (λ it. it.{part} ≡ {part}) }}",
         f"{_TWO}ensures none {{ IfNone result ({of_value(declared, part)} ≡ false) }}",
         f"{STEP}{{",
@@ -99,7 +99,7 @@ def constrained_impl(declared: TestedDeclaration, known: Determined) -> list[str
         "",
         f"{STEP}ghost allows = {{ λ {declared.part}. {declared.test} }};",
         "",
-        f"{STEP}fn constrain(value: {declared.type}) -> Option<{declared.name}> {{",
+        *signature(STEP, "constrain", [f"value: {declared.type}"], f"Option<{declared.name}>"),
         f"{_TWO}{declared.name}::new(value)",
         f"{STEP}}}",
         "",
