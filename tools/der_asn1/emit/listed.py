@@ -138,7 +138,17 @@ def test(declared: ListedDeclaration) -> list[str]:
     line = f"{before}{' || '.join(parts)}{after}"
     if len(line) <= WIDTH:
         return [line]
-    return [f"{before}{parts[0]}", *(f"{_TWO}|| {it}" for it in parts[1:-1]), f"{_TWO}|| {parts[-1]}{after}"]
+    ends = ["" for _ in parts[1:]] + [after]
+    begins = [before, *(f"{_TWO}|| " for _ in parts[1:])]
+    return [line for begin, part, end in zip(begins, parts, ends) for line in part_lines(begin, part, end)]
+
+
+def part_lines(before: str, part: str, after: str) -> list[str]:
+    """A part of a test: on one line, or with the argument of its call on a line of its own."""
+    name, bracket, argument = part.partition("(")
+    if len(f"{before}{part}{after}") <= WIDTH or not bracket:
+        return [f"{before}{part}{after}"]
+    return [f"{before}{name}(", f"{_TWO}{STEP}{argument.removesuffix(')')},", f"{_TWO}){after}"]
 
 
 def is_true(declared: ListedDeclaration) -> bool:

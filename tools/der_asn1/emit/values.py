@@ -83,5 +83,7 @@ def value_lines(before: str, content: list[str]) -> list[str]:
     line = f"{before} &[{items}];"
     if len(line) <= WIDTH and len(items) <= _SHORT:
         return [line]
+    if len(f"{before} &[") > WIDTH:
+        return [before, f"{STEP}&[{items}];"]
     lines = filled("", "", content, "")
     return [f"{before} &[", *(lines[1:-1] if len(lines) > 1 else [f"    {items},"]), "];"]

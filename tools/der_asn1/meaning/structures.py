@@ -63,7 +63,8 @@ def parts_of(meanings: "Meanings", type_: tree.Type, scope: Scope, hint: Hint) -
     """The members or alternatives with their meanings."""
     found = []
     for it in members_of(meanings.program, type_, scope):
-        meaning = meanings.of_type(it.member.type, it.scope, hint.part(it.member.name, it.member.place))
+        part = hint.part(it.member.name, it.member.place)
+        meaning = meanings.of_type(it.member.type, it.scope, replace(part, text=it.member.called or part.text))
         found.append(Part(it, meaning))
     return found
 

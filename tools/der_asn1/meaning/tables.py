@@ -187,7 +187,7 @@ def _row(program: Program, table: Table, one: InformationObject, number: int) ->
             found, more = _given(program, table, it, one, len(types))
             types[tuple(it.fields)] = found
             bindings += more
-    built = _Rows(program, table, [_VALUE.format(number)], types).structure(table.type, 0)
+    built = _Rows(program, table, [_VALUE.format(number)], types, object_name=one.name).structure(table.type, 0)
     if built is None:
         return None
     name = one.name or f"row-{number + 1}"
@@ -285,7 +285,8 @@ def _type_of(program: Program, one: InformationObject, fields: list[str], depth:
 class _Rows:
     """Makes the type of a row: with one of these identifiers, and these types by the fields of the class.
 
-    `is_other` says that the identifier is another one, and that each other field is of any type, and not one that the object lacks.
+    `is_other` says that the identifier is another one, and that each other field is of any type, and not one that the object lacks. The type of
+    an identifier is called after the object that has a name.
     """
 
     program: Program
@@ -293,13 +294,14 @@ class _Rows:
     identifiers: list[str]
     types: dict[tuple, Optional[Given]]
     is_other: bool = False
+    object_name: str = ""
 
     def structure(self, type_: tree.StructureType, level: int) -> Optional[tree.StructureType]:
         """A SEQUENCE or SET of a row, or None if a member has no type that is always there."""
         members = []
         for it in type_.members:
             if it is self.table.member:
-                it = replace(it, type=self.identified(it.type))
+                it = replace(it, type=self.identified(it.type), called=self.object_name and f"{self.object_name}-{it.name}")
             elif isinstance(it, tree.Member):
                 inner = self.type(it.type, level + 1)
                 if inner is None and it.presence is tree.Presence.REQUIRED and it.group is None:
