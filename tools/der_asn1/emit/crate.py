@@ -16,7 +16,7 @@ from .enum import TERMS_FILE, terms_file
 from .folder import NOTE
 from .imports import MOST_GROUPED
 from .layout import comment, filled, natural
-from .listed import LISTED_FILE, listed_terms
+from .listed import LISTED_FILE, is_encoded, listed_terms
 from .named import named_file
 from .notation import defined, notation_file, notation_terms
 from .private_names import PrivateNames
@@ -108,8 +108,8 @@ class Crate:
         return found
 
     def has_unions(self) -> bool:
-        """Whether some type is one of several that are tried in turn."""
-        return any(isinstance(it, UnionDeclaration) for it in self.types.values())
+        """Whether some type is read as any element, and then tried."""
+        return any(isinstance(it, UnionDeclaration) or isinstance(it, ListedDeclaration) and is_encoded(it) for it in self.types.values())
 
     def file(self, mark: str, lines: list[str], modules: set[str]) -> str:
         """The text of a file: a note that says what it is made from, and its lines."""

@@ -5,22 +5,16 @@ from ..meaning.listed import PART, access_of
 from ..meaning.wording import snake
 from .comments import difference_note, sentence
 from .imports import PRELUDE, Uses
-from .layout import STEP, WIDTH, comment, head
+from .layout import STEP, WIDTH, comment, head, signature
 from .newtype import notated_impl
-from .tested import tested_impls, tested_uses
-from .union import element_notation, equal_impl
+from .tested import constructor, tested_impls, tested_uses
+from .union import TRIED, element_impls, element_uses, equal_impl, parts, serialize_impl
 from .values import value_lines
 
 # the file of the terms of all listed values
 LISTED_FILE = "Listed"
 _TWO = STEP * 2
 _TRUTH, _RAW = "tree_truth", "raw_bytes"
-_OF_ENCODED = {
-    "Rattle.std.proofs.Common": {"rules"},
-    "Rattle.std.specs.Cmp.Rules": {"comparing"},
-    "Rattle.std.specs.Ordering": {"on"},
-    "Rattle.der_types.specs.Notation": {"Notation"},
-}
 _PRELUDE_ORDER = ["ℕ", "Bool", "false", "not", "◌||◌", "nat_eq", "List", "[]", "◌∷◌"]
 _TERMS_WIDTH = 120
 
@@ -42,7 +36,7 @@ def is_encoded(declared: ListedDeclaration) -> bool:
 
 def known(declared: ListedDeclaration, crate: str) -> tuple[str, str, dict[str, set[str]]]:
     """The proof that the encoding alone decides the test, as `determined` has it."""
-    if not is_boolean(declared) and not is_element(declared) and not is_encoded(declared):
+    if not is_boolean(declared) and not is_element(declared):
         return determined(declared)
     of_tree = _TRUTH if is_boolean(declared) else _RAW
     return f"(λ t. {declared.function} ({of_tree} t))", "e", {home(crate): {of_tree}}
@@ -55,21 +49,50 @@ def home(crate: str) -> str:
 
 def listed_uses(declared: ListedDeclaration, crate: str) -> Uses:
     """What the items of a type of listed values name."""
+    if is_encoded(declared):
+        found = element_uses(declared.type.names())
+        found.add(Uses(terms={home(crate): {declared.function}, PRELUDE: {"◌≡◌", "true", "false", "IfSome", "IfNone"}}))
+        return found
     found = tested_uses(declared, known(declared, crate))
     words = {"string_bytes"} if "string_bytes" in declared.test else set()
     found.add(Uses({"Notated"}, terms={home(crate): {declared.function}, PRELUDE: {"◌≡◌", "true", "refl", *words}}))
-    if is_encoded(declared):
-        found.add(Uses({"Asn1RawDer"}, terms={home: set(names) for home, names in _OF_ENCODED.items()}))
     return found
 
 
 def listed_lines(declared: ListedDeclaration, crate: str) -> list[str]:
     """The items of a type of listed values."""
-    head = [*definition(declared), "", *function(declared), "", *tested_impls(declared, known(declared, crate))]
+    own = [*definition(declared), "", *function(declared)]
     if not is_encoded(declared):
-        return [*head, "", *notated_impl(declared)]
-    begins = [it.replace(f"<{declared.type} as Begins>", "<Asn1RawDer as Begins>") for it in head]
-    return [*begins, "", *equal_impl(declared.name, f"(λ it. it.{PART}.encoding)", f"{PART}.encoding()"), "", *element_notation(declared.name)]
+        return [*own, "", *tested_impls(declared, known(declared, crate)), "", *notated_impl(declared)]
+    code = f"{PART}.encoding()"
+    items = [
+        constructor(declared),
+        equal_impl(declared.name, parts(declared.name), code),
+        serialize_impl(declared.name, code),
+        try_via_impl(declared),
+        *element_impls(declared.name),
+    ]
+    return [*own, *(line for it in items for line in ["", *it])]
+
+
+def try_via_impl(declared: ListedDeclaration) -> list[str]:
+    """The implementation of `TryVia` for a value with its encoding, whose twin is any element."""
+    return [
+        f"impl TryVia for {declared.name} {{",
+        f"{STEP}type As = Asn1RawDer;",
+        "",
+        f"{STEP}ghost parts = {{ λ it. it.{PART}.encoding }};",
+        "",
+        *signature(STEP, "try_from_parts", ["element: Asn1RawDer"], f"Result<{declared.name}>"),
+        f"{_TWO}if let Some({PART}) = {TRIED}(&element)? {{",
+        f"{_TWO}{STEP}if {declared.function}(&{PART}) {{",
+        f"{_TWO}{_TWO}return Ok({declared.name} {{ {PART} }});",
+        f"{_TWO}{STEP}}}",
+        f"{_TWO}}}",
+        f"{_TWO}Err(Asn1DerError::InvalidData)",
+        f"{STEP}}}",
+        "}",
+    ]
 
 
 def definition(declared: ListedDeclaration) -> list[str]:
@@ -162,7 +185,7 @@ def is_true(declared: ListedDeclaration) -> bool:
 def listed_terms(types: list[ListedDeclaration]) -> list[str]:
     """The lines of the file of terms, after its first one."""
     body = [line for it in types for line in ["", *terms_of(it)]]
-    truth, raw = any(map(is_boolean, types)), any(is_element(it) or is_encoded(it) for it in types)
+    truth, raw = any(map(is_boolean, types)), any(map(is_element, types))
     used = " ".join(it for it in body if not it.startswith("--"))
     names = [it for it in _PRELUDE_ORDER if it.replace("◌", "") in used or it == "false" and truth or it in ("List", "ℕ", "[]") and raw]
     lines = ["-- The contents of listed values, which their contracts cite.", f"use {PRELUDE}.{{{', '.join(names)}}}"]

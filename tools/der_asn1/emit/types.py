@@ -13,7 +13,7 @@ from .enum import TERMS_FILE, enum_lines, enum_uses
 from .faithful import faithful_default_impl, faithful_default_uses, faithful_impl, faithful_uses, inhabited_impl, inhabited_uses
 from .imports import Uses
 from .layout import assigned, comment
-from .listed import listed_lines, listed_uses
+from .listed import is_encoded, listed_lines, listed_uses
 from .newtype import newtype_lines, newtype_uses
 from .private_names import PrivateNames
 from .struct import struct_lines, struct_uses
@@ -113,7 +113,8 @@ def promises(declared: Declaration, stem: str, context: Context) -> list[tuple[U
     A name of another type has what that has, and members that were added are no type.
     """
     is_name = isinstance(declared, AliasDeclaration) and not isinstance(declared, NewtypeDeclaration)
-    if isinstance(declared, (AddedDeclaration, SetDeclaration, UnionDeclaration)) or is_name:
+    is_kept = isinstance(declared, UnionDeclaration) or isinstance(declared, ListedDeclaration) and is_encoded(declared)
+    if isinstance(declared, (AddedDeclaration, SetDeclaration)) or is_name or is_kept:
         return []
     inner = context.names.of(declared, "Parts") if isinstance(declared, (StructDeclaration, ChoiceDeclaration)) else ""
     terms = f"Rattle.{context.crate}.specs.{TERMS_FILE}"

@@ -60,9 +60,9 @@ def encoded(it: Field) -> Field:
     return Field(it.name, of("Encoded", it.type), notation=it.notation, comment=it.comment)
 
 
-def parts(declared: UnionDeclaration) -> str:
+def parts(name: str) -> str:
     """The element of a value, as a term."""
-    return f"⟦<{declared.name} as TryVia>⟧.parts"
+    return f"⟦<{name} as TryVia>⟧.parts"
 
 
 def of_element(trait: str, name: str) -> str:
@@ -72,8 +72,12 @@ def of_element(trait: str, name: str) -> str:
 
 def union_uses(declared: UnionDeclaration) -> Uses:
     """What the items of such a type name."""
-    names = {*_NAMES, TRIED, *(name for it in declared.variants for name in it.type.names())}
-    return Uses(names, terms={home: set(found) for home, found in _TERMS.items()})
+    return element_uses({name for it in declared.variants for name in it.type.names()})
+
+
+def element_uses(names: set[str]) -> Uses:
+    """What the items of a type name that is read as any element, with these names of its parts."""
+    return Uses({*_NAMES, TRIED, *names}, terms={home: set(found) for home, found in _TERMS.items()})
 
 
 def union_lines(declared: UnionDeclaration, home: str) -> list[str]:
@@ -81,15 +85,17 @@ def union_lines(declared: UnionDeclaration, home: str) -> list[str]:
     items = [
         definition(declared),
         own_impl(declared),
-        equal_impl(declared.name, parts(declared), "encoding()"),
-        serialize_impl(declared),
+        equal_impl(declared.name, parts(declared.name), "encoding()"),
+        serialize_impl(declared.name, "encoding()"),
         try_via_impl(declared, home),
-        deserialize_impl(declared),
-        begins_impl(declared),
-        element_notation(declared.name),
-        faithful_impl(declared),
+        *element_impls(declared.name),
     ]
     return [line for number, it in enumerate(items) for line in ([""] if number else []) + it]
+
+
+def element_impls(name: str) -> list[list[str]]:
+    """What each type has that is read as any element and converted by `TryVia`."""
+    return [deserialize_impl(name), begins_impl(name), element_notation(name), faithful_impl(name)]
 
 
 def definition(declared: UnionDeclaration) -> list[str]:
@@ -110,7 +116,7 @@ def own_impl(declared: UnionDeclaration) -> list[str]:
         f"impl {declared.name} {{",
         f"{STEP}/// Returns its element.",
         f"{STEP}pub fn encoding(&self) -> &Asn1RawDer",
-        f"{_TWO}ensures {{ result.now ≡ {parts(declared)} self.now }}",
+        f"{_TWO}ensures {{ result.now ≡ {parts(declared.name)} self.now }}",
         f"{STEP}{{",
         f"{_TWO}match self {{",
         *(f"{_THREE}{declared.name}::{it.name}(it) => it.encoding()," for it in declared.variants),
@@ -139,14 +145,14 @@ def equal_impl(name: str, part: str, element: str) -> list[str]:
     ]
 
 
-def serialize_impl(declared: UnionDeclaration) -> list[str]:
-    """The implementation of `Serialize`: its element."""
+def serialize_impl(name: str, element: str) -> list[str]:
+    """The implementation of `Serialize`: its element, which is this in code."""
     return [
-        f"impl Serialize for {declared.name} {{",
-        f"{STEP}ghost meaning = {{ λ it. {of_element('Serialize', 'meaning')} ({parts(declared)} it) }};",
+        f"impl Serialize for {name} {{",
+        f"{STEP}ghost meaning = {{ λ it. {of_element('Serialize', 'meaning')} ({parts(name)} it) }};",
         "",
         *signature(STEP, "serialize", ["&self", "serializer: &mut Serializer<W>"], "Result<usize>", "<W: WriteExt>"),
-        f"{_TWO}self.encoding().serialize(serializer)",
+        f"{_TWO}self.{element}.serialize(serializer)",
         f"{STEP}}}",
         "}",
     ]
@@ -177,28 +183,28 @@ def try_via_impl(declared: UnionDeclaration, home: str) -> list[str]:
     ]
 
 
-def deserialize_impl(declared: UnionDeclaration) -> list[str]:
+def deserialize_impl(name: str) -> list[str]:
     """The implementation of `Deserialize`: any element, which is tried."""
     return [
-        f"impl Deserialize for {declared.name} {{",
+        f"impl Deserialize for {name} {{",
         f"{STEP}ghost shape = {{ {of_element('Deserialize', 'shape')} }};",
         "",
         f"{STEP}ghost facts = {{ tested_facts {of_element('Deserialize', 'facts')} {of_element('Serialize', 'meaning')}",
-        f"{_TWO}{parts(declared)} }};",
+        f"{_TWO}{parts(name)} }};",
         "",
         f"{STEP}ghost proved = {{ Prim.assumption }};",
         "",
-        *signature(STEP, "deserialize", ["deserializer: &mut Deserializer<R>"], f"Result<{declared.name}>", "<R: ReadExt>"),
+        *signature(STEP, "deserialize", ["deserializer: &mut Deserializer<R>"], f"Result<{name}>", "<R: ReadExt>"),
         f"{_TWO}try_deserialize_as(deserializer)",
         f"{STEP}}}",
         "}",
     ]
 
 
-def begins_impl(declared: UnionDeclaration) -> list[str]:
+def begins_impl(name: str) -> list[str]:
     """It begins as any element does."""
     return [
-        f"impl Begins for {declared.name} {{",
+        f"impl Begins for {name} {{",
         f"{STEP}fn begins_with(tag: Tag) -> bool {{",
         f"{_TWO}<Asn1RawDer as Begins>::begins_with(tag)",
         f"{STEP}}}",
@@ -217,13 +223,13 @@ def element_notation(name: str) -> list[str]:
     ]
 
 
-def faithful_impl(declared: UnionDeclaration) -> list[str]:
+def faithful_impl(name: str) -> list[str]:
     """The implementation of `Faithful`: values with one element have one encoding."""
-    facts = " ".join(of_element(trait, name) for trait, name in (("Faithful", "sameness"), ("PartialEq", "eq"), ("Serialize", "meaning")))
+    facts = " ".join(of_element(trait, it) for trait, it in (("Faithful", "sameness"), ("PartialEq", "eq"), ("Serialize", "meaning")))
     return [
-        f"impl Faithful for {declared.name} {{",
+        f"impl Faithful for {name} {{",
         f"{STEP}ghost sameness = {{ newtype_sameness {facts}",
-        f"{_TWO}{parts(declared)} }};",
+        f"{_TWO}{parts(name)} }};",
         "",
         f"{STEP}ghost respects = {{ Prim.assumption }};",
         "}",
