@@ -59,7 +59,8 @@ def defined(types: Iterable[Declaration]) -> list[Declaration]:
 
 def notation_terms(types: list[Declaration], modules: list[tree.Module], homes: dict[str, str]) -> list[str]:
     """The lines of the file of terms. `modules` are those that the types are of, and `homes` the crates of types that are named."""
-    body = [line for it in types for line in ["", *type_lines(it)]]
+    known = {it.name for it in types}
+    body = [line for it in types for line in ["", *type_lines(it, known)]]
     used = [it for it in modules if default_tags(it.name) in names_of(body)]
     modes = [line for it in used for line in mode_lines(it)]
     if len(used) == 1:
@@ -107,11 +108,11 @@ def mode_lines(module: tree.Module) -> list[str]:
     return ["", f"-- {module.name} DEFINITIONS {mode.name} TAGS", f"abbrev {name} : Mode", f"{name} = {value.name}"]
 
 
-def type_lines(declared: Declaration) -> list[str]:
-    """A type as a term."""
+def type_lines(declared: Declaration, known: set[str]) -> list[str]:
+    """A type as a term. Parts whose names are `known` are defined already."""
     text = getattr(declared, "notation", "") if not declared.term.group() else ""
     levels = f", with {levels_text(declared.levels)}" if declared.inner else ""
-    return definition(declared.name, declared.term, [f"{declared.source} of {declared.module}{levels}{f': {text}' if text else ''}"])
+    return definition(declared.name, declared.term, [f"{declared.source} of {declared.module}{levels}{f': {text}' if text else ''}"], known)
 
 
 def notation_file(types: list[Declaration], homes: dict[str, str], crate: str) -> list[str]:

@@ -159,4 +159,4 @@ class Definitions(unittest.TestCase):
         one = given("A ::= INTEGER (0..7)")
         one.meaning("A")
         declared = one.meanings.declarations.by_name["A"]
-        self.assertEqual(["-- A of M", "abbrev pub A : Notation", "A = INTEGER-from-to 0 7"], definition("A", declared.term, ["A of M"]))
+        self.assertEqual(["-- A of M", "abbrev pub A : Notation", "A = INTEGER-from-to 0 7"], definition("A", declared.term, ["A of M"], set()))
