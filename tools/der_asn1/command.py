@@ -37,7 +37,9 @@ import argparse
 import os
 import re
 import sys
-from typing import Iterable, Optional
+from collections.abc import Sequence
+from dataclasses import dataclass
+from typing import Optional
 
 from .derive import command as derive
 from .emit.crate import NEEDS, RESERVED, Crate, reached, reached_elsewhere
@@ -64,6 +66,15 @@ _DEPTH = 10000
 _OF_TYPES, _TYPES = ("--allow-raw", "--allow-wider", "--constructors"), re.compile(r"[A-Z][A-Za-z0-9-]*(,[A-Z][A-Za-z0-9-]*)*")
 
 
+@dataclass(frozen=True)
+class How:
+    """How types are written: the names of those that are structs of their own, how often a type may be in itself, and whether defaults are left out."""
+
+    distinct: Sequence[str] = ()
+    depth: int = DEPTH
+    optional_defaults: bool = False
+
+
 def arguments(words: Optional[list[str]]) -> argparse.Namespace:
     """The options and the files."""
     parser = argparse.ArgumentParser(prog="der_asn1", description="Compiles ASN.1 notation to types of this library.")
@@ -83,6 +94,7 @@ def arguments(words: Optional[list[str]]) -> argparse.Namespace:
     parser.add_argument("--check", action="store_true", help="write nothing, and fail where a file is another one")
     parser.add_argument("--allow-raw", action="append", default=[], metavar="[TYPE,..]", help="keep as bytes what the library has no type for")
     parser.add_argument("--allow-wider", action="append", default=[], metavar="[TYPE,..]", help="use a type that has other values than the notation")
+    parser.add_argument("--optional-defaults", action="store_true", help="read a DEFAULT of texts, identifiers and structures as OPTIONAL")
     parser.add_argument("--import", action="append", default=[], dest="imported", metavar="OTHER.asn1", help="a file for what the modules import")
     parser.add_argument("--depth", type=int, default=DEPTH, metavar="N", help=f"how often a type may be in itself: {DEPTH} if nothing is said")
     parser.add_argument("--strict", action="store_true", help="refuse what the standard doesn't allow, where it is accepted else")
@@ -136,7 +148,7 @@ def main(words: Optional[list[str]] = None) -> int:
     modules, imported = read(options.files, problems), read(options.imported, problems)
     if options.out:
         return written(options, modules, imported, problems)
-    found = report_of(modules, problems, imported, options.depth)
+    found = report_of(modules, problems, imported, options.depth, options.optional_defaults)
     failed = said(problems)
     if options.types:
         print("\n".join([*types_table(found), ""]))
@@ -164,7 +176,8 @@ def written(options: argparse.Namespace, modules: list[tree.Module], imported: l
         others = other_crates(options.crate, folder)
     except OSError as error:
         sys.exit(f"{error.filename}: {error.strerror}")
-    crate = crate_of(name, modules, imported, listed(options.type), problems, others, listed(options.distinct), options.depth)
+    how = How(listed(options.distinct), options.depth, options.optional_defaults)
+    crate = crate_of(name, modules, imported, listed(options.type), problems, others, how)
     crate.own, crate.own_terms, crate.groups = named_lists(options.own), listed(options.own_terms), named_lists(options.group)
     crate.constructed = Allowed(options.constructors)
     check_groups(crate, problems)
@@ -214,18 +227,17 @@ def crate_of(
     names: list[str],
     problems: Problems,
     others: OtherCrates = OtherCrates(),
-    distinct: Iterable[str] = (),
-    depth: int = DEPTH,
+    how: How = How(),
 ) -> Crate:
-    """The crate of all types of the modules, or of those with these names. Those in `distinct` are structs of their own.
+    """The crate of all types of the modules, or of those with these names.
 
     Types of `others` are named and not declared. Which of these are used is found at first, so that their names are free else.
     """
     if others.crates:
-        meanings, found = declared(Program(modules, Problems(problems.strict), imported), names, distinct, others, depth)
+        meanings, found = declared(Program(modules, Problems(problems.strict), imported), names, others, how)
         others = others.using(reached_elsewhere(meanings.declarations, found).values())
     program = Program(modules, problems, imported)
-    meanings, found = declared(program, names, distinct, others, depth)
+    meanings, found = declared(program, names, others, how)
     declarations = meanings.declarations
     types, elsewhere = reached(declarations, found), reached_elsewhere(declarations, found)
     for it in types.values():
@@ -240,11 +252,12 @@ def crate_of(
     return found
 
 
-def declared(program: Program, names: list[str], distinct: Iterable[str], others: OtherCrates, depth: int = DEPTH) -> tuple[Meanings, list[str]]:
+def declared(program: Program, names: list[str], others: OtherCrates, how: How) -> tuple[Meanings, list[str]]:
     """All meanings with their declarations, and the types of Rust of these names, or of all types of the program's own modules."""
     modules, problems = program.modules, program.problems
     identified(program)
-    meanings, checks = Meanings(program, Declarations(others), distinct, recursion_in(program, depth)), ModuleChecks(program)
+    recursion = recursion_in(program, how.depth)
+    meanings, checks = Meanings(program, Declarations(others), how.distinct, recursion, how.optional_defaults), ModuleChecks(program)
     for module in [] if names else modules:
         checks.module(module)
     found, missing = [], set(names)
@@ -261,6 +274,6 @@ def declared(program: Program, names: list[str], distinct: Iterable[str], others
     for it in sorted(missing):
         problems.error(first, f"no module has a type `{it}`", "X.680, 14.1")
     made = {it.source for it in meanings.declarations.by_name.values() if isinstance(it, NewtypeDeclaration)}
-    for it in sorted({*distinct} - made):
+    for it in sorted({*how.distinct} - made):
         problems.error(first, f"`{it}` isn't the name of another type", "docs/ASN1.md")
     return meanings, found

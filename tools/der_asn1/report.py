@@ -55,10 +55,17 @@ class Report:
         return [it for it in self.modules if id(it) not in others and it.path not in self.wrong]
 
 
-def report_of(modules: list[tree.Module], problems: Problems, imported: Iterable[tree.Module] = (), depth: int = DEPTH) -> Report:
+def report_of(
+    modules: list[tree.Module],
+    problems: Problems,
+    imported: Iterable[tree.Module] = (),
+    depth: int = DEPTH,
+    optional_defaults: bool = False,
+) -> Report:
     """The report of modules that see each other, and those that are imported from."""
     program = identified(Program(modules, problems, imported))
-    meanings, checks = Meanings(program, recursion=recursion_in(program, depth)), ModuleChecks(program)
+    meanings = Meanings(program, recursion=recursion_in(program, depth), optional_defaults=optional_defaults)
+    checks = ModuleChecks(program)
     found = Report(modules=list(modules))
     for module in modules:
         checks.module(module)
@@ -79,7 +86,8 @@ def _add(report: Report, meanings: Meanings, module: tree.Module, assignment: tr
             report.templates += 1
         elif not _names_a_class(meanings, assignment, module):
             meaning = meanings.of_assignment(assignment, module)
-            found = bool(meaning.rust) and of_type(meaning.rust.type, meanings.declarations.by_name)
+            is_exact = bool(meaning.rust) and Note.WITHOUT_TERM not in meaning.notes
+            found = is_exact and of_type(meaning.rust.type, meanings.declarations.by_name)
             report.rows.append(Row(module, assignment.name, meaning, found))
 
 
@@ -153,10 +161,14 @@ def share(count: int, total: int) -> str:
 
 
 def without_exact(report: Report) -> list[str]:
-    """The types that can't have `Exact` of der_types, each with the reason: there is no type. Each one that is written has it, and `Faithful`."""
-    missing = [it for it in report.rows if it.meaning.rust is None]
-    reasons = [", ".join(sorted(feature.text for feature in it.meaning.features)) for it in missing]
-    counted = f"{share(len(report.rows) - len(missing), len(report.rows))} with `Exact` and `Faithful`"
+    """The types that can't have `Exact` of der_types, each with the reason: there is no type, or no term says which values it has.
+
+    Each one that is written has `Faithful`.
+    """
+    written = [it for it in report.rows if it.meaning.rust]
+    missing = [it for it in report.rows if it.meaning.rust is None or Note.WITHOUT_TERM in it.meaning.notes]
+    reasons = [", ".join(sorted(one.text for one in it.meaning.features)) if it.meaning.rust is None else Note.WITHOUT_TERM.text for it in missing]
+    counted = f"{share(len(report.rows) - len(missing), len(report.rows))} with `Exact`, and {share(len(written), len(report.rows))} with `Faithful`"
     return [counted, *(f"    {it.module.name}.{it.name} has none: {reason}" for it, reason in zip(missing, reasons))]
 
 

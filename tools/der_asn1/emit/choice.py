@@ -22,6 +22,7 @@ _VARIANTS_WIDTH = 140
 # variants that another name in the file hides, so that they are named by their choice
 _HIDDEN = frozenset(["This", "Other", "Later", *_FOUR_NAMES, "Some", "None", "Ok", "Err"])
 
+_EXACT = frozenset(("Exact", "ExactAlternatives", "choice_values"))
 _NAMES = """ReadExt WriteExt Alternatives Choice Deserialize Deserializer NoneOf Result Serialize Serializer Begins
 deserialize_choice_as Tag Notated NotatedAlternatives Exact ExactAlternatives""".split()
 
@@ -66,7 +67,8 @@ def choice_uses(declared: ChoiceDeclaration, is_exact: bool = True) -> Uses:
         **{_CONSTRUCTOR_HOMES[it]: found for it, found in by_type(constructors.union(outside(count) if is_exact else [])).items()},
     }
     rust = {*_NAMES, *parts_type([it.type for it in declared.variants]).names()}
-    return Uses(rust, used, terms)
+    found = Uses(rust, used, terms)
+    return found if is_exact else found.without(_EXACT)
 
 
 def by_type(constructors: set[str]) -> dict[str, set[str]]:
@@ -77,8 +79,8 @@ def by_type(constructors: set[str]) -> dict[str, set[str]]:
 def choice_lines(declared: ChoiceDeclaration, names: PrivateNames, home: str) -> list[str]:
     """The items of a choice. `home` is the module of terms of the types of its file."""
     parts, variants = names.of(declared, "Parts"), variants_import(declared, home)
-    impls = [*choice_impls(declared, names, home), "", *notated_impl(declared, parts), "", *exact_impl(declared, parts, variants)]
-    return [*definition(declared), "", *impls]
+    exact = ["", *exact_impl(declared, parts, variants)] if declared.exact else []
+    return [*definition(declared), "", *choice_impls(declared, names, home), "", *notated_impl(declared, parts), *exact]
 
 
 def choice_impls(declared: ChoiceDeclaration, names: PrivateNames, home: str) -> list[str]:

@@ -4,7 +4,8 @@ from pathlib import Path
 from typing import Iterable
 
 from ..meaning.causes import Allowed, Cause
-from ..meaning.declarations import AliasDeclaration, ChoiceDeclaration, Declaration, Declarations, EnumDeclaration, SetDeclaration, StructDeclaration
+from ..meaning.declarations import AliasDeclaration, ChoiceDeclaration, Declaration, Declarations, EnumDeclaration, ListedDeclaration
+from ..meaning.declarations import SetDeclaration, StructDeclaration, UnionDeclaration
 from ..meaning.library_table import LIBRARY_NAMES
 from ..meaning.named import Constant, Names
 from ..meaning.terms import names_of
@@ -13,19 +14,20 @@ from .choice import answers_path, serialize_answers
 from .constructors import constructor_file
 from .enum import TERMS_FILE, terms_file
 from .folder import NOTE
+from .imports import MOST_GROUPED
 from .layout import comment, filled, natural
+from .listed import LISTED_FILE, is_encoded, listed_terms
 from .named import named_file
 from .notation import defined, notation_file, notation_terms
 from .private_names import PrivateNames
 from .types import ONLY, Context, stems_of, types_file
+from .union import ELEMENTS, TRIED, elements_file
 from .values import Value, value_file
 
-# with more names than these `rt fmt` has each import on a line of its own
-MOST_GROUPED = 100
 # the crates that each crate uses
 NEEDS = "der_types picky_asn1_der picky_der_core picky_der_ser picky_der_de".split()
 # what no file of a module or a group can be called
-RESERVED = frozenset([ONLY, "constructors", "named", "values", "notation", "lib", "main", *NEEDS])
+RESERVED = frozenset([ONLY, ELEMENTS, "constructors", "named", "values", "notation", "lib", "main", *NEEDS])
 _REPOSITORY = Path(__file__).resolve().parents[3]
 
 
@@ -56,6 +58,8 @@ class Crate:
     def files(self) -> dict[str, str]:
         """The text of each file, by its path in the crate."""
         found = {**self.type_files(), **self.term_files(), "src/lib.rt": self.file("//!", self.root(), self.module_names())}
+        if self.has_unions():
+            found[f"src/{ELEMENTS}.rt"] = self.file("//!", elements_file(), set())
         if self.values or self.constants:
             modules = {it.module for it in [*self.values, *self.constants]}
             found["src/values.rt"] = self.file("//!", value_file(self.values, self.constants), modules)
@@ -95,10 +99,17 @@ class Crate:
         if enumerations:
             lines = terms_file(enumerations, self.name, self.stems())
             found[f"specs/{TERMS_FILE}.antt"] = self.file("--", lines, {it.module for it in enumerations})
+        lists = [it for it in self.sorted_types() if isinstance(it, ListedDeclaration)]
+        if lists:
+            found[f"specs/{LISTED_FILE}.antt"] = self.file("--", listed_terms(lists), {it.module for it in lists})
         names = sorted([*(Path(it).stem for it in found if it.startswith("specs/")), *self.own_terms])
         if names:
             found["specs/Lib.antt"] = self.file("--", [f"pub mod {it}" for it in names], self.module_names())
         return found
+
+    def has_unions(self) -> bool:
+        """Whether some type is read as any element, and then tried."""
+        return any(isinstance(it, UnionDeclaration) or isinstance(it, ListedDeclaration) and is_encoded(it) for it in self.types.values())
 
     def file(self, mark: str, lines: list[str], modules: set[str]) -> str:
         """The text of a file: a note that says what it is made from, and its lines."""
@@ -118,7 +129,8 @@ class Crate:
     def homes(self) -> dict[str, str]:
         """The crate of each type, by its name, and of the defaults of enumerations: `crate` for this one."""
         defaults = [name for it in self.types.values() if isinstance(it, EnumDeclaration) for name in it.defaults]
-        return {**dict.fromkeys([*self.types, *defaults], "crate"), **self.elsewhere}
+        elements = {TRIED: f"crate::{ELEMENTS}"} if self.has_unions() else {}
+        return {**dict.fromkeys([*self.types, *defaults], "crate"), **elements, **self.elsewhere}
 
     def sorted_types(self) -> list[Declaration]:
         """The types in the order of their names."""
@@ -146,6 +158,7 @@ class Crate:
         private = ["constructors"] if self.with_constructors() else []
         sources = ", ".join(sorted({it.module for it in self.types.values()}))
         lines = [*comment("", "//!", f"The types of {sources}."), "#![tactic(auto)]", ""]
+        private += [ELEMENTS] if self.has_unions() else []
         lines += [f"pub mod {it};" if it in public else f"mod {it};" for it in sorted({*by_home, *public, *private})]
         lines += [""] if by_home else []
         is_grouped = sum(map(len, by_home.values())) <= MOST_GROUPED

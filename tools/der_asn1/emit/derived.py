@@ -32,7 +32,6 @@ _EXACT = frozenset(
 _FAITHFUL = frozenset("FaithfulMembers members_at".split())
 # names of the library that the compiler has no use for, by their modules
 _HOMES = {
-    **dict.fromkeys(("Constrained", "deserialize_constrained_as"), "der_types"),
     "Element": "picky_asn1_der::ser",
 }
 # what a file that uses the library can't have as a name of its own

@@ -9,10 +9,14 @@ _ROOT_PATH = "picky_asn1_der"
 _ORDER = ["der_types", "picky_asn1_der::Choice4", "picky_asn1_der::OneOf", *HOME_ORDER[1:]]
 
 PRELUDE = "Rattle.std.specs.Prelude"
+# with more names than these `rt fmt` has each import on a line of its own
+MOST_GROUPED = 100
 # the modules of terms that files of any crate import, in the order of imports
 _TERM_ORDER = [
     "Rattle.std.proofs.Common",
     PRELUDE,
+    "Rattle.std.specs.Cmp.Rules",
+    "Rattle.std.specs.Ordering",
     "Rattle.picky_der_core.specs.Equality",
     "Rattle.picky_der_core.specs.Shape",
     "Rattle.picky_der_de.specs.declared.alternatives.OneOf.TheVariants",
@@ -59,6 +63,11 @@ class Uses:
             for home, names in others.items():
                 mine.setdefault(home, set()).update(names)
 
+    def without(self, unused: frozenset[str]) -> "Uses":
+        """The same without these names, of Rust and of terms."""
+        terms = {home: names - unused for home, names in self.terms.items() if names - unused}
+        return Uses(self.names - unused, self.parts, terms)
+
     def rust_lines(self, homes: dict[str, str], own: set[str]) -> list[str]:
         """The imports of Rust, without those of the file's own types."""
         return imports(self.names - own, homes, [(f"picky_asn1_der::{it}", found) for it, found in self.parts.items()])
@@ -90,7 +99,7 @@ def term_line(home: str, names: list[str]) -> str:
 def imports(names: Iterable[str], homes: dict[str, str], variants: Iterable[tuple[str, Iterable[str]]] = ()) -> list[str]:
     """The lines of the imports of these names: of those in `homes` from the crate there, of others from the library.
 
-    Those of the crate's own types come first, and those of a choice's parts as they are.
+    Those of the crate's own types come first, and those of a choice's parts as they are. Many names have a line each.
     """
     by_home: dict[str, list[str]] = {}
     for it in names:
@@ -99,6 +108,8 @@ def imports(names: Iterable[str], homes: dict[str, str], variants: Iterable[tupl
             by_home.setdefault(home, []).append(it)
     for home, found in variants:
         by_home[home] = list(found)
+    if sum(len(set(it)) for it in by_home.values()) > MOST_GROUPED:
+        return [f"use {it};" for it in sorted({f"{home}::{name}" for home, found in by_home.items() for name in found}, key=natural)]
     lines = []
     for home in sorted(by_home, key=lambda it: order(it, by_home[it])):
         found = sorted(set(by_home[home]), key=natural)

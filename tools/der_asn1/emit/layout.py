@@ -70,10 +70,15 @@ def comment(indent: str, mark: str, text: str) -> list[str]:
 
 def signature(indent: str, name: str, parameters: list[str], result: str, generics: str = "") -> list[str]:
     """The first line of a function, or its lines with a parameter on each."""
-    line = f"{indent}fn {name}{generics}({', '.join(parameters)}) -> {result} {{"
+    return head(indent, f"fn {name}{generics}", parameters, f"{result} {{")
+
+
+def head(indent: str, before: str, parameters: list[str], result: str) -> list[str]:
+    """The parameters and the result of a function, on one line if that fits, or with a parameter on each."""
+    line = f"{indent}{before}({', '.join(parameters)}) -> {result}"
     if len(line) <= WIDTH:
         return [line]
-    return [f"{indent}fn {name}{generics}(", *(f"{indent}{STEP}{it}," for it in parameters), f"{indent}) -> {result} {{"]
+    return [f"{indent}{before}(", *(f"{indent}{STEP}{it}," for it in parameters), f"{indent}) -> {result}"]
 
 
 def assigned(indent: str, before: str, type_text: str, after: str) -> list[str]:

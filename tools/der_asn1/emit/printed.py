@@ -5,7 +5,8 @@ called after their places. A word of terms that has no notation becomes this:
 
 | Term | Notation |
 |---|---|
-| `wider t` | `t (CONSTRAINED BY {})` |
+| `wider t`, `narrower t` | `t (CONSTRAINED BY {})` |
+| `one-of ts`, `encoded t` | `ANY (CONSTRAINED BY {})` |
 | `default-as-optional t` | `t DEFAULT {}` |
 | `added (t ⨾ ..)` | members between `[[` and `]]` after `...`, up to the next `added` |
 | `added-as-optional t` | a member after `...` |
@@ -137,7 +138,9 @@ class _Printer:
     def type(self, term: Applied) -> str:
         """A term as a type."""
         word, given = term.word, term.arguments
-        if word == "wider":
+        if word in ("one-of", "encoded"):
+            return "ANY (CONSTRAINED BY {})"
+        if word in ("wider", "narrower"):
             return f"{self.type(given[0])} (CONSTRAINED BY {{}})"
         if word in _CLASSES:
             mode = self.mode(given[1].word)

@@ -8,15 +8,20 @@ _STEP = "    "
 _WIDTH = 100
 
 
-def definition(name: str, term: Term, comments: list[str]) -> list[str]:
-    """The definition of a term, after those of parts that are too long for a line. A member or an alternative has its own line, below its text."""
+def definition(name: str, term: Term, comments: list[str], known: set[str]) -> list[str]:
+    """The definition of a term, after those of parts that are too long for a line. A member or an alternative has its own line, below its text.
+
+    A part whose name is `known` is defined already.
+    """
     lines, before = [], []
     group = term.group()
     for it in group.items if group else ():
         lines += comment(_STEP, "--", it.text)
         if it.term.group() and len(item_line(it, group)) > _WIDTH:
             part, words = it.term.group(), [f"Of {name}: {it.text.split(' ')[0]}"]
-            before += [*definition(part.name, part, words), ""]
+            if part.name not in known:
+                known.add(part.name)
+                before += [*definition(part.name, part, words, known), ""]
             it = replace(it, term=it.term.shortened())
         lines.append(item_line(it, group))
     return [*before, *(line for it in comments for line in comment("", "--", it)), f"abbrev pub {name} : Notation", *whole(name, term, lines)]

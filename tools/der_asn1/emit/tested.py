@@ -1,10 +1,11 @@
 """A struct round those values of another type that pass a test: `new`, `get`, `into_inner` and `Constrained`."""
 import re
+from typing import Optional
 
 from ..derive.derived_types import determined
 from ..meaning.declarations import TestedDeclaration
 from .imports import PRELUDE, Uses
-from .layout import GHOST_WIDTH, STEP
+from .layout import GHOST_WIDTH, STEP, head, signature
 from .newtype import begins_impl, deserialize_impl, serialize_impl
 
 _TWO = STEP * 2
@@ -12,9 +13,13 @@ _THREE = STEP * 3
 _NAMES = """Constrained ReadExt WriteExt Deserialize Deserializer Result Serialize Serializer Begins Tag deserialize_constrained_as""".split()
 
 
-def tested_uses(declared: TestedDeclaration) -> Uses:
-    """What the items of a type with a test name, without what its test names."""
-    _, _, terms = determined(declared)
+# the function of an encoding that decides a test, why it is the same of equal encodings, and what both import
+Determined = tuple[str, str, dict[str, set[str]]]
+
+
+def tested_uses(declared: TestedDeclaration, known: Optional[Determined] = None) -> Uses:
+    """What the items of a type with a test name, without what its test names. `known` says by what the encoding decides the test."""
+    _, _, terms = known or determined(declared)
     used = {"Rattle.std.proofs.Common": {"ap"}, "Rattle.picky_der_de.specs.Facts": {"tested_facts"}}
     found = Uses({*_NAMES, declared.name, declared.function, *declared.type.names()}, terms=used)
     found.add(Uses(terms={PRELUDE: {"◌≡◌", "true", "false", "IfSome", "IfNone"}}))
@@ -22,14 +27,14 @@ def tested_uses(declared: TestedDeclaration) -> Uses:
     return found
 
 
-def tested_impls(declared: TestedDeclaration) -> list[str]:
-    """The items of a type with a test, but for its definition."""
+def tested_impls(declared: TestedDeclaration, known: Optional[Determined] = None) -> list[str]:
+    """The items of a type with a test, but for its definition. `known` says by what the encoding decides the test."""
     return [
         *constructor(declared),
         "",
         *serialize_impl(declared),
         "",
-        *constrained_impl(declared),
+        *constrained_impl(declared, known or determined(declared)),
         "",
         *deserialize_impl(declared, "deserialize_constrained_as", tested=True),
         "",
@@ -44,7 +49,7 @@ def constructor(declared: TestedDeclaration) -> list[str]:
     return [
         f"impl {name} {{",
         f"{STEP}/// Returns the value, or `None` if it doesn't pass the test.",
-        f"{STEP}pub fn new({part}: {type_}) -> Option<{name}>",
+        *head(STEP, "pub fn new", [f"{part}: {type_}"], f"Option<{name}>"),
         f"{_TWO}ensures some {{ IfSome result (λ it. it.{part} ≡ {part}) }}",
         f"{_TWO}ensures none {{ IfNone result ({of_value(declared, part)} ≡ false) }}",
         f"{STEP}{{",
@@ -81,9 +86,9 @@ def of_value(declared: TestedDeclaration, value: str) -> str:
     return found if re.fullmatch(r"\([^()]*\)", found) else f"({found})"
 
 
-def constrained_impl(declared: TestedDeclaration) -> list[str]:
+def constrained_impl(declared: TestedDeclaration, known: Determined) -> list[str]:
     """The implementation of `Constrained`, whose values are of the type inside."""
-    function, same, _ = determined(declared)
+    function, same, _ = known
     start, end = f"{STEP}ghost determined = {{ λ x y e. ap {function}", f"{same} }};"
     line = f"{start} {end}"
     return [
@@ -94,7 +99,7 @@ def constrained_impl(declared: TestedDeclaration) -> list[str]:
         "",
         f"{STEP}ghost allows = {{ λ {declared.part}. {declared.test} }};",
         "",
-        f"{STEP}fn constrain(value: {declared.type}) -> Option<{declared.name}> {{",
+        *signature(STEP, "constrain", [f"value: {declared.type}"], f"Option<{declared.name}>"),
         f"{_TWO}{declared.name}::new(value)",
         f"{STEP}}}",
         "",

@@ -1,8 +1,8 @@
 """The files of a crate's types: which file each type is in, and the lines of a file."""
 from dataclasses import dataclass, field
 
-from ..meaning.declarations import AddedDeclaration, AliasDeclaration, ChoiceDeclaration, Declaration, EnumDeclaration, NewtypeDeclaration
-from ..meaning.declarations import SetDeclaration, StructDeclaration
+from ..meaning.declarations import AddedDeclaration, AliasDeclaration, ChoiceDeclaration, Declaration, EnumDeclaration, ListedDeclaration
+from ..meaning.declarations import NewtypeDeclaration, SetDeclaration, StructDeclaration, UnionDeclaration
 from ..meaning.examples import has_example
 from ..meaning.wording import snake
 from .added import added_lines, added_uses
@@ -13,9 +13,11 @@ from .enum import TERMS_FILE, enum_lines, enum_uses
 from .faithful import faithful_default_impl, faithful_default_uses, faithful_impl, faithful_uses, inhabited_impl, inhabited_uses
 from .imports import Uses
 from .layout import assigned, comment
+from .listed import is_encoded, listed_lines, listed_uses
 from .newtype import newtype_lines, newtype_uses
 from .private_names import PrivateNames
 from .struct import struct_lines, struct_uses
+from .union import union_lines, union_uses
 
 # the file of the types of a crate of one module, without those of groups
 ONLY = "types"
@@ -66,14 +68,18 @@ def types_file(types: list[Declaration], stem: str, context: Context) -> list[st
 
 def uses_of(declared: Declaration, context: Context) -> Uses:
     """What the items of a type name."""
+    if isinstance(declared, ListedDeclaration):
+        return listed_uses(declared, context.crate)
+    if isinstance(declared, UnionDeclaration):
+        return union_uses(declared)
     if isinstance(declared, NewtypeDeclaration):
         return newtype_uses(declared)
     if isinstance(declared, AddedDeclaration):
         return added_uses(declared)
     if isinstance(declared, StructDeclaration):
-        return struct_uses(declared)
+        return struct_uses(declared, declared.exact)
     if isinstance(declared, ChoiceDeclaration):
-        return choice_uses(declared)
+        return choice_uses(declared, declared.exact)
     if isinstance(declared, EnumDeclaration):
         return enum_uses(declared, context.crate)
     if isinstance(declared, SetDeclaration):
@@ -84,6 +90,10 @@ def uses_of(declared: Declaration, context: Context) -> Uses:
 def lines_of(declared: Declaration, stem: str, context: Context) -> list[str]:
     """The items of a type."""
     home = home_of_terms(stem, context)
+    if isinstance(declared, ListedDeclaration):
+        return listed_lines(declared, context.crate)
+    if isinstance(declared, UnionDeclaration):
+        return union_lines(declared, home)
     if isinstance(declared, NewtypeDeclaration):
         return newtype_lines(declared)
     if isinstance(declared, AddedDeclaration):
@@ -102,14 +112,17 @@ def promises(declared: Declaration, stem: str, context: Context) -> list[tuple[U
 
     A name of another type has what that has, and members that were added are no type.
     """
-    if isinstance(declared, (AddedDeclaration, SetDeclaration)) or isinstance(declared, AliasDeclaration) and not isinstance(declared, NewtypeDeclaration):
+    is_name = isinstance(declared, AliasDeclaration) and not isinstance(declared, NewtypeDeclaration)
+    is_kept = isinstance(declared, UnionDeclaration) or isinstance(declared, ListedDeclaration) and is_encoded(declared)
+    if isinstance(declared, (AddedDeclaration, SetDeclaration)) or is_name or is_kept:
         return []
     inner = context.names.of(declared, "Parts") if isinstance(declared, (StructDeclaration, ChoiceDeclaration)) else ""
     terms = f"Rattle.{context.crate}.specs.{TERMS_FILE}"
     found = [(faithful_uses(declared, terms), faithful_impl(declared, inner, home_of_terms(stem, context)))]
     if isinstance(declared, EnumDeclaration):
         found += [(faithful_default_uses(), faithful_default_impl(it, declared.name)) for it in declared.defaults]
-    return [*found, *([(inhabited_uses(), inhabited_impl(declared.name))] if has_example(declared, context.types) else [])]
+    is_inhabited = declared.exact and has_example(declared, context.types)
+    return [*found, *([(inhabited_uses(), inhabited_impl(declared.name))] if is_inhabited else [])]
 
 
 def home_of_terms(stem: str, context: Context) -> str:

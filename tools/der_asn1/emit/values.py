@@ -2,6 +2,7 @@
 from dataclasses import dataclass
 from typing import Iterable
 
+from ..meaning.contents import identifier_content
 from ..meaning.named import Constant
 from ..meaning.scopes import Program
 from ..meaning.values import arcs_of
@@ -27,14 +28,7 @@ class Value:
 
     def content(self) -> list[int]:
         """The bytes of its content (X.690, 8.19)."""
-        found = []
-        for number in [self.arcs[0] * 40 + self.arcs[1], *self.arcs[2:]]:
-            groups = [number & 0x7F]
-            while number > 0x7F:
-                number >>= 7
-                groups.insert(0, number & 0x7F | 0x80)
-            found += groups
-        return found
+        return list(identifier_content(self.arcs))
 
 
 def values_of(program: Program, modules: list[tree.Module]) -> list[Value]:
@@ -89,5 +83,7 @@ def value_lines(before: str, content: list[str]) -> list[str]:
     line = f"{before} &[{items}];"
     if len(line) <= WIDTH and len(items) <= _SHORT:
         return [line]
+    if len(f"{before} &[") > WIDTH:
+        return [before, f"{STEP}&[{items}];"]
     lines = filled("", "", content, "")
     return [f"{before} &[", *(lines[1:-1] if len(lines) > 1 else [f"    {items},"]), "];"]

@@ -21,7 +21,8 @@ _MOST_GAPS = 3
 
 def whole_number_limits(limits: Limits) -> tuple[Intervals, bool]:
     """The numbers that an INTEGER has, and whether a constraint says something that isn't about numbers."""
-    return limits.numbers, limits.other or limits.alphabet != NATURAL or limits.size != NATURAL
+    is_more = limits.other or limits.alphabet != NATURAL or limits.size != NATURAL or not limits.contents.is_all()
+    return limits.numbers, is_more
 
 
 def integer(meaning: Callable[[Rust], Meaning], limits: tuple[Intervals, bool]) -> Meaning:
@@ -83,7 +84,7 @@ def bounded(found: Meaning, limits: Limits) -> Meaning:
         found = found.as_(replace(found.rust, bounded=True, inner=found.rust)).noting(Note.ALPHABET)
     if limits.size != NATURAL:
         found = _sized(found, limits.size)
-    if limits.other or limits.numbers != ALL:
+    if limits.other or limits.numbers != ALL or not limits.contents.is_all():
         found = found.as_(replace(found.rust, bounded=True, inner=found.rust)).noting(Note.CONSTRAINT)
     return found
 

@@ -5,6 +5,7 @@ from typing import Optional
 from ..parse.source import Place
 from ..parse.tree import Presence
 from .causes import Where
+from .contents import ANY_CONTENT, Contents
 from .features import Level
 from .other_crates import OtherCrates
 from .rust_types import UNIT, RustType
@@ -99,7 +100,8 @@ class Declaration:
 
     `root` is the name of the assignment that it is all or a part of. `levels` is how many it has at most, if it contains itself, and `inner`
     says that another type of that assignment has more.
-    `term` is the type that an assignment defines, as a term of der_types. What is only a part of one has none.
+    `term` is the type that an assignment defines, as a term of der_types. What is only a part of one has none. `exact` says that the term is all
+    that the notation says, so that the type has `Exact`.
     """
 
     name: str
@@ -113,6 +115,7 @@ class Declaration:
     root: str = ""
     levels: int = 0
     inner: bool = False
+    exact: bool = True
 
     def differences(self) -> list[str]:
         """Why its values, or the values of a part, differ from the notation's. An open type is any element, as the notation says."""
@@ -218,6 +221,28 @@ class TestedDeclaration(NewtypeDeclaration):
     by_reference: bool = False
     test: str = ""
     ghost: str = ""
+
+
+@dataclass
+class ListedDeclaration(TestedDeclaration):
+    """A struct round those values of another type that have listed contents, or others."""
+
+    contents: Contents = ANY_CONTENT
+
+    def parts(self) -> object:
+        """The type inside, and which contents its values have."""
+        return self.type, self.contents
+
+
+@dataclass
+class UnionDeclaration(Declaration):
+    """A type that is one of several, which the whole element distinguishes and its first byte doesn't."""
+
+    variants: list = field(default_factory=list)
+
+    def parts(self) -> list[Field]:
+        """The types that it is one of."""
+        return self.variants
 
 
 @dataclass

@@ -45,6 +45,7 @@ class Core(Enum):
     APPLICATION = auto()
     IMPLICIT = auto()
     RETAGGED = auto()
+    UNION = auto()  # one of several types, which the whole element distinguishes
 
 
 @dataclass(frozen=True)
@@ -53,7 +54,8 @@ class Rust:
 
     `bounded` says that a type of a constraint is around it, or should be: `around` has the name and the bounds of each that is, the nearest
     first. `own` says that its content has a type of one's own, and `is_foreign` that it is under an IMPLICIT tag of another class than context.
-    `term` is the type as a term of der_types.
+    `choices` are the types that a union is one of, and `fallback` is the meaning in its place where the first byte has to be known. `term` is the
+    type as a term of der_types.
     """
 
     type: RustType
@@ -65,6 +67,8 @@ class Rust:
     is_open: bool = False
     own: bool = False
     is_foreign: bool = False
+    choices: tuple = field(default=(), compare=False)
+    fallback: Optional[object] = field(default=None, compare=False)
     term: Optional[Term] = field(default=None, compare=False)
 
     @property

@@ -65,16 +65,17 @@ UNIVERSAL_TAGS = {it.name: it.tag for it in TYPES}
 
 # the other names of the library that a crate may import, by their modules, in the order of imports
 _NAMES = {
-    _TYPES: """Ascii Asn1Set AtLeast AtMost CharacterSet Contents Exact ExactAlternatives ExactContents ExactDefault ExactMembers InRange Minus NamedBits Notated NotatedAlternatives NotatedDefault NotatedMembers NotatedSet OtherThan Outside Plus
-        ImplicitPrimitive ImplicitSet RestrictedString TagOrdered Unicode WholeNumber Width WithSize deserialize_contents_as""",
+    _TYPES: """Ascii Asn1Set AtLeast AtMost CharacterSet Constrained Contents Encoded Exact ExactAlternatives ExactContents ExactDefault ExactMembers InRange Minus NamedBits Notated NotatedAlternatives NotatedDefault NotatedMembers NotatedSet OtherThan Outside Plus
+        ImplicitPrimitive ImplicitSet RestrictedString TagOrdered Unicode WholeNumber Width WithSize deserialize_constrained_as deserialize_contents_as""",
     "picky_asn1_der::application_tag": "ApplicationTag",
     _ASN1: """Asn1SequenceOf Asn1SetOf BitStringAsn1Container ExplicitContextTag ImplicitContextTag OctetStringAsn1Container ImplicitList
         TaggedBytes Tag""",
     "picky_asn1_der::de": "Begins Faithful FaithfulAlternatives FaithfulDefault FaithfulMembers Inhabited deserialize_choice_as",
     "picky_asn1_der::misc": "ReadExt WriteExt",
     "picky_asn1_der::ser": "DefaultOf Defaulted DefaultedRef False Number Optional OptionalRef Sequence SignedNumber True",
-    _ROOT: """Via Added AddedMembers Alternatives Asn1RawDer Choice Deserialize DeserializeMembers Deserializer LaterMembers LaterMembersFrom List NoneOf OneOf Choice4
-        Result Serialize SerializeMembers Serializer Struct deserialize_as deserialize_members_as deserialize_struct_as""",
+    _ROOT: """TryVia Via Added AddedMembers Alternatives Asn1DerError Asn1RawDer Choice Deserialize DeserializeMembers Deserializer LaterMembers
+        LaterMembersFrom List NoneOf OneOf Choice4 Result Serialize SerializeMembers Serializer Struct deserialize_as deserialize_members_as
+        deserialize_struct_as try_deserialize_as""",
 }
 _NUMBERED = re.compile(r"(ExplicitContextTag|ImplicitContextTag|ImplicitList)\d+$")
 _HOMES = {
@@ -89,7 +90,7 @@ LIBRARY_NAMES = frozenset(_HOMES)
 # the other terms of der_types, by the file of its specs that has them
 _TERMS = {
     "ContentForms": "BIT-STRING-named",
-    "Notation": "INTEGER-named ENUMERATED any-content content-under end none optional required",
+    "Notation": "Alternatives INTEGER-named ENUMERATED any-content content-under end none optional required",
     "NotationForms": """ANY APPLICATION AUTOMATIC BIT-STRING-CONTAINING beyond-depth CHOICE CONTEXT EXPLICIT FALSE FROM IMPLICIT INTEGER-from-minus-to
         INTEGER-from-to INTEGER-in MAX Mode OCTET-STRING-CONTAINING PRIVATE SEQUENCE SEQUENCE-OF SET SET-OF SIZE TRUE UNIVERSAL added added-as-optional
         default default-as-optional default-of wider from-on from-to later-alternatives-refused later-members later-members-automatic

@@ -105,8 +105,8 @@ def defaults_of(declared: Declaration, types: Types) -> Iterator[Names]:
         return
     found = []
     for it in declared.fields:
-        if it.is_other:
-            around, inside = constraints(without_tags(it.type, types).inner, types)
+        around, inside = constraints(without_tags(it.type, types).inner, types) if it.is_other else ((), None)
+        if around:
             number = excluded(around[0])
             rust = inside.name if NUMBER.fullmatch(inside.name) else plain_type([number])
             found.append(Name(f"{constant_name(it.name)}_DEFAULT", it.name, number, rust))

@@ -1,5 +1,5 @@
 """Information object classes, objects and object sets (X.681, 9 to 12)."""
-from dataclasses import dataclass, field
+from dataclasses import dataclass, field, replace
 from typing import Optional
 
 from ..parse import tree
@@ -49,10 +49,11 @@ class Setting:
 
 @dataclass
 class InformationObject:
-    """An object, and the scope of the names in it."""
+    """An object, and the scope of the names in it. It may have a name."""
 
     scope: Scope
     settings: list[Setting] = field(default_factory=list)
+    name: str = ""
 
     def setting(self, field_name: str) -> Optional[Setting]:
         """What the object has for a field, or None."""
@@ -195,16 +196,26 @@ def set_of(program: Program, tokens: list[Token], class_: Optional[ClassInScope]
         if part[0].is_symbol("..."):
             found.extensible = True
         elif part[0].is_symbol("{"):
-            _add(found, object_of(program, part[1:-1], class_, scope, part[0].place) if class_ else None)
+            one = object_of(program, part[1:-1], class_, scope, part[0].place) if class_ else None
+            _add(found, one and replace(one, name=_name_within(one, class_.definition)))
         elif part[0].is_symbol("("):
             found.add(set_of(program, part[1:-1], class_, scope, depth + 1))
         elif len(part) == 1 and part[0].kind is Kind.LOWER:
-            _add(found, object_named(program, part[0].text, scope, class_))
+            one = object_named(program, part[0].text, scope, class_)
+            _add(found, one and replace(one, name=part[0].text))
         elif part[0].kind is Kind.UPPER and "EXCEPT" not in [it.text for it in part]:
             found.add(set_named(program, part, class_, scope, depth + 1))
         else:
             found.complete = False
     return found
+
+
+def _name_within(one: InformationObject, class_: tree.ClassDefinition) -> str:
+    """The name of an object's identifier, or else of a type that it has, or nothing."""
+    unique = {it.name for it in class_.fields if it.unique}
+    names = [it.value.name for it in one.settings if it.field_name in unique and isinstance(it.value, tree.NamedValue)]
+    types = [it.type.name for it in one.settings if isinstance(it.type, tree.ReferenceType)]
+    return next(iter([*names, *types]), "")
 
 
 def _add(found: ObjectSet, one: Optional[InformationObject]) -> None:

@@ -7,6 +7,8 @@ from ..parse import tree
 from ..parse.source import Place, Problems
 
 # Names for an element of any type, which compilers of others have without a definition.
+# what stands for the type of a field of values begins so, which no name of a module does: over it a tag is as over that type
+FIXED_FIELD = "&fixed"
 BUILT_IN_ANY = frozenset(("heim_any", "heim_any_set", "HEIM_ANY", "HEIM_ANY_SET"))
 
 

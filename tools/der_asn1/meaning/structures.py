@@ -1,10 +1,11 @@
 """The meanings of SEQUENCE, SET and CHOICE (X.680, 25, 27 and 29)."""
 from dataclasses import dataclass, replace
-from typing import TYPE_CHECKING, Iterable, Optional, Union
+from typing import TYPE_CHECKING, Callable, Iterable, Optional, Union
 
 from ..parse import tree
 from ..parse.source import NotationError, NotGiven
 from .causes import Where
+from .contents import Contents, integer_content
 from .declarations import AddedDeclaration, ChoiceDeclaration, Declaration, EnumDeclaration, Field, Hint, Item, StructDeclaration
 from .features import Feature, Level, Note
 from .intervals import Intervals
@@ -29,10 +30,11 @@ LATER, LATER_AUTOMATIC, NO_LATER = "later-members", "later-members-automatic", "
 
 @dataclass(frozen=True)
 class Part:
-    """A member or an alternative with its meaning."""
+    """A member or an alternative with its meaning, and the default of a member of a struct."""
 
     resolved: ResolvedMember
     meaning: Meaning
+    default: Optional["Default"] = None
 
     @property
     def firsts(self) -> frozenset[int]:
@@ -61,7 +63,8 @@ def parts_of(meanings: "Meanings", type_: tree.Type, scope: Scope, hint: Hint) -
     """The members or alternatives with their meanings."""
     found = []
     for it in members_of(meanings.program, type_, scope):
-        meaning = meanings.of_type(it.member.type, it.scope, hint.part(it.member.name, it.member.place))
+        part = hint.part(it.member.name, it.member.place)
+        meaning = meanings.of_type(it.member.type, it.scope, replace(part, text=it.member.called or part.text))
         found.append(Part(it, meaning))
     return found
 
@@ -80,7 +83,7 @@ def structure(meanings: "Meanings", type_: tree.StructureType, scope: Scope, hin
         return empty(type_, scope, first)
     if any(it.meaning.rust is None for it in parts):
         return _raw(tagged_bytes(first), parts)
-    written = parts
+    written = parts = settled(parts, type_.form, is_extensible(type_, scope), lambda it: of_part(hint, it))
     if type_.form is tree.Form.SET:
         twice = same_tag(meanings, parts, "X.680, 27.3")
         if twice:
@@ -92,8 +95,11 @@ def structure(meanings: "Meanings", type_: tree.StructureType, scope: Scope, hin
     clash = first_clash(meanings, parts, type_.form, end)
     if clash:
         return _raw(tagged_bytes(first), parts, *ambiguity(parts)).placed(of_part(hint, clash))
+    is_open = is_extensible(type_, scope)
+    defaults = {it.name: default_of(meanings, it, hint.part(it.name), it is parts[-1] and not is_open) for it in parts}
+    parts, written = [[replace(it, default=defaults[it.name]) for it in found] for found in (parts, written)]
     found = declared_struct(meanings, type_, scope, hint, parts)
-    return found.called(structure_term(meanings, type_, written, end, (found.rust.inner or found.rust).text))
+    return found.called(structure_term(type_, written, end, (found.rust.inner or found.rust).text))
 
 
 def included(meanings: "Meanings", type_: tree.StructureType, scope: Scope, hint: Hint) -> list[Part]:
@@ -119,9 +125,8 @@ def declared_struct(meanings: "Meanings", type_: tree.StructureType, scope: Scop
         return _raw(tagged_bytes(UNIVERSAL_TAGS[type_.form.value]), parts, Feature.MANY_MEMBERS)
     fields, end = [], last_word(type_, scope, parts)
     for it in parts:
-        default = default_of(meanings, it)
-        found = found.lacking(*default.features).noting(*default.notes).placed(of_part(hint, it))
-        fields.append(field_of(it, default, is_optional(it, end)))
+        found = found.lacking(*it.default.features).noting(*it.default.notes).placed(of_part(hint, it))
+        fields.append(field_of(it, it.default, is_optional(it, end)))
     if end == NO_LATER:
         found = found.lacking(Feature.EXTENSION)
     levels, later = levels_of(parts, end), None
@@ -139,9 +144,9 @@ def declared_struct(meanings: "Meanings", type_: tree.StructureType, scope: Scop
     return found.as_(Rust(of("Asn1Set", record.type), Core.SET, frozenset((UNIVERSAL_TAGS["SET"],)), record) if is_set else record)
 
 
-def structure_term(meanings: "Meanings", type_: tree.StructureType, parts: list[Part], end: str, name: str) -> Term:
+def structure_term(type_: tree.StructureType, parts: list[Part], end: str, name: str) -> Term:
     """The term of a SEQUENCE or SET, its members in the order of the text, with the name of its struct."""
-    items = [TermItem(item_text(it), presence_word(meanings, it, end), it.meaning.rust.term) for it in parts]
+    items = [TermItem(item_text(it), presence_word(it, end), it.default.term or it.meaning.rust.term) for it in parts]
     for level in levels_of(parts, end)[1:]:
         items[level.start] = replace(items[level.start], presence=f"added ({items[level.start].presence}")
         end += ")"
@@ -214,11 +219,11 @@ def item_text(part: Part) -> str:
     return f"{part.name} {part.resolved.member.text}"
 
 
-def presence_word(meanings: "Meanings", part: Part, end: str) -> str:
+def presence_word(part: Part, end: str) -> str:
     """How a member is there."""
     member = part.resolved.member
     if member.presence is tree.Presence.DEFAULT:
-        return default_of(meanings, part).word
+        return part.default.word
     if member.presence is tree.Presence.OPTIONAL:
         return "optional"
     return "added-as-optional" if is_optional(part, end) else "required"
@@ -240,6 +245,7 @@ def declare(meanings: "Meanings", declared: Declaration, type_: tree.Type, scope
         wanted = f"{hint.text}-{suffix}" if hint.key or is_added else hint.text
         declared.name = meanings.declarations.fresh(wanted, (*scope.key, str(type_.place), suffix), declared.module)
     declared.comment, declared.root, declared.level, declared.lacks = hint.comment, hint.root, meaning.level, lacks(meaning)
+    declared.exact = Note.WITHOUT_TERM not in meaning.notes
     if hint.key and meanings.levels():
         declared.source, declared.levels, declared.inner = hint.root, meanings.levels(), bool(meanings.depth_suffix())
     meanings.declarations.add(declared)
@@ -292,6 +298,32 @@ def _raw(rust: Rust, parts: list[Part], *features: Feature) -> Meaning:
     """A type that is kept as bytes for what is missing in its parts."""
     found, meanings = Meaning(rust, Level.RAW).lacking(*features), [it.meaning for it in parts]
     return replace(found, features=found.features.union(*(it.features for it in meanings)), causes=frozenset().union(*(it.causes for it in meanings)))
+
+
+# ---- where the first byte has to be known
+
+
+def settled(parts: list[Part], form: Optional[tree.Form], is_open: bool, where: Callable[[Part], Where]) -> list[Part]:
+    """Members, or alternatives without a form, in which a union is another type where the first byte has to be known.
+
+    `is_open` says that members of later versions may follow, and `where` is the place of a part.
+    """
+    found = []
+    for index, it in enumerate(parts):
+        fallback = it.meaning.rust.fallback
+        if fallback and _has_to_be_known(parts, index, form, is_open):
+            it = replace(it, meaning=replace(fallback, loose=fallback.loose | it.meaning.loose).placed(where(it)))
+        found.append(it)
+    return found
+
+
+def _has_to_be_known(parts: list[Part], index: int, form: Optional[tree.Form], is_open: bool) -> bool:
+    """Whether the first byte distinguishes a part: one of a CHOICE or a SET, or one that may be absent or comes after one."""
+    if form is not tree.Form.SEQUENCE:
+        return True
+    is_last = index == len(parts) - 1 and not is_open
+    after = index > 0 and parts[index - 1].resolved.may_be_absent()
+    return after or parts[index].resolved.may_be_absent() and not is_last
 
 
 # ---- what distinguishes members
@@ -367,8 +399,8 @@ def tag_key(first: int) -> tuple[int, int]:
 class Default:
     """The type of the library that says a default, or what is missing for it.
 
-    `others` is the type of the values that aren't the default, where the library has no value of it without memory, and `word` is how
-    the member is there in a term.
+    `others` is the type of the values that aren't the default, where the library has no value of it without memory. `word` is how the member is
+    there in a term, and `term` what it is then, if that isn't its type.
     """
 
     type: Optional[RustType] = None
@@ -376,10 +408,11 @@ class Default:
     word: str = "default-as-optional"
     features: tuple = ()
     notes: tuple = ()
+    term: Optional[Term] = None
 
 
-def default_of(meanings: "Meanings", part: Part) -> Default:
-    """The default of a member. It may be one of its own; or else the member is read as OPTIONAL is."""
+def default_of(meanings: "Meanings", part: Part, hint: Hint, is_last: bool) -> Default:
+    """The default of a member. It may be one of its own; or else the member is read as OPTIONAL is. `is_last` says that no member comes after it."""
     member, scope = part.resolved.member, part.resolved.scope
     if member.presence is not tree.Presence.DEFAULT:
         return Default()
@@ -398,7 +431,7 @@ def default_of(meanings: "Meanings", part: Part) -> Default:
         return Default(of("True" if value.truth else "False"), word="default TRUE" if value.truth else "default FALSE")
     if rust.own and rust.core is Core.CONTENTS and not rust.bounded:
         return Default(notes=(Note.DEFAULT,))
-    return Default(features=(Feature.DEFAULT_OTHER,))
+    return meanings.other_values(part, hint, is_last) or Default(features=(Feature.DEFAULT_OTHER,))
 
 
 @dataclass(frozen=True)
@@ -464,6 +497,13 @@ def enumeration(meanings: "Meanings", type_: tree.EnumeratedType, scope: Scope, 
     return declared_enum(meanings, type_, scope, hint, zip(type_.items, numbers), "ENUMERATED")
 
 
+def left_items(program: Program, type_: tree.EnumeratedType, scope: Scope, contents: Contents) -> Optional[tree.EnumeratedType]:
+    """An ENUMERATED with those items alone whose contents are left, each with its number. None if there is none."""
+    numbers = enumerated_numbers(program, type_.items, scope)
+    left = [replace(it, number=tree.IntegerValue(it.place, number)) for it, number in zip(type_.items, numbers) if contents.has(integer_content(number))]
+    return replace(type_, items=left) if left else None
+
+
 def named_integer(meanings: "Meanings", type_: tree.IntegerType, scope: Scope, hint: Hint, numbers: Intervals) -> Optional[Meaning]:
     """An INTEGER that has a name and only these numbers, if there are several of one byte, each with a name: an enum of its own. Else None."""
     named = [(it, integer_of(meanings.program, it.number, scope)) for it in type_.named]
@@ -497,17 +537,18 @@ def declared_enum(
 # ---- choices
 
 
-def choice(meanings: "Meanings", type_: tree.ChoiceType, scope: Scope, hint: Hint) -> Meaning:
-    """A CHOICE."""
+def alternatives(meanings: "Meanings", type_: tree.ChoiceType, scope: Scope, hint: Hint) -> Union[list[Part], Meaning]:
+    """The alternatives of a CHOICE, or what it is kept as."""
     parts = parts_of(meanings, type_, scope, hint)
     if not parts:
         return Meaning(any_element()).lacking(Feature.EXTENSION if is_extensible(type_, scope) else Feature.NO_VALUES)
     if any(it.meaning.rust is None for it in parts):
         return _raw(any_element(), parts)
+    parts = settled(parts, None, is_extensible(type_, scope), lambda it: of_part(hint, it))
     twice = same_tag(meanings, parts, _OF_CHOICE)
     if twice:
         return _raw(any_element(), parts, *ambiguity(parts)).placed(of_part(hint, twice))
-    return declared_choice(meanings, type_, scope, hint, parts)
+    return parts
 
 
 def declared_choice(meanings: "Meanings", type_: tree.ChoiceType, scope: Scope, hint: Hint, parts: list[Part]) -> Meaning:

@@ -4,6 +4,7 @@ from typing import Optional
 
 from ..parse import tree
 from .alphabets import alphabet_of, set_of_type
+from .contents import ANY_CONTENT, Contents, content_of
 from .intervals import ALL, INFINITY, NATURAL, Intervals
 from .scopes import Program, Scope, target_of
 from .values import integer_of, value_of
@@ -23,13 +24,14 @@ class ScopedConstraint:
 class Limits:
     """What is left of a type's values.
 
-    `numbers`, `size` and `alphabet`, the numbers of characters, are intervals. `other` says that values are left out by something else, and
-    `unknown` that a name in a constraint leads nowhere.
+    `numbers`, `size` and `alphabet`, the numbers of characters, are intervals, and `contents` is a set of contents. `other` says that values are
+    left out by something else, and `unknown` that a name in a constraint leads nowhere.
     """
 
     numbers: Intervals = ALL
     size: Intervals = NATURAL
     alphabet: Intervals = NATURAL
+    contents: Contents = ANY_CONTENT
     other: bool = False
     unknown: bool = False
 
@@ -39,6 +41,7 @@ class Limits:
             self.numbers.intersection(more.numbers),
             self.size.intersection(more.size),
             self.alphabet.intersection(more.alphabet),
+            self.contents.both(more.contents),
             self.other or more.other,
             self.unknown or more.unknown,
         )
@@ -52,23 +55,32 @@ class Limits:
             return Limits(size=self.size.union(more.size), unknown=unknown)
         if self.only("alphabet") and more.only("alphabet"):
             return Limits(alphabet=self.alphabet.union(more.alphabet), unknown=unknown)
+        if self.only("contents") and more.only("contents"):
+            return Limits(contents=self.contents.either(more.contents), unknown=unknown)
         return replace(NONE, other=True, unknown=unknown)
 
     def only(self, name: str) -> bool:
         """Whether there is no limit of another kind than this one."""
-        return all(getattr(self, it) == getattr(NONE, it) for it in ("numbers", "size", "alphabet", "other") if it != name)
+        return all(getattr(self, it) == getattr(NONE, it) for it in _KINDS if it != name)
 
 
 NONE = Limits()
+# the kinds of limits
+_KINDS = ("numbers", "size", "alphabet", "contents", "other")
 
 
 @dataclass
 class Reader:
-    """Works out the limits of constraints. `named` are the named numbers of the type that is constrained, `base` is its name."""
+    """Works out the limits of constraints. `named` are the named numbers of the type that is constrained, `base` is its name.
+
+    `type` is the type itself, whose names are of `home`, where contents of single values are worked out.
+    """
 
     program: object
     named: list = field(default_factory=list)
     base: str = ""
+    type: Optional[tree.Type] = None
+    home: Optional[Scope] = None
 
     def limits(self, constraints: tuple[ScopedConstraint, ...]) -> Limits:
         """The limits of constraints one after another (X.680, 49.2)."""
@@ -110,13 +122,16 @@ class Reader:
             return replace(part.both(Limits(numbers=excluded.numbers.complement())), unknown=unknown)
         if excluded.only("size"):
             return replace(part.both(Limits(size=excluded.size.complement())), unknown=unknown)
+        if excluded.only("contents"):
+            return replace(part.both(Limits(contents=excluded.contents.complement())), unknown=unknown)
         return replace(part, other=True, unknown=unknown)
 
     def of_singlevalue(self, element: tree.SingleValue, scope: Scope, depth: int) -> Limits:
         number = integer_of(self.program, element.value, scope, self.named)
         if number is not None:
             return Limits(numbers=Intervals.of((number, number)))
-        return Limits(other=True)
+        content = content_of(self.program, element.value, scope, self.type, self.home)
+        return Limits(other=True) if content is None else Limits(contents=Contents(frozenset((content,)), False))
 
     def of_valuerange(self, element: tree.ValueRange, scope: Scope, depth: int) -> Limits:
         low, high = self.bound(element.low, scope, -INFINITY), self.bound(element.high, scope, INFINITY)
@@ -140,7 +155,7 @@ class Reader:
         found = resolve_with_constraints(self.program, element.type, scope)
         if found.type is None:
             return replace(NONE, unknown=True)
-        own = Reader(self.program, getattr(found.type, "named", [])).limits(found.constraints)
+        own = Reader(self.program, getattr(found.type, "named", []), type=self.type and found.type, home=found.scope).limits(found.constraints)
         if not isinstance(found.type, tree.SimpleType) or not found.type.name.endswith("String") or found.type.name == self.base:
             return own
         characters = set_of_type(found.type.name)

@@ -8,7 +8,7 @@ from .library import ANY_FIRST, MAX_TAG
 from .library_table import UNIVERSAL_TAGS
 from .members import members_of, selected
 from .objects import class_named
-from .scopes import Program, Scope, resolve, target_of
+from .scopes import FIXED_FIELD, Program, Scope, resolve, target_of
 from .values import integer_of
 
 _DEPTH = 40
@@ -34,7 +34,7 @@ def is_untagged(program: Program, type_: tree.Type, scope: Scope, depth: int = 0
         found = selected(program, type_, scope)
         return found is None or is_untagged(program, found.member.type, found.scope, depth + 1)
     if isinstance(type_, tree.ReferenceType):
-        if scope.binding(type_.name):
+        if scope.binding(type_.name) and not type_.name.startswith(FIXED_FIELD):
             return True
         target = target_of(program, type_, scope)
         return is_untagged(program, target.type if target else None, target.scope if target else scope, depth + 1)

@@ -46,7 +46,7 @@ class Term:
 
     def between(self) -> str:
         """The operator between the items."""
-        return _ALTERNATIVES if self.head == "CHOICE" else _MEMBERS
+        return _ALTERNATIVES if self.head in ("CHOICE", "one-of") else _MEMBERS
 
     def group(self) -> "Optional[Term]":
         """The term with members or alternatives that it is, or that is inside of its tags, or None."""

@@ -1,31 +1,40 @@
 """Which type of the library each type of a module is."""
 from dataclasses import replace
+from functools import partial
 from typing import Iterable, Optional
 
 from ..parse import tree
 from ..parse.modules import read_text
 from ..parse.source import Problems
+from ..parse.tokens import Kind
 from .bounds import bounded, integer, whole_number_limits
 from .causes import Cause, Where, counts
+from .contents import ANY_CONTENT, Contents
 from .character_sets import has_all, own_set
 from .checks import Checks
 from .declarations import AliasDeclaration, Declaration, Declarations, Hint, NewtypeDeclaration
+from .defaults import other_values
+from .extensible import choice
 from .features import Feature, Level, Note
-from .library import Core, Rust, any_element, tagged_bytes, without_values
+from .library import MAX_TAG, Core, Rust, any_element, tagged_bytes, without_values
 from .library_table import BY_NAME, UNIVERSAL_TAGS, LibraryType
+from .listed import declared_list, listed
+from .inner import inner_types
 from .intervals import NATURAL
 from .meaning import Meaning, lacks
 from .members import selected
-from .objects import BUILT_IN_CLASSES, ObjectSet, class_named, set_of
+from .objects import BUILT_IN_CLASSES, ObjectSet, class_named
 from . import recursion as recursive
 from .recursion import NONE, Recursion, recursion_of
 from .rust_types import UNIT, of
 from .scopes import BUILT_IN_ANY, Binding, Found, Program, Resolved, Scope, resolve, target_of
-from .structures import choice, enumeration, named_integer, structure
+from .structures import Default, Part, enumeration, left_items, named_integer, structure
 from .subtypes import Limits, Reader, ScopedConstraint, only_contents
+from .tables import closed, objects_of, of_table, table_of
 from .tagging import default_mode, effective_mode, first_bytes, fixed_field_type
 from .tags import wrapped
 from .terms import Term, tagged
+from .unions import Choice, tagged_union, union
 from .values import arcs_of, integer_of
 
 # EXTERNAL and INSTANCE OF as the sequences that they are encoded as (X.690, 8.18; X.681, C.7)
@@ -44,6 +53,7 @@ END
 """
 # types of 2008 that the library has none for
 _TIMES = frozenset("TIME DATE TIME-OF-DAY DATE-TIME DURATION OID-IRI RELATIVE-OID-IRI".split())
+_BOOLEANS = frozenset((b"\x00", b"\xff"))  # the contents of a BOOLEAN (X.690, 8.2 and 11.1)
 _DER = [2, 1, 2, 1]  # the object identifier of DER (X.690, 12.2)
 ASSOCIATED = Program(read_text(_ASSOCIATED_TYPES, "associated types", Problems()), Problems())
 
@@ -55,8 +65,10 @@ def in_words(meaning: Meaning, constraints: tuple[ScopedConstraint, ...]) -> Mea
 
 
 def instance_name(found: Found) -> str:
-    """The name of an assignment, with those of the types that are given for its parameters."""
-    given = [type_name(it.argument.type) for _, it in found.scope.bindings if it.argument.type]
+    """The name of an assignment, with those of the types and of the tables that are given for its parameters."""
+    arguments = [it.argument for _, it in found.scope.bindings]
+    sets = [it.set_tokens[0].text if it.set_tokens and len(it.set_tokens) == 1 and it.set_tokens[0].kind is Kind.UPPER else "" for it in arguments]
+    given = [type_name(it.type) if it.type else name for it, name in zip(arguments, sets)]
     return "-".join(it for it in [found.assignment.name, *given] if it)
 
 
@@ -99,6 +111,7 @@ def alias(name: str, found: Found, type_: tree.Type, meaning: Meaning, kind: typ
     source, comment = found.assignment.name, " ".join(found.assignment.comment)
     declared = kind(name, found.assignment.place, found.scope.module.name, source, comment, root=source)
     declared.level, declared.lacks, declared.term = meaning.level, lacks(meaning), meaning.rust.term
+    declared.exact = Note.WITHOUT_TERM not in meaning.notes
     declared.type, declared.notation = meaning.rust.type, type_.text
     return declared
 
@@ -106,8 +119,16 @@ def alias(name: str, found: Found, type_: tree.Type, meaning: Meaning, kind: typ
 class Meanings:
     """The meanings of the types of a program. Each assignment is worked out once."""
 
-    def __init__(self, program: Program, declarations: Optional[Declarations] = None, distinct: Iterable[str] = (), recursion: Recursion = NONE) -> None:
+    def __init__(
+        self,
+        program: Program,
+        declarations: Optional[Declarations] = None,
+        distinct: Iterable[str] = (),
+        recursion: Recursion = NONE,
+        optional_defaults: bool = False,
+    ) -> None:
         self.program, self.recursion = program, recursion
+        self.optional_defaults = optional_defaults  # whether a default that the library has no type for is as if the member were OPTIONAL
         self.level: Optional[recursive.Level] = None  # where the type is that is being worked out
         self.edges: dict[tuple, set[tuple]] = {}  # which assignments each names
         self.distinct = frozenset(distinct)  # the names of types that are structs of their own, in place of names of others
@@ -224,16 +245,22 @@ class Meanings:
             number = integer_of(self.program, tag.number, scope)
             if number is None:
                 return self.unknown(Feature.UNDEFINED)
-            meaning = self.under(meaning, tag, number, effective_mode(self.program, tag, inner, scope), scope)
+            meaning = self.under(meaning, tag, number, effective_mode(self.program, tag, inner, scope), scope, hint)
             inner = None
         return meaning.placed(hint.where or Where(type_.place))
 
-    def under(self, inner: Meaning, tag: tree.Tag, number: int, mode: tree.TagMode, scope: Scope) -> Meaning:
+    def under(self, inner: Meaning, tag: tree.Tag, number: int, mode: tree.TagMode, scope: Scope, hint: Hint) -> Meaning:
         """The meaning of a type under a tag, with its term."""
+        if mode is tree.TagMode.IMPLICIT and inner.rust and inner.rust.core is Core.UNION:
+            return tagged_union(self, inner, tag, number, scope, lambda it: self.under(it, tag, number, mode, scope, hint)) or inner
+        if mode is tree.TagMode.IMPLICIT and inner.rust and inner.rust.core is Core.BOOL and tag.tag_class is not tree.TagClass.CONTEXT and number <= MAX_TAG:
+            kept = inner.as_(tagged_bytes(tag.tag_class.value | number))
+            place = tree.Type(tag.place, tags=[tag], text=f"[{tag.tag_class.name} {number}] IMPLICIT BOOLEAN")
+            return declared_list(self, kept, place, scope, hint, Contents(_BOOLEANS, False))
         meaning = wrapped(inner, tag.tag_class, number, mode)
         if inner.rust is None or meaning.rust is None or meaning.rust.term:
             return meaning.settled()
-        told = mode is tree.TagMode.EXPLICIT and inner.rust.core not in (Core.CHOICE, Core.ELEMENT)
+        told = mode is tree.TagMode.EXPLICIT and inner.rust.core not in (Core.CHOICE, Core.ELEMENT, Core.UNION)
         is_explicit = told and (tag.mode or default_mode(scope)) is not tree.TagMode.EXPLICIT
         return meaning.called(tagged(tag, number, inner.rust.term, scope.module.name, is_explicit))
 
@@ -245,7 +272,7 @@ class Meanings:
     def limits(self, constraints: tuple[ScopedConstraint, ...], type_: tree.Type, scope: Scope) -> Limits:
         """What the constraints of a type leave."""
         name = type_.name if isinstance(type_, tree.SimpleType) else ""
-        return Reader(self.program, getattr(type_, "named", []), name).limits(constraints)
+        return Reader(self.program, getattr(type_, "named", []), name, type_, scope).limits(constraints)
 
     def checked(self, meaning: Meaning, type_: tree.Type, scope: Scope, constraints: tuple[ScopedConstraint, ...]) -> Meaning:
         """The same with types around it that check its constraints."""
@@ -269,7 +296,7 @@ class Meanings:
             meaning = replace(meaning.as_(permitted), notes=meaning.notes - {Note.CHARACTERS})
         if permitted or has_all(type_.name, limits.alphabet):
             limits = replace(limits, alphabet=NATURAL)
-        return bounded(in_words(meaning, constraints), limits)
+        return bounded(*listed(self, in_words(meaning, constraints), type_, scope, hint, limits))
 
     def of_integertype(self, type_: tree.IntegerType, scope: Scope, hint: Hint, constraints: tuple[ScopedConstraint, ...]) -> Meaning:
         limits = self.limits(constraints, type_, scope)
@@ -279,12 +306,14 @@ class Meanings:
         return meaning.lacking(Feature.UNKNOWN_BOUND) if limits.unknown else meaning
 
     def of_enumeratedtype(self, type_: tree.EnumeratedType, scope: Scope, hint: Hint, constraints: tuple[ScopedConstraint, ...]) -> Meaning:
-        """An enum of its own, or any number if later versions may have others (X.680, 20)."""
-        if type_.extensible or scope.module.extensibility_implied:
-            meaning = Meaning(library_type(BY_NAME["ENUMERATED"]))
-        else:
-            meaning = enumeration(self, type_, scope, hint)
-        return self.checked(meaning, type_, scope, constraints)
+        """An enum of its own, or any number if later versions may have others (X.680, 20). Single values leave an enum of these."""
+        limits = self.limits(constraints, type_, scope)
+        is_open = type_.extensible or scope.module.extensibility_implied
+        left = None if is_open or limits.contents.is_all() else left_items(self.program, type_, scope, limits.contents)
+        if left:
+            type_, limits = left, replace(limits, contents=ANY_CONTENT)
+        meaning = Meaning(library_type(BY_NAME["ENUMERATED"])) if is_open else enumeration(self, type_, scope, hint)
+        return bounded(in_words(meaning, constraints), limits)
 
     def of_bitstringtype(self, type_: tree.BitStringType, scope: Scope, hint: Hint, constraints: tuple[ScopedConstraint, ...]) -> Meaning:
         firsts = frozenset((UNIVERSAL_TAGS["BIT STRING"],))
@@ -297,14 +326,15 @@ class Meanings:
         limits = self.limits(constraints, type_, scope)
         if limits.size.pairs and limits.size.high != float("inf"):
             meaning = meaning.lacking(Feature.NAMED_BITS_SIZE)
-        return meaning.noting(Note.CONSTRAINT) if limits.other else meaning
+        return meaning.noting(Note.CONSTRAINT) if limits.other or not limits.contents.is_all() else meaning
 
     def of_octets(self, type_: tree.SimpleType, scope: Scope, hint: Hint, constraints: tuple[ScopedConstraint, ...]) -> Meaning:
         firsts = frozenset((UNIVERSAL_TAGS["OCTET STRING"],))
         contents = only_contents(constraints)
         if contents and contents.constraint.type is not None:
             return self.checked(self.container(contents, "OctetStringAsn1Container", firsts, hint), type_, scope, constraints)
-        return self.checked(Meaning(library_type(BY_NAME["OCTET STRING"])), type_, scope, constraints)
+        meaning, limits = in_words(Meaning(library_type(BY_NAME["OCTET STRING"])), constraints), self.limits(constraints, type_, scope)
+        return bounded(*listed(self, meaning, type_, scope, hint, limits))
 
     def container(self, contents: ScopedConstraint, name: str, firsts: frozenset[int], hint: Hint) -> Meaning:
         """A string with the encoding of a value in it (X.682, 11). One of another encoding than DER is kept as it is."""
@@ -336,12 +366,13 @@ class Meanings:
         named = Found(found.assignment, target.scope)
         if not constraints:
             return self.of_found(named, target.type)
-        return self.constrained_reference(named, target, constraints, hint.where)
+        return self.constrained_reference(named, target, constraints, hint)
 
-    def constrained_reference(self, found: Found, target: Resolved, constraints: tuple[ScopedConstraint, ...], where: Optional[Where]) -> Meaning:
+    def constrained_reference(self, found: Found, target: Resolved, constraints: tuple[ScopedConstraint, ...], hint: Hint) -> Meaning:
         """A name with constraints after it: what the name stands for, with them."""
         base = resolve(self.program, target.type, target.scope)
-        if isinstance(base.type, (tree.StructureType, tree.ChoiceType)):
+        is_inner = base.type is not None and inner_types(self.program, base.type, base.scope, constraints)
+        if isinstance(base.type, (tree.StructureType, tree.ChoiceType)) and not is_inner:
             return self.checked(self.of_found(found, target.type), base.type, base.scope, constraints)
         plain = (*target.scope.key, found.assignment.name)
         if self.busy:
@@ -352,8 +383,11 @@ class Meanings:
         self.checks.assignment(found)
         self.busy.append(key)
         try:
-            hint = Hint(found.assignment.name + self.depth_suffix(), root=found.assignment.name, where=where)
-            return self.of_type(target.type, target.scope, hint, constraints)
+            own = Hint(found.assignment.name + self.depth_suffix(), root=found.assignment.name, where=hint.where)
+            if is_inner or base.type is not None and not self.limits(constraints, base.type, base.scope).contents.is_all():
+                word = "members" if is_inner else "values"
+                own = Hint(f"{hint.text}-{word}" if hint.key else hint.text, root=hint.root, where=hint.where)
+            return self.of_type(target.type, target.scope, own, constraints)
         finally:
             self.busy.pop()
 
@@ -420,8 +454,9 @@ class Meanings:
         tables = [it for it in constraints if isinstance(it.constraint, tree.TableConstraint)]
         others = tuple(it for it in constraints if not isinstance(it.constraint, tree.TableConstraint))
         if fixed:
-            meaning = self.of_type(*fixed, hint, others)
-            return meaning.noting(Note.CONSTRAINT) if any(self.is_closed(type_, it) for it in tables) else meaning
+            known = tables and closed(self.program, type_, tables[0].constraint, tables[0].scope, scope)
+            meaning = self.of_type(*(known or fixed), hint, others)
+            return meaning.noting(Note.CONSTRAINT) if not known and any(self.is_closed(type_, it) for it in tables) else meaning
         for it in others:
             root = getattr(it.constraint, "root", None)
             if isinstance(root, tree.ContainedSubtype):
@@ -432,8 +467,7 @@ class Meanings:
 
     def objects(self, type_: tree.FieldType, table: ScopedConstraint) -> ObjectSet:
         """The objects of a table constraint (X.682, 10)."""
-        class_ = class_named(self.program, type_.class_name, table.scope)
-        return set_of(self.program, table.constraint.tokens, class_, table.scope)
+        return objects_of(self.program, type_, table.constraint.tokens, table.scope)
 
     def is_closed(self, type_: tree.FieldType, table: ScopedConstraint) -> bool:
         """Whether a table has all objects that there will be."""
@@ -451,13 +485,42 @@ class Meanings:
     # ---- constructed types
 
     def of_structuretype(self, type_: tree.StructureType, scope: Scope, hint: Hint, constraints: tuple[ScopedConstraint, ...]) -> Meaning:
-        return self.checked(structure(self, type_, scope, hint), type_, scope, constraints)
+        return self.inner(type_, scope, hint, constraints) or self.checked(self.structure(type_, scope, hint), type_, scope, constraints)
+
+    def structure(self, type_: tree.StructureType, scope: Scope, hint: Hint) -> Meaning:
+        """A SEQUENCE or SET, which may have a table."""
+        table = table_of(self.program, type_, scope)
+        found = table and of_table(self, table, hint, partial(structure, self))
+        return found or structure(self, type_, scope, hint)
+
+    def inner(self, type_: tree.Type, scope: Scope, hint: Hint, constraints: tuple[ScopedConstraint, ...]) -> Optional[Meaning]:
+        """The type that inner subtyping leaves of a SEQUENCE, SET or CHOICE, or one of several. None if there is none."""
+        found = inner_types(self.program, type_, scope, constraints)
+        if found is None:
+            return None
+        plain = self.structure if isinstance(type_, tree.StructureType) else partial(choice, self)
+        if len(found.types) == 1:
+            return self.checked(plain(found.types[0], scope, hint), type_, scope, found.others)
+        choices = []
+        for number, it in enumerate(found.types, 1):
+            part = Hint(f"{hint.text}-form-{number}", root=hint.root, where=hint.where)
+            choices.append(Choice(f"form-{number}", plain(it, replace(scope, key=(*scope.key, str(type_.place), number)), part), f"the part {number} of the constraint"))
+        fallback = plain(replace(type_, constraints=[]), scope, Hint(f"{hint.text}-any", root=hint.root, where=hint.where)).noting(Note.CONSTRAINT)
+        meaning = union(self, type_, scope, hint, choices, fallback)
+        return meaning and self.checked(meaning, type_, scope, found.others)
+
+    def other_values(self, part: Part, hint: Hint, is_last: bool) -> Optional[Default]:
+        """The type of all values of a member but its default, or None."""
+        return None if self.optional_defaults else other_values(self, part, hint, is_last)
 
     def of_choicetype(self, type_: tree.ChoiceType, scope: Scope, hint: Hint, constraints: tuple[ScopedConstraint, ...]) -> Meaning:
-        return self.checked(choice(self, type_, scope, hint), type_, scope, constraints)
+        return self.inner(type_, scope, hint, constraints) or self.checked(choice(self, type_, scope, hint), type_, scope, constraints)
 
     def of_listtype(self, type_: tree.ListType, scope: Scope, hint: Hint, constraints: tuple[ScopedConstraint, ...]) -> Meaning:
         """SEQUENCE OF and SET OF (X.680, 26 and 28)."""
+        left = inner_types(self.program, type_, scope, constraints)
+        if left and len(left.types) == 1:
+            type_, constraints = left.types[0], left.others
         element = self.of_type(type_.element, scope, hint.part("item"))
         firsts = frozenset((UNIVERSAL_TAGS[type_.form.value],))
         if element.rust is None:

@@ -311,7 +311,7 @@ class Member:
     """A member of a SEQUENCE or SET, or an alternative of a CHOICE.
 
     `group` is the number of the extension addition that it belongs to, counted from 1, and None for one of the root. `text` is all
-    that is written after the name.
+    that is written after the name, and `called` what its type is called after, if that isn't the member.
     """
 
     place: Place
@@ -323,6 +323,7 @@ class Member:
     version: Optional[int] = None
     comment: str = ""
     text: str = field(default="", compare=False)
+    called: str = field(default="", compare=False)
 
 
 @dataclass

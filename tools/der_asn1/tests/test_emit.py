@@ -281,10 +281,20 @@ class Comments(unittest.TestCase):
         self.assertIn("    /// `BOOLEAN DEFAULT TRUE`.\n", text)
 
     def test_a_default_that_isnt_one(self):
-        text = crate_of("A ::= SEQUENCE { a NULL DEFAULT NULL }", "A").files()["src/types.rt"]
+        text = crate_of("A ::= SEQUENCE { a BIT STRING DEFAULT '1'B, b NULL }", "A").files()["src/types.rt"]
         wanted = "as a SEQUENCE.\n///\n/// Its values differ from the notation's. The crate lacks: DEFAULT of bits, strings,"
         self.assertIn(wanted, text)
-        self.assertIn("/// `NULL DEFAULT NULL`. A default that is written out is read, too.\n    pub a: Option<()>,\n", text)
+        self.assertIn("/// `BIT STRING DEFAULT '1'B`. A default that is written out is read, too.\n    pub a: Option<BitString>,\n", text)
+
+    def test_a_default_of_which_the_other_values_are_a_type(self):
+        body = """A ::= SEQUENCE { a [0] IMPLICIT OBJECT IDENTIFIER DEFAULT { 1 2 3 }, b [1] B DEFAULT { c TRUE }, d UTF8String DEFAULT "en" }
+B ::= SEQUENCE { c BOOLEAN }"""
+        files = crate_of(body, "A").files()
+        self.assertIn("/// `[0] IMPLICIT OBJECT IDENTIFIER DEFAULT { 1 2 3 }`. `None` is the default.\n    pub a: Option<ImplicitContextTag0<AAOther>>,\n", files["src/types.rt"])
+        self.assertIn("    pub b: Option<ExplicitContextTag1<ABOther>>,\n", files["src/types.rt"])
+        self.assertIn("    value: Encoded<B>,\n", files["src/types.rt"])
+        self.assertIn("is_ab_other s = not (pointwise nat_eq s (0x30 ∷ 0x03 ∷ 0x01 ∷ 0x01 ∷ 0xFF ∷ []))\n", files["specs/Listed.antt"])
+        self.assertIn("is_ad_other s = not (pointwise nat_eq s (0x65 ∷ 0x6E ∷ []))\n", files["specs/Listed.antt"])
 
     def test_a_default_of_which_the_other_numbers_are_a_type(self):
         body = "A ::= SEQUENCE { v [0] V DEFAULT v1, n [1] INTEGER (0..9) DEFAULT 5, m [2] INTEGER (0..65535) DEFAULT 256 } V ::= INTEGER { v1(0) }"
@@ -361,7 +371,7 @@ class Golden(unittest.TestCase):
 
     def test_each(self):
         names = golden_names()
-        self.assertEqual(12, len(names))
+        self.assertEqual(15, len(names))
         with tempfile.TemporaryDirectory() as there:
             for it in names:
                 with self.subTest(it):

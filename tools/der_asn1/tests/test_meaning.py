@@ -1,4 +1,5 @@
 """Which type of the library each type of the notation is, and what is missing: by docs/YOUR_TYPES.md, X.680 and X.690."""
+import re
 import unittest
 
 from ..meaning.declarations import Hint
@@ -140,11 +141,17 @@ OWN = [
     ("OCTET STRING (SIZE (1 | 5))", Note.CONSTRAINT),
     ("UTCTime (SIZE (13))", Note.CONSTRAINT),
     ('UTF8String (FROM ("A".."Z"))', Note.ALPHABET),
-    ('IA5String ("a" | "b")', Note.CONSTRAINT),
-    ("BOOLEAN (TRUE)", Note.CONSTRAINT),
+    ('IA5String ("a" | "b")', Note.WITHOUT_TERM),
+    ("BOOLEAN (TRUE)", Note.WITHOUT_TERM),
+    ("OBJECT IDENTIFIER (ALL EXCEPT { 1 2 3 })", Note.WITHOUT_TERM),
+    ("OCTET STRING ('0102'H | ''H)", Note.WITHOUT_TERM),
+    ('PrintableString ("ab") (SIZE (3))', Note.CONSTRAINT),
+    ("CHOICE { a NULL, ... }", Note.WITHOUT_TERM),
     ("OCTET STRING (CONTAINING INTEGER) (SIZE (3))", Note.CONSTRAINT),
-    ("SEQUENCE { a NULL OPTIONAL } (WITH COMPONENTS { a PRESENT })", Note.CONSTRAINT),
-    ("[APPLICATION 1] IMPLICIT BOOLEAN", Note.CONSTRAINT),
+    ("SEQUENCE { a NULL } (WITH COMPONENTS { a ABSENT })", Note.CONSTRAINT),
+    ("SEQUENCE { a NULL OPTIONAL, ... } (WITH COMPONENTS { ..., a PRESENT })", Note.CONSTRAINT),
+    ("SEQUENCE { a NULL OPTIONAL, b BOOLEAN OPTIONAL } (WITH COMPONENTS { a PRESENT } | WITH COMPONENTS { b PRESENT })", Note.WITHOUT_TERM),
+    ("[APPLICATION 1] IMPLICIT BOOLEAN", Note.WITHOUT_TERM),
     (f"[APPLICATION 1] IMPLICIT INTEGER (0..{2**128 - 1})", Note.CONSTRAINT),
     ("SEQUENCE { a ENUMERATED { x(500), y } DEFAULT x }", Note.DEFAULT),
     ("ANY", Note.OPEN),
@@ -162,9 +169,9 @@ MISSING = [
     ("SEQUENCE { a ANY OPTIONAL, ... }", Level.WIDER, Feature.EXTENSION),
     ("SET { a NULL, ... }", Level.WIDER, Feature.EXTENSION),
     ("SET { ... }", Level.WIDER, Feature.EXTENSION),
-    ("CHOICE { a NULL, ... }", Level.WIDER, Feature.EXTENSION),
+    ("CHOICE { a CHOICE { b NULL, ... }, c [0] NULL }", Level.WIDER, Feature.EXTENSION),
     (f"SEQUENCE {{ a INTEGER DEFAULT {2**64} }}", Level.WIDER, Feature.DEFAULT_INTEGER),
-    ("SEQUENCE { a BIT STRING { x(0) } DEFAULT {} }", Level.WIDER, Feature.DEFAULT_OTHER),
+    ("SEQUENCE { a BIT STRING { x(0) } DEFAULT {}, b NULL }", Level.WIDER, Feature.DEFAULT_OTHER),
     ("OCTET STRING (CONTAINING INTEGER ENCODED BY { 2 1 1 })", Level.WIDER, Feature.ENCODING),
     ("BIT STRING { a(0) } (SIZE (1..9))", Level.WIDER, Feature.NAMED_BITS_SIZE),
     ("INTEGER (0..missing)", Level.WIDER, Feature.UNKNOWN_BOUND),
@@ -221,7 +228,7 @@ class Sets(unittest.TestCase):
 
 class Parts(unittest.TestCase):
     def test_a_type_is_as_good_as_its_parts(self):
-        one = given("T ::= SEQUENCE { a U, b V }\nU ::= ANY\nV ::= CHOICE { a NULL, ... }")
+        one = given("T ::= SEQUENCE { a U, b V }\nU ::= ANY\nV ::= SET { a NULL, ... }")
         self.assertEqual(({Note.OPEN}, {Feature.EXTENSION}), (one.meaning("T").notes, one.meaning("T").features))
         self.assertEqual(Level.WIDER, one.meaning("T").level)
 
@@ -303,7 +310,7 @@ class Parts(unittest.TestCase):
 
     def test_implied_extensibility(self):
         one = given("T ::= SEQUENCE { a NULL }\nU ::= CHOICE { a NULL }", "AUTOMATIC TAGS EXTENSIBILITY IMPLIED")
-        self.assertEqual((frozenset(), {Feature.EXTENSION}), (one.meaning("T").features, one.meaning("U").features))
+        self.assertEqual((frozenset(), {Note.WITHOUT_TERM}), (one.meaning("T").notes, one.meaning("U").notes))
 
 
 class Parameters(unittest.TestCase):
@@ -344,11 +351,73 @@ Only ALGORITHM ::= { { OID { 1 2 3 } PARMS NULL } }
         self.assertEqual((Level.EXACT, frozenset()), (found.level, found.notes))
 
     def test_an_identifier_of_a_closed_set(self):
-        self.assertEqual({Note.CONSTRAINT}, self.meaning("ALGORITHM.&id ({Only})").notes)
+        self.assertEqual({Note.WITHOUT_TERM}, self.meaning("ALGORITHM.&id ({Only})").notes)
 
     def test_a_type_by_a_table(self):
         found = self.meaning("SEQUENCE { a ALGORITHM.&id ({Known}), b ALGORITHM.&Type ({Known}{@a}) OPTIONAL }")
+        self.assertEqual(({Note.WITHOUT_TERM, Note.OPEN}, Level.EXACT), (set(found.notes), found.level))
+        self.assertEqual(["row-1", "other"], [it.name for it in found.rust.choices])
+
+    def test_a_type_by_a_table_where_the_first_byte_has_to_be_known(self):
+        found = self.meaning("SEQUENCE { t SEQUENCE { a ALGORITHM.&id ({Known}), b ALGORITHM.&Type ({Known}{@.a}) } OPTIONAL, n NULL }")
         self.assertEqual(({Feature.OPEN_TABLE}, Level.OPEN), (set(found.features), found.level))
+
+    def test_a_table_without_later_objects(self):
+        """One object alone is a SEQUENCE, and needs no choice."""
+        found = self.meaning("SEQUENCE { a ALGORITHM.&id ({Only}), b ALGORITHM.&Type ({Only}{@a}) }")
+        self.assertEqual((Level.EXACT, {0x30}, ()), (found.level, found.rust.firsts, found.rust.choices))
+
+    def test_a_type_of_an_outer_identifier(self):
+        found = self.meaning("SEQUENCE { a ALGORITHM.&id ({Known}), b SET OF SEQUENCE { c ALGORITHM.&Type ({Known}{@a}), d INTEGER } }")
+        self.assertEqual((Level.EXACT, 2), (found.level, len(found.rust.choices)))
+
+    def test_a_type_in_a_string(self):
+        one = given(f"{self.BODY}T ::= SEQUENCE {{ a ALGORITHM.&id ({{Only}}), b OCTET STRING (CONTAINING ALGORITHM.&Type ({{Only}}{{@a}})) }}")
+        one.meaning("T")
+        self.assertEqual("OctetStringAsn1Container<()>", str(one.meanings.declarations.by_name["T"].fields[1].type))
+
+    def test_automatic_tags_in_a_table(self):
+        """A tag over a field of values is as over its type, and one over an open type is EXPLICIT."""
+        body = """FIELD ::= CLASS { &id INTEGER (0..9) UNIQUE, &level ENUMERATED { low, high }, &Type } WITH SYNTAX { ID &id LEVEL &level TYPE &Type }
+Fields FIELD ::= { { ID 1 LEVEL low TYPE NULL } | { ID 2 LEVEL high TYPE UTF8String }, ... }
+T ::= SEQUENCE { id FIELD.&id ({Fields}), level FIELD.&level ({Fields}{@id}), value FIELD.&Type ({Fields}{@id}) }"""
+        one = given(body, "AUTOMATIC TAGS")
+        terms = [[item.term.inline() for item in it.meaning.rust.term.items] for it in one.meaning("T").rust.choices]
+        self.assertEqual(["CONTEXT 0 AUTOMATIC (INTEGER-from-to 1 1)", "CONTEXT 1 AUTOMATIC (ENUMERATED (0 ∷ []))", "CONTEXT 2 EXPLICIT NULL"], terms[0])
+        self.assertEqual("CONTEXT 1 AUTOMATIC (ENUMERATED (0 ∷ 1 ∷ []))", terms[2][1])
+        self.assertEqual([0x80, 0x81, 0xA2], [min(item) for item in self.firsts(one, "TRow1")])
+
+    def test_automatic_tags_of_members_that_an_object_lacks(self):
+        body = """FIELD ::= CLASS { &id INTEGER (0..9) UNIQUE, &Type OPTIONAL } WITH SYNTAX { ID &id [TYPE &Type] }
+Fields FIELD ::= { { ID 1 } | { ID 2 TYPE UTF8String } }
+T ::= SEQUENCE { id FIELD.&id ({Fields}), value FIELD.&Type ({Fields}{@id}) OPTIONAL, last INTEGER }
+U ::= SEQUENCE { id FIELD.&id ({Fields}), value FIELD.&Type ({Fields}{@id}) OPTIONAL, ... }"""
+        one = given(body, "AUTOMATIC TAGS")
+        terms = [[item.term.inline() for item in it.meaning.rust.term.items] for it in one.meaning("T").rust.choices]
+        self.assertEqual([["CONTEXT 0 AUTOMATIC (INTEGER-from-to 1 1)", "CONTEXT 2 AUTOMATIC INTEGER"], 3], [terms[0], len(terms[1])])
+        self.assertEqual(Level.OPEN, one.meaning("U").level)
+
+    def test_an_identifier_that_is_a_choice(self):
+        body = """OPERATION ::= CLASS { &code Code UNIQUE, &Arg } WITH SYNTAX { ARGUMENT &Arg CODE &code }
+Code ::= CHOICE { local INTEGER, global OBJECT IDENTIFIER }
+open OPERATION ::= { ARGUMENT INTEGER CODE local : 1 }
+shut OPERATION ::= { ARGUMENT NULL CODE global : { 1 2 3 } }
+Known OPERATION ::= { open | shut, ... }
+T ::= SEQUENCE { op OPERATION.&code ({Known}), arg OPERATION.&Arg ({Known}{@op}) }"""
+        terms = [it.meaning.rust.term.items[0].term.inline() for it in given(body).meaning("T").rust.choices]
+        wanted = ["CHOICE (INTEGER-from-to 1 1 ∣ none)", "CHOICE (narrower OBJECT-IDENTIFIER ∣ none)"]
+        others = "CHOICE (INTEGER-in (up-to (number 0) ∷ from-on (number 2) ∷ []) ∣ narrower OBJECT-IDENTIFIER ∣ none)"
+        self.assertEqual([*wanted, others], terms)
+
+    def firsts(self, one, name):
+        """The first bytes of the members of a type that is declared."""
+        texts = [str(it.type) for it in one.meanings.declarations.by_name[name].fields]
+        tags = {"ExplicitContextTag": 0xA0, "ImplicitContextTag": 0x80, "InRange": 0x80}
+        return [{tags[re.match("[A-Za-z]+", it)[0]] + int(re.search(r"ContextTag(\d+)", it)[1])} for it in texts]
+
+    def test_an_implicit_tag_over_a_table(self):
+        found = self.meaning("[3] IMPLICIT SEQUENCE { a ALGORITHM.&id ({Known}), b ALGORITHM.&Type ({Known}{@a}) OPTIONAL }")
+        self.assertEqual([{0xA3}, {0xA3}], [it.meaning.rust.firsts for it in found.rust.choices])
 
     def test_a_type_without_a_table(self):
         self.assertEqual({Note.OPEN}, self.meaning("ALGORITHM.&Type").notes)
@@ -359,7 +428,7 @@ Only ALGORITHM ::= { { OID { 1 2 3 } PARMS NULL } }
 T ::= AlgorithmIdentifier {{ {{Known}} }}
 U ::= AlgorithmIdentifier {{ {{...}} }}"""
         one = given(body)
-        self.assertEqual(({Feature.OPEN_TABLE}, {Note.OPEN}), (one.meaning("T").features, one.meaning("U").notes))
+        self.assertEqual((2, {Note.OPEN}), (len(one.meaning("T").rust.choices), one.meaning("U").notes))
 
     def test_a_type_that_a_constraint_fixes(self):
         found = self.meaning("TYPE-IDENTIFIER.&Type (INTEGER)")

@@ -23,6 +23,8 @@ PRINTED = [
     ("SIZE 1 MAX (SEQUENCE-OF INTEGER)", "SEQUENCE (SIZE (1..MAX)) OF INTEGER"),
     ("SIZE 4 4 OCTET-STRING", "OCTET STRING (SIZE (4..4))"),
     ("wider (SIZE 1 8 IA5String)", "IA5String (SIZE (1..8)) (CONSTRAINED BY {})"),
+    ("narrower BOOLEAN", "BOOLEAN (CONSTRAINED BY {})"),
+    ("one-of (NULL ∣ narrower ANY ∣ none)", "ANY (CONSTRAINED BY {})"),
     ("APPLICATION 3 EXPLICIT (CONTEXT 0 TAGS NULL)", "[APPLICATION 3] EXPLICIT [0] NULL"),
     ("PRIVATE 1 AUTOMATIC (INTEGER-from-minus-to 128 127)", "[PRIVATE 1] IMPLICIT INTEGER (-128..127)"),
     ("wider (any-content 0x43)", "[APPLICATION 3] IMPLICIT OCTET STRING (CONSTRAINED BY {})"),
@@ -64,7 +66,8 @@ ALTERED = [
     ("IA5String (SIZE (1..8))", "SIZE 1 8", "SIZE 1 9"),
     ("IA5String (FROM (\"a\"))", "97, 97", "97, 98"),
     ("INTEGER (0..MAX)", "number 0", "number 1"),
-    ("IA5String (\"a\")", "wider IA5String", "IA5String"),
+    ("IA5String (\"a\")", "narrower IA5String", "IA5String"),
+    ("CHOICE { a NULL, ... }", "one-of (", "CHOICE ("),
     ("UTF8String", "UTF8String", "IA5String"),
     ("ANY", "ANY", "NULL"),
 ]

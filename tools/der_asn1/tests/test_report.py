@@ -18,7 +18,7 @@ CONSTRAINED = "a type of its own with `Constrained`"
 OWN = "an enum of its own with numbers of more than a byte"
 
 BODY = """A ::= BOOLEAN
-B ::= CHOICE { a NULL, ... }
+B ::= SET { a NULL, ... }
 C ::= ANY
 D ::= SEQUENCE { a CHARACTER STRING }
 E ::= [31] NULL
@@ -60,7 +60,7 @@ class Reports(unittest.TestCase):
 
     def test_types_without_exact_are_named(self):
         found = report.without_exact(self.found)
-        self.assertEqual("4 of 6 (66.7 %) with `Exact` and `Faithful`", found[0])
+        self.assertEqual("4 of 6 (66.7 %) with `Exact`, and 4 of 6 (66.7 %) with `Faithful`", found[0])
         self.assertEqual(["M.E has none: tags with a number above 30", "M.G has none: not read"], [it.strip() for it in found[1:]])
 
     def test_types_without_a_readable_value_are_named(self):
@@ -179,17 +179,17 @@ class Command(unittest.TestCase):
 
     def test_one_error_for_each_cause(self):
         """The member is named, and all types that contain it are counted."""
-        texts = {"m.asn1": module_text("T ::= SEQUENCE { a BOOLEAN (TRUE), b Missing }\nU ::= SEQUENCE { a T, b Missing }\nV ::= U")}
+        texts = {"m.asn1": module_text("T ::= SEQUENCE { a UTCTime (SIZE (13)), b Missing }\nU ::= SEQUENCE { a T, b Missing }\nV ::= U")}
         with tempfile.TemporaryDirectory() as folder:
             status, _, err = self.run_on(texts, "--out", folder)
             wanted = f"`a` of `T` would have other values than the notation: {CONSTRAINED}; 3 types contain it. `--allow-wider T` allows it"
             self.assertEqual(
-                (1, [f"m.asn1:2:18: error: {wanted} (docs/ASN1.md)", "m.asn1:2:38: error: `Missing` isn't defined; 3 types contain it (X.680, 14.1)"]),
+                (1, [f"m.asn1:2:18: error: {wanted} (docs/ASN1.md)", "m.asn1:2:43: error: `Missing` isn't defined; 3 types contain it (X.680, 14.1)"]),
                 (status, err.splitlines()),
             )
 
     def test_what_is_allowed_for_one_type(self):
-        texts = {"m.asn1": module_text("T ::= SEQUENCE { a BOOLEAN (TRUE) }\nU ::= SEQUENCE { a T, b BOOLEAN (FALSE) }")}
+        texts = {"m.asn1": module_text("T ::= SEQUENCE { a UTCTime (SIZE (13)) }\nU ::= SEQUENCE { a T, b UTCTime (SIZE (11)) }")}
         for words, wanted in ((["T"], [3]), (["U"], [2]), (["T,U"], []), (["T", "--allow-wider", "U"], []), ([], [])):
             with self.subTest(words), tempfile.TemporaryDirectory() as folder:
                 status, _, err = self.run_on(texts, "--out", folder, "--allow-wider", *words)
@@ -211,8 +211,8 @@ class Command(unittest.TestCase):
         self.assertIn("M.U: partly raw, U; a type whose notation isn't read\n", out)
 
     def test_what_the_report_calls_exact_is_written(self):
-        """One value of a BOOLEAN is exact by hand alone, and so is what contains it."""
-        _, out, _ = self.run_on({"m.asn1": module_text("T ::= SEQUENCE { a U, b NULL }\nU ::= BOOLEAN (TRUE)\nV ::= NULL")}, "--report")
+        """Two sizes are exact by hand alone, and so is what contains them."""
+        _, out, _ = self.run_on({"m.asn1": module_text("T ::= SEQUENCE { a U, b NULL }\nU ::= OCTET STRING (SIZE (1 | 5))\nV ::= NULL")}, "--report")
         self.assertIn("0 of 1 (0.0 %) modules written without a flag\n1 of 3 (33.3 %) types written without a flag\n", out)
         self.assertIn("1 of 3 (33.3 %) types exact and written\n", out)
         self.assertIn("2 of 3 (66.7 %) types exact only with types by hand", out)
@@ -222,7 +222,7 @@ class Command(unittest.TestCase):
         with tempfile.TemporaryDirectory() as folder, contextlib.redirect_stdout(io.StringIO()) as out:
             path = os.path.join(os.path.dirname(__file__), "fleet.asn1")
             self.assertEqual([0, 0], [command.main([*words, "--strict", path]) for words in (["--report"], ["--out", os.path.join(folder, "fleet")])])
-        self.assertIn("2 of 2 (100.0 %) modules written without a flag\n38 of 38 (100.0 %) types written without a flag\n31 of 38", out.getvalue())
+        self.assertIn("2 of 2 (100.0 %) modules written without a flag\n38 of 38 (100.0 %) types written without a flag\n32 of 38", out.getvalue())
 
     def test_what_a_crate_allows(self):
         raw, wider = ("T ::= CHARACTER STRING", "--allow-raw", "TaggedBytes<0x3D>"), ("T ::= ENUMERATED { a(128) }", "--allow-wider", "Enumerated")

@@ -50,12 +50,12 @@ class Terms(unittest.TestCase):
         self.assertEqual("PNull", found)
 
     def test_a_tag_that_the_library_has_for_other_values_alone(self):
-        self.check([("[APPLICATION 1] BOOLEAN", "wider (any-content 0x41)")], "IMPLICIT TAGS")
+        self.check([("[APPLICATION 1] BOOLEAN", "narrower (any-content 0x41)")], "IMPLICIT TAGS")
         self.check([("[APPLICATION 1] INTEGER (0..255)", "APPLICATION 1 TAGS-M (INTEGER-from-to 0 255)")], "IMPLICIT TAGS")
         self.check([("[APPLICATION 1] OCTET STRING", "APPLICATION 1 TAGS-M OCTET-STRING")], "IMPLICIT TAGS")
 
     def test_a_tag_over_a_set_with_a_constraint(self):
-        one = given("T ::= [1] IMPLICIT S (WITH COMPONENTS { a PRESENT })\nS ::= SET { a NULL OPTIONAL }")
+        one = given("T ::= [1] IMPLICIT S (WITH COMPONENTS { a ABSENT })\nS ::= SET { a NULL }")
         self.assertEqual("ImplicitSet<SMembers, 0xA1>", str(one.meanings.declarations.by_name[one.meaning("T").rust.text].type))
 
     def test_a_tag_over_a_string_of_which_the_library_has_only_bytes(self):
@@ -71,8 +71,9 @@ class Terms(unittest.TestCase):
         wanted = "SEQUENCE (required NULL ⨾ optional BOOLEAN ⨾ default TRUE (CONTEXT 0 TAGS-M BOOLEAN) ⨾ end)"
         self.check([("SEQUENCE { a NULL, b BOOLEAN OPTIONAL, c [0] BOOLEAN DEFAULT TRUE }", wanted)])
         self.check([("SEQUENCE { a INTEGER DEFAULT -1 }", "SEQUENCE (default-of (minus 1) INTEGER ⨾ end)")])
-        wanted = "wider (SEQUENCE (default-as-optional NULL ⨾ end))"
-        self.check([("SEQUENCE { a NULL DEFAULT NULL }", wanted), ("SEQUENCE {}", "SEQUENCE end")])
+        wanted = "wider (SEQUENCE (default-as-optional BIT-STRING ⨾ required NULL ⨾ end))"
+        self.check([("SEQUENCE { a BIT STRING DEFAULT '1'B, b NULL }", wanted), ("SEQUENCE {}", "SEQUENCE end")])
+        self.check([("SEQUENCE { a NULL DEFAULT NULL }", "SEQUENCE (default-as-optional (narrower (encoded NULL)) ⨾ end)")])
         self.check([("SEQUENCE { a [0] INTEGER DEFAULT 7 }", "SEQUENCE (default-of (number 7) (CONTEXT 0 TAGS-M INTEGER) ⨾ end)")])
 
     def test_defaults(self):
@@ -102,7 +103,7 @@ class Terms(unittest.TestCase):
         self.check([("SEQUENCE { a NULL, ..., b BOOLEAN, ..., c INTEGER }", wanted)])
         self.check([("SEQUENCE { a NULL, b ANY OPTIONAL, ... }", "wider (SEQUENCE (required NULL ⨾ optional ANY ⨾ later-members-refused))")])
         self.check([("SET { a NULL, ... }", "wider (SET (required NULL ⨾ later-members-refused))")])
-        self.check([("CHOICE { a NULL, ... }", "wider (CHOICE (NULL ∣ later-alternatives-refused))")])
+        self.check([("CHOICE { a NULL, ... }", "one-of (NULL ∣ narrower ANY ∣ none)")])
 
     def test_what_is_kept_as_bytes(self):
         self.check([("CHARACTER STRING", "wider (any-content 0x3D)"), ("SEQUENCE { a T2 }", "SEQUENCE (required (wider ANY) ⨾ end)")])
@@ -158,4 +159,4 @@ class Definitions(unittest.TestCase):
         one = given("A ::= INTEGER (0..7)")
         one.meaning("A")
         declared = one.meanings.declarations.by_name["A"]
-        self.assertEqual(["-- A of M", "abbrev pub A : Notation", "A = INTEGER-from-to 0 7"], definition("A", declared.term, ["A of M"]))
+        self.assertEqual(["-- A of M", "abbrev pub A : Notation", "A = INTEGER-from-to 0 7"], definition("A", declared.term, ["A of M"], set()))

@@ -1,0 +1,234 @@
+"""A type of listed values (X.680, 51.2): a struct round those values of another type whose content is a listed one, or none of these."""
+from ..derive.derived_types import determined
+from ..meaning.declarations import ListedDeclaration
+from ..meaning.listed import PART, access_of
+from ..meaning.wording import snake
+from .comments import difference_note, sentence
+from .imports import PRELUDE, Uses
+from .layout import STEP, WIDTH, comment, head, signature
+from .newtype import notated_impl
+from .tested import constructor, tested_impls, tested_uses
+from .union import TRIED, element_impls, element_uses, equal_impl, parts, serialize_impl
+from .values import value_lines
+
+# the file of the terms of all listed values
+LISTED_FILE = "Listed"
+_TWO = STEP * 2
+_TRUTH, _RAW = "tree_truth", "raw_bytes"
+_PRELUDE_ORDER = ["ℕ", "Bool", "false", "not", "◌||◌", "nat_eq", "List", "[]", "◌∷◌"]
+_TERMS_WIDTH = 120
+
+
+def is_boolean(declared: ListedDeclaration) -> bool:
+    """Whether the type inside is BOOLEAN, which has no bytes as its content."""
+    return declared.type.name == "bool"
+
+
+def is_element(declared: ListedDeclaration) -> bool:
+    """Whether the type inside is any element, which has the first bytes that aren't listed."""
+    return declared.type.name == "Asn1RawDer"
+
+
+def is_encoded(declared: ListedDeclaration) -> bool:
+    """Whether the type inside is a value with its encoding, which isn't the listed one."""
+    return declared.type.name == "Encoded"
+
+
+def known(declared: ListedDeclaration, crate: str) -> tuple[str, str, dict[str, set[str]]]:
+    """The proof that the encoding alone decides the test, as `determined` has it."""
+    if not is_boolean(declared) and not is_element(declared):
+        return determined(declared)
+    of_tree = _TRUTH if is_boolean(declared) else _RAW
+    return f"(λ t. {declared.function} ({of_tree} t))", "e", {home(crate): {of_tree}}
+
+
+def home(crate: str) -> str:
+    """The module of the terms of listed values."""
+    return f"Rattle.{crate}.specs.{LISTED_FILE}"
+
+
+def listed_uses(declared: ListedDeclaration, crate: str) -> Uses:
+    """What the items of a type of listed values name."""
+    if is_encoded(declared):
+        found = element_uses(declared.type.names())
+        found.add(Uses(terms={home(crate): {declared.function}, PRELUDE: {"◌≡◌", "true", "false", "IfSome", "IfNone"}}))
+        return found
+    found = tested_uses(declared, known(declared, crate))
+    words = {"string_bytes"} if "string_bytes" in declared.test else set()
+    found.add(Uses({"Notated"}, terms={home(crate): {declared.function}, PRELUDE: {"◌≡◌", "true", "refl", *words}}))
+    return found
+
+
+def listed_lines(declared: ListedDeclaration, crate: str) -> list[str]:
+    """The items of a type of listed values."""
+    own = [*definition(declared), "", *function(declared)]
+    if not is_encoded(declared):
+        return [*own, "", *tested_impls(declared, known(declared, crate)), "", *notated_impl(declared)]
+    code = f"{PART}.encoding()"
+    items = [
+        constructor(declared),
+        equal_impl(declared.name, parts(declared.name), code),
+        serialize_impl(declared.name, code),
+        try_via_impl(declared),
+        *element_impls(declared.name),
+    ]
+    return [*own, *(line for it in items for line in ["", *it])]
+
+
+def try_via_impl(declared: ListedDeclaration) -> list[str]:
+    """The implementation of `TryVia` for a value with its encoding, whose twin is any element."""
+    return [
+        f"impl TryVia for {declared.name} {{",
+        f"{STEP}type As = Asn1RawDer;",
+        "",
+        f"{STEP}ghost parts = {{ λ it. it.{PART}.encoding }};",
+        "",
+        *signature(STEP, "try_from_parts", ["element: Asn1RawDer"], f"Result<{declared.name}>"),
+        f"{_TWO}if let Some({PART}) = {TRIED}(&element)? {{",
+        f"{_TWO}{STEP}if {declared.function}(&{PART}) {{",
+        f"{_TWO}{_TWO}return Ok({declared.name} {{ {PART} }});",
+        f"{_TWO}{STEP}}}",
+        f"{_TWO}}}",
+        f"{_TWO}Err(Asn1DerError::InvalidData)",
+        f"{STEP}}}",
+        "}",
+    ]
+
+
+def definition(declared: ListedDeclaration) -> list[str]:
+    """The struct with its comments, after the contents that its test names."""
+    lines = []
+    for name, content in zip(constants(declared), contents(declared)):
+        lines += [*value_lines(f"const {name}: &[u8] =", [f"0x{it:02X}" for it in content]), ""]
+    notation = "a later alternative, with another tag" if is_element(declared) else f"`{declared.notation}`"
+    what = "Each other value is `InvalidData`."
+    lines += comment("", "///", f"{sentence(declared.comment)} `{declared.source}` of {declared.module}: {notation}. {what}")
+    lines += difference_note(declared)
+    return [
+        *lines,
+        "#[derive(Debug, Drop)]" if is_encoded(declared) else "#[derive(Debug, Drop, PartialEq, Eq)]",
+        f"pub struct {declared.name} {{",
+        f"{STEP}{PART}: {declared.type},",
+        f"{STEP}ghost {declared.ghost}: {{ {declared.test} ≡ true }},",
+        "}",
+    ]
+
+
+def contents(declared: ListedDeclaration) -> list[bytes]:
+    """The contents that are listed, in their order. A BOOLEAN needs none, and the first bytes of elements are in one list."""
+    found = sorted(declared.contents.listed)
+    return [] if is_boolean(declared) else [b"".join(found)] if is_element(declared) else found
+
+
+def constants(declared: ListedDeclaration) -> list[str]:
+    """The names of the constants of the contents."""
+    count, first = len(contents(declared)), f"{snake(declared.name).upper()}_CONTENT"
+    return [first] if count == 1 else [f"{first}_{number}" for number in range(1, count + 1)]
+
+
+def function(declared: ListedDeclaration) -> list[str]:
+    """The function that tests a value."""
+    given = declared.type if is_boolean(declared) else f"&{declared.type}"
+    now = PART if is_boolean(declared) else f"{PART}.now"
+    clause = f"{declared.function} {access_of(declared).clause.replace(PART, now, 1)}"
+    return [
+        f"// Whether it is {'another value' if declared.contents.is_other else 'a listed value'}.",
+        *head("", f"fn {declared.function}", [f"{PART}: {given}"], "bool"),
+        f"{STEP}ensures {{ result ≡ {clause} }}",
+        "{",
+        *test(declared),
+        "}",
+    ]
+
+
+def test(declared: ListedDeclaration) -> list[str]:
+    """The test in code."""
+    if is_boolean(declared):
+        return [f"{STEP}{PART}" if is_true(declared) else f"{STEP}!{PART}"]
+    if is_element(declared):
+        (known_bytes,) = constants(declared)
+        return [
+            f"{STEP}match {access_of(declared).code} {{",
+            f"{_TWO}Some(first) => !{known_bytes}.contains(first),",
+            f"{_TWO}None => true,",
+            f"{STEP}}}",
+        ]
+    code = access_of(declared).code
+    parts = [f"{PART}.is({it})" if declared.type.name == "ObjectIdentifier" else f"{code} == {it}" for it in constants(declared)]
+    if declared.contents.is_other and len(parts) == 1:
+        return [f"{STEP}{parts[0].replace(' == ', ' != ')}" if " == " in parts[0] else f"{STEP}!{parts[0]}"]
+    before, after = (f"{STEP}!(", ")") if declared.contents.is_other else (STEP, "")
+    line = f"{before}{' || '.join(parts)}{after}"
+    if len(line) <= WIDTH:
+        return [line]
+    ends = ["" for _ in parts[1:]] + [after]
+    begins = [before, *(f"{_TWO}|| " for _ in parts[1:])]
+    return [line for begin, part, end in zip(begins, parts, ends) for line in part_lines(begin, part, end)]
+
+
+def part_lines(before: str, part: str, after: str) -> list[str]:
+    """A part of a test: on one line, or with the argument of its call on a line of its own."""
+    name, bracket, argument = part.partition("(")
+    if len(f"{before}{part}{after}") <= WIDTH or not bracket:
+        return [f"{before}{part}{after}"]
+    return [f"{before}{name}(", f"{_TWO}{STEP}{argument.removesuffix(')')},", f"{_TWO}){after}"]
+
+
+def is_true(declared: ListedDeclaration) -> bool:
+    """Whether TRUE is the value of a BOOLEAN that is left."""
+    return (b"\xff" in declared.contents.listed) != declared.contents.is_other
+
+
+# ---- terms
+
+
+def listed_terms(types: list[ListedDeclaration]) -> list[str]:
+    """The lines of the file of terms, after its first one."""
+    body = [line for it in types for line in ["", *terms_of(it)]]
+    truth, raw = any(map(is_boolean, types)), any(map(is_element, types))
+    used = " ".join(it for it in body if not it.startswith("--"))
+    names = [it for it in _PRELUDE_ORDER if it.replace("◌", "") in used or it == "false" and truth or it in ("List", "ℕ", "[]") and raw]
+    lines = ["-- The contents of listed values, which their contracts cite.", f"use {PRELUDE}.{{{', '.join(names)}}}"]
+    if "pointwise" in used:
+        lines.append("use Rattle.std.specs.Cmp.Lexicographic.{pointwise}")
+    if "begins_outside" in used:
+        lines.append("use Rattle.picky_der_core.specs.Shape.{begins_outside}")
+    lines += ["use Rattle.picky_der_core.specs.Primitive.{Primitive}"] if truth else []
+    lines += ["use Rattle.picky_der_core.specs.Tree.{Tree}"] if truth or raw else []
+    if raw:
+        lines += ["", "-- the bytes of any element by its tree", f"abbrev pub {_RAW} : Tree → List ℕ", f"{_RAW} (Tree.raw s) = s", f"{_RAW} _ = []"]
+    if truth:
+        lines += ["", "-- what a BOOLEAN is by its tree", f"abbrev pub {_TRUTH} : Tree → Bool"]
+        lines += [f"{_TRUTH} (Tree.primitive (Primitive.boolean b)) = b", f"{_TRUTH} _ = false"]
+    return [*lines, *body]
+
+
+def terms_of(declared: ListedDeclaration) -> list[str]:
+    """The test of the content of one type."""
+    name, kind = declared.function, "Bool" if is_boolean(declared) else "List ℕ"
+    lines = [*comment("", "--", f"{declared.source} of {declared.module}: {declared.notation}"), f"abbrev pub {name} : {kind} → Bool"]
+    if is_boolean(declared):
+        return [*lines, f"{name} b = {'b' if is_true(declared) else 'not b'}"]
+    if is_element(declared):
+        parts, before, after = [f"begins_outside ({' ∷ '.join([*(f'0x{byte:02X}' for byte in contents(declared)[0]), '[]'])}) s"], "", ""
+        whole = f"{name} s = {parts[0]}"
+        return [*lines, whole] if len(whole) <= _TERMS_WIDTH else [*lines, f"{name} s =", *broken(parts, after)]
+    parts = [f"pointwise nat_eq s ({' ∷ '.join([*(f'0x{byte:02X}' for byte in it), '[]'])})" for it in contents(declared)]
+    before, after = ("not (", ")") if declared.contents.is_other else ("", "")
+    whole = f"{name} s = {before}{' || '.join(parts)}{after}"
+    return [*lines, whole] if len(whole) <= _TERMS_WIDTH else [*lines, f"{name} s = {before}".rstrip(), *broken(parts, after)]
+
+
+def broken(parts: list[str], after: str) -> list[str]:
+    """The parts of a test, each on lines of its own that are short enough."""
+    lines = []
+    for number, it in enumerate(parts):
+        words, now = (f"|| {it}" if number else it).split(" "), STEP
+        for word in words:
+            if len(f"{now} {word}") > _TERMS_WIDTH:
+                lines.append(now)
+                now = f"{STEP}{word}"
+            else:
+                now = f"{now}{word}" if now == STEP else f"{now} {word}"
+        lines.append(now)
+    return [*lines[:-1], f"{lines[-1]}{after}"]
