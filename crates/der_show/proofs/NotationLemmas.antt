@@ -261,6 +261,7 @@ mutual
   checked (Notation.restricted-string tag) e t d = subst IsChecked (sym d.1) (strings tag e d.0 d.2)
   checked (Notation.any-content tag) e t d = subst IsChecked (sym d.1) (content_tag tag d.0 e)
   checked Notation.any-element e t d = cc
+  checked Notation.well-formed-element e t d = cc
   checked (Notation.sequence ms) e t d = subst IsChecked (sym d.1) (members_checked ms e d.0 d.2)
   checked (Notation.choice ts) e t d = subst IsChecked (sym d.1) (alternatives_checked ts e d.0 d.2)
   checked (Notation.list-of kind n) e t d = subst IsChecked (sym d.1) (each_checked (Denotes n) (checked n e) d.0 d.2)

@@ -45,6 +45,7 @@ abbrev mutual
   is_checked (Notation.restricted-string tag) = contains string_tags tag
   is_checked (Notation.any-content tag) = is_content_tag tag
   is_checked Notation.any-element = false
+  is_checked Notation.well-formed-element = false
   is_checked (Notation.sequence ms) = are_members_checked ms
   is_checked (Notation.choice ts) = are_alternatives_checked ts
   is_checked (Notation.list-of kind t) = is_checked t

@@ -16,6 +16,7 @@ use Rattle.der_types.specs.Constraints.{is_size, is_between, tree_bytes, list_si
 use Rattle.der_types.specs.ContentTypes.{ContentType, tag_of, test_of, size_of, string_width, string_character}
 use Rattle.der_types.specs.Notation.{Notation, Member, Members, Alternatives}
 use Rattle.der_types.specs.PrimitiveForm.{primitive_form}
+use Rattle.der_types.specs.WellFormed.{IsWellFormed}
 
 -- ---- numbers and sizes
 
@@ -92,6 +93,7 @@ abbrev mutual
       HasContent tag (is_string_content (string_width tag) (string_character tag))
   Denotes (Notation.any-content tag) = IsMade (content_tree tag) (λ s. ⊤)
   Denotes Notation.any-element = IsMade Tree.raw (λ s. ⊤)
+  Denotes Notation.well-formed-element = IsMade Tree.raw (λ s. ∥ IsWellFormed s ∥₁)
   Denotes (Notation.sequence ms) = IsMade (Tree.list ListKind.sequence) (DenoteMembers ms)
   Denotes (Notation.choice ts) = IsMade Tree.choice (DenoteOneOf ts)
   Denotes (Notation.list-of kind t) = IsMade (Tree.list kind) (EachIs (Denotes t))

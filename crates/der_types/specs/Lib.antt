@@ -56,3 +56,5 @@ pub mod TimeContents
 pub mod TimeLaws
 pub mod TimeSameness
 pub mod TimeValues
+pub mod WellFormed
+pub mod WellFormedLaws

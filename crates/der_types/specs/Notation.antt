@@ -35,6 +35,8 @@ mutual
     -- any content under this tag; and any element, as of an open type (X.681, 14.2)
     any-content : ℕ → Notation
     any-element : Notation
+    -- one in which there are elements at every depth, if it is constructed
+    well-formed-element : Notation
     -- 25, 29
     sequence : Members → Notation
     choice : Alternatives → Notation
@@ -89,6 +91,7 @@ abbrev mutual
   shape_of (Notation.restricted-string tag) = Shape.primitive (PrimitiveShape.bytes tag)
   shape_of (Notation.any-content tag) = Shape.primitive (PrimitiveShape.bytes tag)
   shape_of Notation.any-element = Shape.raw
+  shape_of Notation.well-formed-element = Shape.raw
   shape_of (Notation.sequence ms) = Shape.fields ListKind.sequence (layout_of ms)
   shape_of (Notation.choice ts) = Shape.choice (shapes_of ts)
   shape_of (Notation.list-of kind t) = Shape.list_of kind (shape_of t)

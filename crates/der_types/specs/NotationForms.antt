@@ -343,6 +343,7 @@ has_header _ = false
 abbrev implicit : TagClass → ℕ → Notation → Notation
 implicit class n (Notation.choice ts) = explicit class n (Notation.choice ts)
 implicit class n Notation.any-element = explicit class n Notation.any-element
+implicit class n Notation.well-formed-element = explicit class n Notation.well-formed-element
 implicit class n (Notation.wrapped (wrapper.Explicit m) t) = explicit class n t
 implicit class n (Notation.wrapped (wrapper.Application m) t) = explicit class n t
 implicit class n (Notation.wrapped (wrapper.Implicit m) t) = over_primitive class n t

@@ -40,6 +40,7 @@ use Rattle.der_types.specs.Exact.{IsExact, Values, ProvedValues, is_exact}
 use Rattle.der_types.specs.ExactEnumerated.{one_byte}
 use Rattle.der_types.specs.Notation.{Notation, Member, Members, Alternatives}
 use Rattle.der_types.specs.PrimitiveForm.{primitive_form}
+use Rattle.der_types.specs.WellFormedLaws.{null_well_formed}
 
 -- ---- tests that are done while a tree is made
 
@@ -503,6 +504,12 @@ abbrev mutual
   sample_of wish Notation.any-element =
       Some (sample Notation.any-element (Tree.raw (0x05 ∷ 0x00 ∷ [])) (0x05 ∷ 0x00 ∷ [], refl, tt) null_element_readable
       two_short)
+  sample_of wish Notation.well-formed-element =
+      Some (sample Notation.well-formed-element (Tree.raw (0x05 ∷ 0x00 ∷ [])) (
+        0x05 ∷ 0x00 ∷ [],
+        refl,
+        ∣ null_well_formed ∣₁,
+      ) null_element_readable two_short)
   sample_of wish (Notation.sequence ms) = with (members_sample ms) (sequence_sample ms)
   sample_of wish (Notation.choice ts) = with (alternative_sample ts) (λ x. Some (choice_sample ts x))
   sample_of (pos zero) (Notation.list-of kind n) = Some (empty_sample kind n)
