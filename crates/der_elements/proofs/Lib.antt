@@ -1,0 +1,2 @@
+mod WellFormedLemmas
+mod Later
