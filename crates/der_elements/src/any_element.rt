@@ -24,6 +24,7 @@ use picky_der_de::{
 };
 use picky_der_ser::{Serialize, Serializer, to_vec};
 use std::alloc::Global;
+use std::fmt;
 use std::hash::Hash;
 
 /// One element of DER, whatever its type: a value of an open type (X.681, 14.2), or of ANY. If it is constructed, there
@@ -31,7 +32,7 @@ use std::hash::Hash;
 ///
 /// On reading, `InvalidData` if the next element isn't such a one; it has been consumed completely then. Any other
 /// error is one of `Asn1RawDer`.
-#[derive(Debug, Drop, PartialEq, Eq, PartialOrd, Hash)]
+#[derive(Drop, PartialEq, Eq, PartialOrd, Hash)]
 pub struct AnyElement {
     element: Asn1RawDer,
     ghost well_formed: { ∥ IsWellFormed element.0.items ∥₁ },
@@ -75,7 +76,7 @@ impl AnyElement {
         ensures value { result.now ≡ self.now.element.0.items }
         ensures well_formed { ∥ IsWellFormed result.now ∥₁ }
     {
-        &self.element.0
+        self.element.0.as_slice()
     }
 
     /// Returns the element as one of which nothing is known.
@@ -112,6 +113,13 @@ impl AnyElement {
         Ok(AnyElement {
             element: self.element.clone()?,
         })
+    }
+}
+
+/// The bytes in hexadecimal, as `Asn1RawDer` prints them: `RawDer(0x020107)`.
+impl fmt::Debug for AnyElement {
+    fn fmt<W: fmt::Write>(&self, f: &mut fmt::Formatter<W>) -> fmt::Result {
+        self.element.fmt(f)
     }
 }
 
