@@ -39,47 +39,49 @@ pub remain_all : (bytes : List ℕ) → Remain bytes bytes []
 remain_all bytes = (λ are. (are, tt), λ both. both.0)
 
 -- the last ones for later, where nothing is left before them
-module _ (bytes rest : List ℕ) (old new : List (Bor (List ℕ))) (nothing : rest ≡ []) (remain : Remain bytes rest old) where
-  empty : AreWellFormed rest
-  empty = subst AreWellFormed (sym nothing) AreWellFormed.none
+module _ (bytes rest : List ℕ) (old new : List (Bor (List ℕ))) (nothing : rest ≡ []) (remain : Remain bytes rest old)
+  where
+    empty : AreWellFormed rest
+    empty = subst AreWellFormed (sym nothing) AreWellFormed.none
 
-  pub remain_others : (others : Bor (List ℕ)) → old ≡ new ++ (others ∷ []) → Remain bytes others.now new
-  remain_others others e = (
-    λ are. let p = all_before new others (subst AreAll e (remain.0 are).1) in (p.1, p.0),
-    λ both. remain.1 (empty, subst AreAll (sym e) (all_after new others both.1 both.0)),
-  )
+    pub remain_others : (others : Bor (List ℕ)) → old ≡ new ++ (others ∷ []) → Remain bytes others.now new
+    remain_others others e = (
+      λ are. let p = all_before new others (subst AreAll e (remain.0 are).1) in (p.1, p.0),
+      λ both. remain.1 (empty, subst AreAll (sym e) (all_after new others both.1 both.0)),
+    )
 
-  pub size_others : (others : Bor (List ℕ)) → old ≡ new ++ (others ∷ [])
-      → length others.now + size new < length rest + size old
-  size_others others e = omega (arith, ap size e, size_after new others)
+    pub size_others : (others : Bor (List ℕ)) → old ≡ new ++ (others ∷ [])
+        → length others.now + size new < length rest + size old
+    size_others others e = omega (arith, ap size e, size_after new others)
 
-  pub remain_none : old ≡ [] → AreWellFormed bytes
-  remain_none e = remain.1 (empty, subst AreAll (sym e) tt)
+    pub remain_none : old ≡ [] → AreWellFormed bytes
+    remain_none e = remain.1 (empty, subst AreAll (sym e) tt)
 
 -- the element at the front
 module _ (bytes rest : List ℕ) (later : List (Bor (List ℕ))) (tag : ℕ) (content after : List ℕ)
-    (front : IsFront rest tag content after) (identifier : is_identifier tag ≡ true) (remain : Remain bytes rest later) where
-  pub remain_after : is_constructed tag ≡ false → Remain bytes after later
-  remain_after bit =
-      let by = by_primitive rest tag content after front identifier bit in (
-        λ are. let p = remain.0 are in (by.0 p.0, p.1),
-        λ both. remain.1 (by.1 both.0, both.1),
-      )
-
-  module _ (bit : is_constructed tag ≡ true) where
-    pub remain_inside : (others : Bor (List ℕ)) → others.now ≡ after → Remain bytes content (later ++ (others ∷ []))
-    remain_inside others same =
-        let by = by_constructed rest tag content after front identifier bit in (
-          λ are. let p = remain.0 are in
-              let q = by.0 p.0 in
-              (q.0, all_after later others p.1 (subst AreWellFormed (sym same) q.1)),
-          λ both. let q = all_before later others both.1 in
-              remain.1 (by.1 (both.0, subst AreWellFormed same q.1), q.0),
+    (front : IsFront rest tag content after) (identifier : is_identifier tag ≡ true) (remain : Remain bytes rest later)
+  where
+    pub remain_after : is_constructed tag ≡ false → Remain bytes after later
+    remain_after bit =
+        let by = by_primitive rest tag content after front identifier bit in (
+          λ are. let p = remain.0 are in (by.0 p.0, p.1),
+          λ both. remain.1 (by.1 both.0, both.1),
         )
 
-    pub remain_last : after ≡ [] → Remain bytes content later
-    remain_last none =
-        let by = by_constructed rest tag content after front identifier bit in (
-          λ are. let p = remain.0 are in ((by.0 p.0).0, p.1),
-          λ both. remain.1 (by.1 (both.0, subst AreWellFormed (sym none) AreWellFormed.none), both.1),
-        )
+    module _ (bit : is_constructed tag ≡ true) where
+      pub remain_inside : (others : Bor (List ℕ)) → others.now ≡ after → Remain bytes content (later ++ (others ∷ []))
+      remain_inside others same =
+          let by = by_constructed rest tag content after front identifier bit in (
+            λ are. let p = remain.0 are in
+                let q = by.0 p.0 in
+                (q.0, all_after later others p.1 (subst AreWellFormed (sym same) q.1)),
+            λ both. let q = all_before later others both.1 in
+                remain.1 (by.1 (both.0, subst AreWellFormed same q.1), q.0),
+          )
+
+      pub remain_last : after ≡ [] → Remain bytes content later
+      remain_last none =
+          let by = by_constructed rest tag content after front identifier bit in (
+            λ are. let p = remain.0 are in ((by.0 p.0).0, p.1),
+            λ both. remain.1 (by.1 (both.0, subst AreWellFormed (sym none) AreWellFormed.none), both.1),
+          )

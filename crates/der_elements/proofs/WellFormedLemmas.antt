@@ -1,5 +1,6 @@
 -- Elements one after another, by the first of them.
-use Rattle.std.proofs.Common.{◌≡◌, ◌≢◌, ℕ, ◌+◌, ◌^◌, ◌<◌, ◌≤◌, Bool, true, false, List, [], ◌∷◌, ◌++◌, length, refl, sym}
+use Rattle.std.proofs.Common.{◌≡◌, ◌≢◌, ℕ, ◌+◌, ◌^◌, ◌<◌, ◌≤◌, Bool, true, false, List, [], ◌∷◌, ◌++◌, length, refl}
+use Rattle.std.proofs.Common.{sym}
 use Rattle.std.proofs.Common.{ap, subst, ◌∙◌, arith, append_assoc, append-nil, length-append, get_or}
 use Rattle.std.specs.Prelude.{slice_range}
 use Rattle.std.proofs.lemmas.Slice.{first_rest}
@@ -83,7 +84,8 @@ none_after bytes tag content after f one =
 
 pub not_one : (bytes : List ℕ) → HasNoFront bytes → IsElement bytes → ⊥
 not_one bytes none one =
-    none one.tag one.content [] (record { number = one.number; is = one.is ∙ sym (append-nil (tlv one.tag one.content)) })
+    none one.tag one.content []
+    (record { number = one.number; is = one.is ∙ sym (append-nil (tlv one.tag one.content)) })
 
 -- ---- well-formed elements by the first of them
 

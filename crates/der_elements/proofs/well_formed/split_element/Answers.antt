@@ -1,4 +1,5 @@
-use Rattle.std.proofs.Common.{◌≡◌, ◌++◌, ◌^◌, ◌<◌, length, take, drop, sym, ap, ◌∙◌, arith, take-append-drop, length-take-le, subst}
+use Rattle.std.proofs.Common.{◌≡◌, ◌++◌, ◌^◌, ◌<◌, length, take, drop, sym, ap, ◌∙◌, arith, take-append-drop}
+use Rattle.std.proofs.Common.{length-take-le, subst}
 use Rattle.std.specs.Prelude.{slice_range}
 use Rattle.picky_der_core.specs.Element.{length_octets}
 use Rattle.der_elements.proofs.WellFormedLemmas.{no_bytes, first_of, is_front, no_number, no_length, too_long}
@@ -28,7 +29,8 @@ returns-then-len-rest-clause-none c =
 pub returns-clause-some : goal.returns-clause-some
 returns-clause-some c =
     let rest = c.in-Some.rest.now in
-    let size : length (take c.in-Some.len rest) ≡ c.in-Some.len = length-take-le c.in-Some.len rest c.if-len-rest.false in
+    let size : length (take c.in-Some.len rest) ≡ c.in-Some.len =
+    length-take-le c.in-Some.len rest c.if-len-rest.false in
     let split : rest ≡ c.split_at.result.0.now ++ c.split_at.result.1.now =
     sym (take-append-drop c.in-Some.len rest) ∙ ap (λ b. b ++ drop c.in-Some.len rest) (sym c.split_at.ensures.front)
     ∙ ap (λ b. c.split_at.result.0.now ++ b) (sym c.split_at.ensures.back) in
