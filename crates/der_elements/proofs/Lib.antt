@@ -1,2 +1,3 @@
 mod WellFormedLemmas
 mod Later
+mod NoValues

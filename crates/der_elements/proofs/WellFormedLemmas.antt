@@ -100,16 +100,16 @@ parts : (bytes : List ℕ) → AreWellFormed bytes → (tag : ℕ) (content afte
 unfolding tlv
 parts _ AreWellFormed.none tag content after e =
     let bad : [] ≡ tag ∷ ((length_octets (length content) ++ content) ++ after) = e in
-    cc
-parts bytes (AreWellFormed.primitive _ t c r is number identifier bit others) tag content after e =
+    absurd (cc)
+parts _ (AreWellFormed.primitive bytes t c r is number identifier bit others) tag content after e =
     let (tags, contents, rests) = tlv_prefix t tag c content r after (sym is ∙ e) in
     record {
       identifier = subst (λ x. is_identifier x ≡ true) tags identifier;
       inside = λ set. let clear : is_constructed tag ≡ false = subst (λ x. is_constructed x ≡ false) tags bit in
-          let bad : true ≡ false = sym set ∙ clear in cc;
+          let bad : true ≡ false = sym set ∙ clear in absurd (cc);
       others = subst AreWellFormed rests others;
     }
-parts bytes (AreWellFormed.constructed _ t c r is number identifier bit inside others) tag content after e =
+parts _ (AreWellFormed.constructed bytes t c r is number identifier bit inside others) tag content after e =
     let (tags, contents, rests) = tlv_prefix t tag c content r after (sym is ∙ e) in
     record {
       identifier = subst (λ x. is_identifier x ≡ true) tags identifier;
@@ -122,7 +122,7 @@ module _ (bytes : List ℕ) (tag : ℕ) (content after : List ℕ) (front : IsFr
   none_identified wrong are =
       let right = (parts bytes are tag content after front.is).identifier in
       let bad : true ≡ false = sym right ∙ wrong in
-      cc
+      absurd (cc)
 
   module _ (identifier : is_identifier tag ≡ true) where
     pub by_primitive : is_constructed tag ≡ false
@@ -143,9 +143,9 @@ module _ (bytes : List ℕ) (tag : ℕ) (content after : List ℕ) (front : IsFr
 -- the first bytes of some elements are an element
 pub front_of_some : (bytes : List ℕ) → AreWellFormed bytes → 0 < length bytes → HasNoFront bytes → ⊥
 front_of_some _ AreWellFormed.none some none = absurd (omega arith)
-front_of_some bytes (AreWellFormed.primitive _ tag content after is number identifier bit others) some none =
+front_of_some _ (AreWellFormed.primitive bytes tag content after is number identifier bit others) some none =
     none tag content after (record { number = number; is = is })
-front_of_some bytes (AreWellFormed.constructed _ tag content after is number identifier bit inside others) some none =
+front_of_some _ (AreWellFormed.constructed bytes tag content after is number identifier bit inside others) some none =
     none tag content after (record { number = number; is = is })
 
 -- an element is at least a tag and a length
