@@ -97,7 +97,7 @@ module _ (permitted : Option (List (ℕ × ℕ))) (tag : ℕ) (width : Width) (i
   module _ {V : Type 0} (content : V → List ℕ) (valid : (v : V)
       → is_string_content width is_character (content v) ≡ true) (whole : (s : List ℕ)
       → is_string_content width is_character s ≡ true → length s < 2 ^ 63 → (v : V) × (content v ≡ s)) where
-    strings_exact : IsSetOf (string_notation tag permitted) tag width is_character
+    pub strings_exact : IsSetOf (string_notation tag permitted) tag width is_character
         → IsExact (Denotes (string_notation tag permitted)) (λ v. content_tree tag (content v))
     strings_exact set = record {
       sound = λ v r. set.denoted (content v) (valid v);

@@ -96,9 +96,9 @@ fn refused_always<T: Deserialize>(alloc: Global) -> Option<Asn1DerError>
 /// The next of several values in a reader, of at most `max_len` bytes, or `None` if the reader has no bytes left. Bytes
 /// after the value are left in the reader.
 ///
-/// The errors are those of `from_reader_with_max_len`, by the type's rule. `TruncatedData` for a value that is cut short,
-/// and for a limit of 0. If no value of the type can be read, as with a tag number past 30, the error comes before a
-/// byte is read.
+/// The errors are those of `from_reader_with_max_len`, by the type's rule. `TruncatedData` for a value that is cut
+/// short, and for a limit of 0. If no value of the type can be read, as with a tag number past 30, the error comes
+/// before a byte is read.
 pub fn next_from_reader<T: Deserialize, R: ReadExt>(
     alloc: Global,
     reader: &mut R,
