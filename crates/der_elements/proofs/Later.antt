@@ -1,6 +1,6 @@
 -- The bytes that are still to be looked at.
-use Rattle.std.proofs.Common.{◌≡◌, ℕ, ◌+◌, ◌<◌, ◌≤◌, Bool, true, false, List, [], ◌∷◌, ◌++◌, length, Option, Some, None}
-use Rattle.std.proofs.Common.{refl, sym, ap, subst, ◌∙◌, arith}
+use Rattle.std.proofs.Common.{◌≡◌, ℕ, ◌+◌, ◌<◌, ◌≤◌, ◌==◌, Bool, true, false, List, [], ◌∷◌, ◌++◌, length, Option, Some, None}
+use Rattle.std.proofs.Common.{refl, sym, ap, subst, ◌∙◌, arith, eqb-true}
 use Rattle.std.specs.Prelude.{◌↔◌}
 use Rattle.std.specs.Borrow.{Bor}
 use Rattle.std.specs.Option.{option_to_list}
@@ -8,6 +8,18 @@ use Rattle.picky_der_core.specs.Tag.{is_constructed}
 use Rattle.der_elements.specs.Fronts.{IsFront}
 use Rattle.der_types.specs.WellFormed.{is_identifier, AreWellFormed}
 use Rattle.der_elements.proofs.WellFormedLemmas.{by_primitive, by_constructed, front_longer}
+
+pub none_left : (xs : List ℕ) (b : Bool) → b ≡ (length xs == 0) → b ≡ true → xs ≡ []
+none_left [] b e h = refl
+none_left (x ∷ xs) b e h = absurd (omega (arith, eqb-true (length (x ∷ xs)) 0 (sym e ∙ h)))
+
+pub some_left : (xs : List ℕ) (b : Bool) → b ≡ (length xs == 0) → b ≡ false → 0 < length xs
+some_left [] b e h = let bad : false ≡ true = sym h ∙ e in absurd (cc)
+some_left (x ∷ xs) b e h = omega arith
+
+pub no_more : (xs : List (Bor (List ℕ))) → length xs ≡ 0 → xs ≡ []
+no_more [] e = refl
+no_more (x ∷ xs) e = absurd (omega arith)
 
 -- each of them is elements
 abbrev pub AreAll : List (Bor (List ℕ)) → Type 0
@@ -67,6 +79,17 @@ module _ (bytes rest : List ℕ) (later : List (Bor (List ℕ))) (tag : ℕ) (co
           λ are. let p = remain.0 are in (by.0 p.0, p.1),
           λ both. remain.1 (by.1 both.0, both.1),
         )
+
+    pub size_after_one : length after + size later < length rest + size later
+    size_after_one = omega (arith, front_longer rest tag content after front)
+
+    pub size_last : length content + size later < length rest + size later
+    size_last = omega (arith, front_longer rest tag content after front)
+
+    pub size_inside : (others : Bor (List ℕ)) → others.now ≡ after
+        → length content + size (later ++ (others ∷ [])) < length rest + size later
+    size_inside others same =
+        omega (arith, front_longer rest tag content after front, size_after later others, ap length same)
 
     module _ (bit : is_constructed tag ≡ true) where
       pub remain_inside : (others : Bor (List ℕ)) → others.now ≡ after → Remain bytes content (later ++ (others ∷ []))

@@ -1,12 +1,14 @@
 -- Elements one after another, by the first of them.
 use Rattle.std.proofs.Common.{◌≡◌, ◌≢◌, ℕ, ◌+◌, ◌^◌, ◌<◌, ◌≤◌, Bool, true, false, List, [], ◌∷◌, ◌++◌, length, refl}
-use Rattle.std.proofs.Common.{sym}
+use Rattle.std.proofs.Common.{sym, inl, inr}
 use Rattle.std.proofs.Common.{ap, subst, ◌∙◌, arith, append_assoc, append-nil, length-append, get_or}
-use Rattle.std.specs.Prelude.{slice_range}
+use Rattle.std.specs.Prelude.{◌⊎◌, slice_range}
+use Rattle.std.proofs.lemmas.Bool.{cases_lt}
 use Rattle.std.proofs.lemmas.Slice.{first_rest}
 use Rattle.picky_der_core.specs.Tag.{number_of, IsTagNumber, is_constructed}
 use Rattle.picky_der_core.specs.Element.{tlv, length_octets, IsElement, IsPrefix}
-use Rattle.picky_der_core.specs.ElementLaws.{tlv_prefix, length_octets_prefix}
+use Rattle.picky_der_core.specs.ElementLaws.{tlv_prefix, length_octets_prefix, length_octets-short}
+use Rattle.picky_der_core.specs.ElementLaws.{length_octets-long}
 use Rattle.der_elements.specs.Fronts.{IsFront, HasNoFront}
 use Rattle.der_types.specs.WellFormed.{is_identifier, AreWellFormed}
 
@@ -140,6 +142,14 @@ module _ (bytes : List ℕ) (tag : ℕ) (content after : List ℕ) (front : IsFr
       λ both. AreWellFormed.constructed bytes tag content after front.is front.number identifier bit both.0 both.1,
     )
 
+-- a length is at least one byte
+some_octets : (n : ℕ) → 0 < length (length_octets n)
+some_octets n = by (cases_lt n 0x80)
+  where
+    by : (n < 0x80) ⊎ (0x80 ≤ n) → 0 < length (length_octets n)
+    by (inl short) = omega (arith, ap length (length_octets-short n short))
+    by (inr long) = omega (arith, ap length (length_octets-long n long))
+
 -- the first bytes of some elements are an element
 pub front_of_some : (bytes : List ℕ) → AreWellFormed bytes → 0 < length bytes → HasNoFront bytes → ⊥
 front_of_some _ AreWellFormed.none some none = absurd (omega arith)
@@ -150,7 +160,7 @@ front_of_some _ (AreWellFormed.constructed bytes tag content after is number ide
 
 -- an element is at least a tag and a length
 pub front_longer : (bytes : List ℕ) (tag : ℕ) (content after : List ℕ) → IsFront bytes tag content after
-    → length content + length after < length bytes
+    → 1 + length content + length after < length bytes
 unfolding tlv
 front_longer bytes tag content after front =
     omega (
@@ -158,4 +168,5 @@ front_longer bytes tag content after front =
       ap length front.is,
       length-append (tlv tag content) after,
       length-append (length_octets (length content)) content,
+      some_octets (length content),
     )

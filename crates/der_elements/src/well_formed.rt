@@ -17,10 +17,9 @@ const UNIVERSAL_IDENTIFIERS: [u8; 31] = [
 ];
 
 // Whether encodings of some type have this identifier byte.
-fn is_identifier(tag: Tag) -> bool
-    ensures { result ≡ is_identifier tag }
+fn is_identifier(byte: u8) -> bool
+    ensures { result ≡ is_identifier byte }
 {
-    let byte = tag.inner();
     UNIVERSAL_IDENTIFIERS.contains(&byte) || byte >= 0x40
 }
 
@@ -36,9 +35,9 @@ fn split_length(bytes: &[u8]) -> Option<(usize, &[u8])>
     }
 }
 
-// The tag and the content of the element at the front of these bytes, and the bytes after it, or `None` if no element
-// is there.
-fn split_element(bytes: &[u8]) -> Option<(Tag, &[u8], &[u8])>
+// The identifier byte and the content of the element at the front of these bytes, and the bytes after it, or `None` if
+// no element is there.
+fn split_element(bytes: &[u8]) -> Option<(u8, &[u8], &[u8])>
     ensures some { IfSome result (λ it. IsFront bytes.now it.0 it.1.now it.2.now) }
     ensures none { IfNone result (HasNoFront bytes.now) }
 {
@@ -56,7 +55,7 @@ fn split_element(bytes: &[u8]) -> Option<(Tag, &[u8], &[u8])>
         return None;
     }
     let (content, after) = rest.split_at(len);
-    Some((tag, content, after))
+    Some((*first, content, after))
 }
 
 /// Returns whether the bytes are elements of DER, one after another, whatever their types. Each has a tag of the short
@@ -78,14 +77,14 @@ pub fn are_well_formed(alloc: Global, bytes: &[u8]) -> Result<bool, AllocError>
             }
             continue;
         }
-        let Some((tag, content, after)) = split_element(rest) else {
+        let Some((identifier, content, after)) = split_element(rest) else {
             return Ok(false);
         };
-        if !is_identifier(tag) {
+        if !is_identifier(identifier) {
             return Ok(false);
         }
         rest = after;
-        if tag.is_constructed() {
+        if Tag::from(identifier).is_constructed() {
             if !after.is_empty() {
                 later.push(after)?;
             }

@@ -2,6 +2,7 @@ use Rattle.std.proofs.Common.{◌≡◌, ◌++◌, ◌^◌, ◌<◌, length, tak
 use Rattle.std.proofs.Common.{length-take-le, subst}
 use Rattle.std.specs.Prelude.{slice_range}
 use Rattle.picky_der_core.specs.Element.{length_octets}
+use Rattle.der_elements.specs.Fronts.{IsFront}
 use Rattle.der_elements.proofs.WellFormedLemmas.{no_bytes, first_of, is_front, no_number, no_length, too_long}
 use Rattle.der_elements.proofs.well_formed.split_element.Goals as goal
 
@@ -35,8 +36,9 @@ returns-clause-some c =
     sym (take-append-drop c.in-Some.len rest) ∙ ap (λ b. b ++ drop c.in-Some.len rest) (sym c.split_at.ensures.front)
     ∙ ap (λ b. c.split_at.result.0.now ++ b) (sym c.split_at.ensures.back) in
     let same : c.in-Some.len ≡ length c.split_at.result.0.now = sym size ∙ ap length (sym c.split_at.ensures.front) in
-    is_front c.args.bytes.now c.from-tag.result _
+    subst (λ t. IsFront c.args.bytes.now t c.split_at.result.0.now c.split_at.result.1.now) c.from-tag.ensures
+    (is_front c.args.bytes.now c.from-tag.result _
     (first_of c.args.bytes.now c.from-tag.result c.from-tag.ensures c.in-len1-up.len_at_least)
     c.split_at.result.0.now c.split_at.result.1.now (omega (arith, c.number.ensures, c.if-number-gt-MAX_NUMBER.false))
     (c.in-Some.ensures.some ∙ ap (λ n. length_octets n ++ rest) same
-    ∙ ap (λ b. length_octets (length c.split_at.result.0.now) ++ b) split)
+    ∙ ap (λ b. length_octets (length c.split_at.result.0.now) ++ b) split))
