@@ -3,7 +3,8 @@
     der_asn1 --report [--types] [OPTION ..] MODULE.asn1 ..
     der_asn1 --print crates/NAME/specs/Notation.antt ..
     der_asn1 --out crates/NAME [--type TYPE,..] [--group FILE=TYPE,..] [--crate MODULE=CRATE ..] [--distinct TYPE,..] [--own MODULE=NAME,..]
-        [--own-terms NAME,..] [--check] [--allow-raw [TYPE,..]] [--allow-wider [TYPE,..]] [OPTION ..] MODULE.asn1 ..
+        [--own-terms NAME,..] [--constructors [TYPE,..]] [--check] [--allow-raw [TYPE,..]] [--allow-wider [TYPE,..]]
+        [OPTION ..] MODULE.asn1 ..
     der_asn1 derive [--check] FILE.rt ..
 
 `derive` is in derive.py, and writes what the structs and enums of a file of Rust need.
@@ -27,6 +28,8 @@ The types of a module are in one file, which has the module's name, or is `types
 own in the crate are left alone, which are files with the folders of their names: `--own MODULE=NAME,..` names a module of `src` with the
 names of it that the root exports, and `--own-terms NAME,..` names modules of `specs`.
 
+`--constructors` writes constructors of the structs of all types, or of these. Names of bits, numbers and items are constants in `named.rt`.
+
 A file after `--import` is read for the names that the modules import. `--strict` refuses what the standard doesn't allow and is otherwise
 accepted. The status is 1 if there is an error.
 """
@@ -44,6 +47,7 @@ from .emit.values import values_of
 from .meaning.causes import Allowed, refuse
 from .meaning.declarations import Declarations, NewtypeDeclaration
 from .meaning.meaning import lacks
+from .meaning.named import constants_of, names_of
 from .meaning.module_checks import ModuleChecks, identified
 from .meaning.other_crates import OtherCrates, other_crates
 from .meaning.scopes import Program
@@ -57,7 +61,7 @@ from .report import report_of, types_table, whole
 # types inside of each other, each of which takes some calls
 _DEPTH = 10000
 # the options that may be for some types alone, and the names of types
-_OF_TYPES, _TYPES = ("--allow-raw", "--allow-wider"), re.compile(r"[A-Z][A-Za-z0-9-]*(,[A-Z][A-Za-z0-9-]*)*")
+_OF_TYPES, _TYPES = ("--allow-raw", "--allow-wider", "--constructors"), re.compile(r"[A-Z][A-Za-z0-9-]*(,[A-Z][A-Za-z0-9-]*)*")
 
 
 def arguments(words: Optional[list[str]]) -> argparse.Namespace:
@@ -75,6 +79,7 @@ def arguments(words: Optional[list[str]]) -> argparse.Namespace:
     parser.add_argument("--distinct", action="append", default=[], metavar="TYPE,..", help="write these types as structs, and not as names of others")
     parser.add_argument("--own", action="append", default=[], metavar="MODULE=NAME,..", help="a module of one's own in src, with its public names")
     parser.add_argument("--own-terms", action="append", default=[], metavar="NAME,..", help="modules of one's own in specs")
+    parser.add_argument("--constructors", action="append", default=[], metavar="[TYPE,..]", help="write constructors of these structs, or of all")
     parser.add_argument("--check", action="store_true", help="write nothing, and fail where a file is another one")
     parser.add_argument("--allow-raw", action="append", default=[], metavar="[TYPE,..]", help="keep as bytes what the library has no type for")
     parser.add_argument("--allow-wider", action="append", default=[], metavar="[TYPE,..]", help="use a type that has other values than the notation")
@@ -161,6 +166,7 @@ def written(options: argparse.Namespace, modules: list[tree.Module], imported: l
         sys.exit(f"{error.filename}: {error.strerror}")
     crate = crate_of(name, modules, imported, listed(options.type), problems, others, listed(options.distinct), options.depth)
     crate.own, crate.own_terms, crate.groups = named_lists(options.own), listed(options.own_terms), named_lists(options.group)
+    crate.constructed = Allowed(options.constructors)
     check_groups(crate, problems)
     refuse(problems, crate.causes, Allowed(options.allow_raw), Allowed(options.allow_wider))
     if said(problems):
@@ -228,7 +234,10 @@ def crate_of(
             problems.warn(it.place, f"`{it.source}` is called `{it.name}`, since another type is called `{wanted}`", "docs/ASN1.md")
     values = [] if names else values_of(program, modules)
     homes = {name: path.split("::")[0] for name, path in elsewhere.items()}
-    return Crate(name, types, values, [*modules, *imported, *ASSOCIATED.modules], homes, causes=meanings.causes(types.values()))
+    found = Crate(name, types, values, [*modules, *imported, *ASSOCIATED.modules], homes, causes=meanings.causes(types.values()))
+    found.constants = [] if names else constants_of(program, modules, (it.name for it in values))
+    found.names = names_of(program, types)
+    return found
 
 
 def declared(program: Program, names: list[str], distinct: Iterable[str], others: OtherCrates, depth: int = DEPTH) -> tuple[Meanings, list[str]]:

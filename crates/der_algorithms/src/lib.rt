@@ -6,6 +6,7 @@
 
 mod cms_aes_ccm_and_aes_gcm;
 mod elliptic_curves;
+pub mod named;
 pub mod notation;
 mod pkcs5_v2_1;
 mod pkix1_algorithms88;

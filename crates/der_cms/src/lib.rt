@@ -8,6 +8,7 @@ mod cms_auth_enveloped_data_2007;
 mod cryptographic_message_syntax2004;
 mod enveloped_data;
 mod key_agreement;
+pub mod named;
 pub mod notation;
 mod recipients;
 mod signed_data;

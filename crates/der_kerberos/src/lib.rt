@@ -4,6 +4,7 @@
 #![tactic(auto)]
 
 mod authentication;
+mod constructors;
 mod credentials;
 mod errors;
 pub mod notation;

@@ -3,6 +3,7 @@
 //! The types of PKCS-12.
 #![tactic(auto)]
 
+pub mod named;
 pub mod notation;
 mod types;
 pub mod values;

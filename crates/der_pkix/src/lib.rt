@@ -5,9 +5,11 @@
 #![tactic(auto)]
 
 mod asymmetric_key_package_module_v1;
+mod constructors;
 mod ec_private_key;
 mod general_names;
 mod holders;
+pub mod named;
 pub mod notation;
 mod pkcs_1;
 mod pkcs_10;

@@ -4,6 +4,7 @@
 #![tactic(auto)]
 
 mod certificate_status;
+pub mod named;
 pub mod notation;
 mod ocsp_2013_88;
 mod ocsp_requests;

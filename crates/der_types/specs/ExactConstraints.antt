@@ -66,7 +66,7 @@ numbered_plainly number meaning same =
 abbrev pub numbered_unsigned : ℕ → Numbered ℕ
 numbered_unsigned most = numbered_plainly pos (unsigned_tree most) (unsigned_number most)
 
-signed_number : (fits : ℤ → Bool) (z : ℤ) → IsReadable (int_tree fits z) → z ≡ tree_number (int_tree fits z)
+pub signed_number : (fits : ℤ → Bool) (z : ℤ) → IsReadable (int_tree fits z) → z ≡ tree_number (int_tree fits z)
 signed_number fits z r =
     let f = fits-within fits z r.1 in
     sym (ap integer_value (within-fits fits z f) ∙ value-content z)
@@ -135,7 +135,7 @@ pub same_meanings : {A : Type 0} (d : OwnContents A) {meaning : A → Tree} {con
 same_meanings d {content = content} o tag x y e = are_own d o x
     ∙ (ap (content_tree d.tag) (same_bytes (content x) (content y) e) ∙ sym (are_own d o y))
 
-own_readable : {A : Type 0} (d : OwnContents A) {meaning : A → Tree} {content : A → List ℕ}
+pub own_readable : {A : Type 0} (d : OwnContents A) {meaning : A → Tree} {content : A → List ℕ}
     → ProvedContents d meaning content → (x : A) → AreBytes (content x) → IsReadable (meaning x)
 own_readable d o x bytes = subst IsReadable (sym (are_own d o x)) (d.short o.premise, bytes)
 
@@ -162,7 +162,7 @@ module _ {A V : Type 0} (d : OwnContents A) (means : A → Tree) (content : A �
 
 module _ {A V : Type 0} (a : Values A) (n : Notation) (means : A → Tree) (part : V → A) where
   -- those whose number passes the test, or fails it
-  numbers_exact : (test : ℤ → Bool) (b : Bool) (d : Numbered A) (number : A → ℤ)
+  pub numbers_exact : (test : ℤ → Bool) (b : Bool) (d : Numbered A) (number : A → ℤ)
       → ProvedValues a n means × ProvedNumber d number means → ((v : V) → test (number (part v)) ≡ b)
       → ((x : A) → test (number x) ≡ b → (v : V) × (part v ≡ x))
       → IsExact (λ t. Denotes n t × (test (tree_number t) ≡ b)) (λ v. means (part v))

@@ -5,7 +5,9 @@
 
 mod by_hand;
 mod certificate_list;
+mod constructors;
 mod extensions;
+pub mod named;
 mod names;
 pub mod notation;
 mod pkix1_explicit88;

@@ -3,15 +3,18 @@ from dataclasses import dataclass, field
 from pathlib import Path
 from typing import Iterable
 
-from ..meaning.causes import Cause
-from ..meaning.declarations import AliasDeclaration, ChoiceDeclaration, Declaration, Declarations, EnumDeclaration, SetDeclaration
+from ..meaning.causes import Allowed, Cause
+from ..meaning.declarations import AliasDeclaration, ChoiceDeclaration, Declaration, Declarations, EnumDeclaration, SetDeclaration, StructDeclaration
 from ..meaning.library_table import LIBRARY_NAMES
+from ..meaning.named import Constant, Names
 from ..meaning.terms import names_of
 from ..parse import tree
 from .choice import answers_path, serialize_answers
+from .constructors import constructor_file
 from .enum import TERMS_FILE, terms_file
 from .folder import NOTE
 from .layout import comment, filled, natural
+from .named import named_file
 from .notation import defined, notation_file, notation_terms
 from .private_names import PrivateNames
 from .types import ONLY, Context, stems_of, types_file
@@ -22,7 +25,7 @@ MOST_GROUPED = 100
 # the crates that each crate uses
 NEEDS = "der_types picky_asn1_der picky_der_core picky_der_ser picky_der_de".split()
 # what no file of a module or a group can be called
-RESERVED = frozenset([ONLY, "values", "notation", "lib", "main", *NEEDS])
+RESERVED = frozenset([ONLY, "constructors", "named", "values", "notation", "lib", "main", *NEEDS])
 _REPOSITORY = Path(__file__).resolve().parents[3]
 
 
@@ -33,6 +36,8 @@ class Crate:
     `elsewhere` has the other crate of each type that it names and doesn't declare. `groups` has the names of the types of each file that
     isn't the one of a module. `own` are the modules of `src` that are written by hand, by their names: the public names of each that the
     root exports. `own_terms` are those of `specs`. `causes` are why types aren't those of the notation, each with how many contain it.
+    `constants` are the values that aren't object identifiers, `names` the names of bits, numbers and items, and `constructed` says for which
+    types there are constructors.
     """
 
     name: str
@@ -44,13 +49,28 @@ class Crate:
     own: dict[str, list[str]] = field(default_factory=dict)
     own_terms: list[str] = field(default_factory=list)
     causes: dict[Cause, int] = field(default_factory=dict)
+    constants: list[Constant] = field(default_factory=list)
+    names: list[Names] = field(default_factory=list)
+    constructed: Allowed = field(default_factory=Allowed)
 
     def files(self) -> dict[str, str]:
         """The text of each file, by its path in the crate."""
         found = {**self.type_files(), **self.term_files(), "src/lib.rt": self.file("//!", self.root(), self.module_names())}
-        if self.values:
-            found["src/values.rt"] = self.file("//!", value_file(self.values), {it.module for it in self.values})
+        if self.values or self.constants:
+            modules = {it.module for it in [*self.values, *self.constants]}
+            found["src/values.rt"] = self.file("//!", value_file(self.values, self.constants), modules)
+        if self.names:
+            found["src/named.rt"] = self.file("//!", named_file(self.names), {it.module for it in self.names})
+        structs = self.with_constructors()
+        if structs:
+            lines = constructor_file(structs, self.homes(), self.types)
+            found["src/constructors.rt"] = self.file("//!", lines, {it.module for it in structs})
         return dict(sorted(found.items()))
+
+    def with_constructors(self) -> list[StructDeclaration]:
+        """The structs that have constructors, in the order of the files."""
+        types = [it for found in self.types_by_stem().values() for it in found]
+        return [it for it in types if isinstance(it, StructDeclaration) and self.constructed.has_name(it.root)]
 
     def type_files(self) -> dict[str, str]:
         """The files of types, and the proofs of choices."""
@@ -88,7 +108,7 @@ class Crate:
 
     def module_names(self) -> set[str]:
         """The names of the modules that something of the crate is of."""
-        return {it.module for it in [*self.types.values(), *self.values]}
+        return {it.module for it in [*self.types.values(), *self.values, *self.constants]}
 
     def context(self) -> Context:
         """What the files of types depend on."""
@@ -121,10 +141,12 @@ class Crate:
         """The lines of `lib.rt`, after its first one."""
         by_home = {stem: [name for it in types for name in (it.name, *getattr(it, "defaults", []))] for stem, types in self.types_by_stem().items()}
         by_home.update(self.own)
-        public = [*(["notation"] if defined(self.sorted_types()) else []), *(["values"] if self.values else [])]
+        public = [*(["notation"] if defined(self.sorted_types()) else []), *(["values"] if self.values or self.constants else [])]
+        public += ["named"] if self.names else []
+        private = ["constructors"] if self.with_constructors() else []
         sources = ", ".join(sorted({it.module for it in self.types.values()}))
         lines = [*comment("", "//!", f"The types of {sources}."), "#![tactic(auto)]", ""]
-        lines += [f"pub mod {it};" if it in public else f"mod {it};" for it in sorted({*by_home, *public})]
+        lines += [f"pub mod {it};" if it in public else f"mod {it};" for it in sorted({*by_home, *public, *private})]
         lines += [""] if by_home else []
         is_grouped = sum(map(len, by_home.values())) <= MOST_GROUPED
         for home in sorted(by_home, key=natural):

@@ -1,6 +1,8 @@
 """The file of the object identifiers of modules."""
 from dataclasses import dataclass
+from typing import Iterable
 
+from ..meaning.named import Constant
 from ..meaning.scopes import Program
 from ..meaning.values import arcs_of
 from ..meaning.wording import KEYWORDS, words
@@ -49,15 +51,26 @@ def values_of(program: Program, modules: list[tree.Module]) -> list[Value]:
     return list(found.values())
 
 
-def value_file(values: list[Value]) -> list[str]:
-    """The lines of the file, after its first one."""
-    lines = ["//! Object identifiers, by their contents: `identifier.is(values::NAME)`."]
-    lines += [term_line(home, names) for home, names in _TERMS.items()]
+def value_file(values: list[Value], constants: Iterable[Constant] = ()) -> list[str]:
+    """The lines of the file, after its first one: object identifiers, and then other values."""
+    lines = ["//! Object identifiers, by their contents: `identifier.is(values::NAME)`."] if values else ["//! Values."]
+    lines += [term_line(home, names) for home, names in _TERMS.items()] if values else []
     for it in values:
         content = [f"0x{byte:02X}" for byte in it.content()]
         lines += ["", *comment("", "///", f"`{it.source}`, {'.'.join(map(str, it.arcs))}.")]
         lines += value_lines(f"pub const {it.name}: &[u8] =", content)
-    return [*lines, "", *arcs_law(values)]
+    for it in constants:
+        lines += ["", *comment("", "///", f"`{it.source}`, `{it.notation}`."), *constant_lines(it)]
+    return [*lines, "", *arcs_law(values)] if values else lines
+
+
+def constant_lines(constant: Constant) -> list[str]:
+    """A value that isn't an object identifier."""
+    before = f"pub const {constant.name}: {constant.type} ="
+    if isinstance(constant.value, list):
+        return value_lines(before, [f"0x{it:02X}" for it in constant.value])
+    line = f"{before} {constant.value};"
+    return [line] if len(line) <= WIDTH else [before, f"{STEP}{constant.value};"]
 
 
 def arcs_law(values: list[Value]) -> list[str]:

@@ -60,7 +60,11 @@ class Allowed:
 
     def has(self, where: Where) -> bool:
         """Whether it is given for the type that this is in."""
-        return self.all or where.owner in self.names
+        return self.has_name(where.owner)
+
+    def has_name(self, name: str) -> bool:
+        """Whether it is given for the type with this name."""
+        return self.all or name in self.names
 
 
 def counts(found: Iterable[Iterable[Cause]]) -> dict[Cause, int]:

@@ -12,7 +12,7 @@ from .members import members_of
 from .objects import class_named
 from .scopes import Found, Program, Scope
 from .subtypes import Reader, ScopedConstraint, resolve_with_constraints
-from .values import enumerated_numbers, integer_of
+from .values import addition_numbers, enumerated_numbers, integer_of
 
 # the clauses of the types that have names of members
 _CLAUSES = {tree.Form.SEQUENCE: "X.680, 25", tree.Form.SET: "X.680, 27"}
@@ -109,7 +109,7 @@ class Checks:
         """Items with distinct names and numbers, and those of later versions in the order of their numbers (X.680, 20)."""
         items = [*type_.items, *type_.additions]
         self.names(items, "X.680, 20")
-        numbers = [*enumerated_numbers(self.program, type_.items, scope), *self.addition_numbers(type_, scope)]
+        numbers = [*enumerated_numbers(self.program, type_.items, scope), *addition_numbers(self.program, type_, scope)]
         self.numbers(items, numbers, "X.680, 20.3")
         last = None
         for it, number in zip(type_.additions, numbers[len(type_.items) :]):
@@ -119,21 +119,6 @@ class Checks:
         for it in items:
             if isinstance(it.number, tree.NamedValue) and integer_of(self.program, it.number, scope) is None:
                 self.name_of_number(it.number, scope)
-
-    def addition_numbers(self, type_: tree.EnumeratedType, scope: Scope) -> list[Optional[int]]:
-        """The numbers of items after the extension marker: one without a number has the least that no item before it has (X.680, 20.6)."""
-        taken = set(enumerated_numbers(self.program, type_.items, scope))
-        found, following = [], 0
-        for it in type_.additions:
-            number = integer_of(self.program, it.number, scope) if it.number is not None else None
-            if it.number is None:
-                while following in taken:
-                    following += 1
-                number = following
-            if number is not None:
-                following = max(following, number + 1)
-            found.append(number)
-        return found
 
     # ---- members
 

@@ -66,7 +66,7 @@ UNIVERSAL_TAGS = {it.name: it.tag for it in TYPES}
 # the other names of the library that a crate may import, by their modules, in the order of imports
 _NAMES = {
     _TYPES: """Ascii Asn1Set AtLeast AtMost CharacterSet Contents Exact ExactAlternatives ExactContents ExactDefault ExactMembers InRange Minus NamedBits Notated NotatedAlternatives NotatedDefault NotatedMembers NotatedSet OtherThan Outside Plus
-        ImplicitPrimitive ImplicitSet RestrictedString TagOrdered Unicode Width WithSize deserialize_contents_as""",
+        ImplicitPrimitive ImplicitSet RestrictedString TagOrdered Unicode WholeNumber Width WithSize deserialize_contents_as""",
     "picky_asn1_der::application_tag": "ApplicationTag",
     _ASN1: """Asn1SequenceOf Asn1SetOf BitStringAsn1Container ExplicitContextTag ImplicitContextTag OctetStringAsn1Container ImplicitList
         TaggedBytes Tag""",

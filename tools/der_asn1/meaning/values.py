@@ -37,6 +37,22 @@ def enumerated_numbers(program: Program, items: list[tree.NamedNumber], scope: S
     return found
 
 
+def addition_numbers(program: Program, type_: tree.EnumeratedType, scope: Scope) -> list[Optional[int]]:
+    """The numbers of items after the extension marker: one without a number has the least that no item before it has (X.680, 20.6)."""
+    taken = set(enumerated_numbers(program, type_.items, scope))
+    found, following = [], 0
+    for it in type_.additions:
+        number = integer_of(program, it.number, scope) if it.number is not None else None
+        if it.number is None:
+            while following in taken:
+                following += 1
+            number = following
+        if number is not None:
+            following = max(following, number + 1)
+        found.append(number)
+    return found
+
+
 def value_of(program: Program, value: tree.Value, scope: Scope, depth: int = 0) -> tuple[tree.Value, Scope]:
     """A value that is no name, with its scope and its governor's named numbers: through value references (X.680, 14)."""
     if not isinstance(value, tree.NamedValue) or depth > DEPTH:

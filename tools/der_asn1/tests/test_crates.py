@@ -76,7 +76,7 @@ class OwnFiles(unittest.TestCase):
     def test_they_are_in_the_root(self):
         self.assertEqual(0, self.run_tool("--own", "lights=Light,Lights", "--own", "laws", "--own-terms", "Lights")[0])
         root = self.text("src/lib.rt")
-        self.assertIn("mod laws;\nmod lights;\npub mod notation;\nmod types;\n", root)
+        self.assertIn("mod laws;\nmod lights;\npub mod named;\npub mod notation;\nmod types;\n", root)
         self.assertIn("pub use lights::{Light, Lights};\n", root)
         self.assertIn("pub mod Lights\npub mod Notation\n", self.text("specs/Lib.antt"))
 

@@ -1,8 +1,14 @@
+use Rattle.std.specs.Int.{w128}
+use Rattle.std.proofs.lemmas.Int.{to_z-of_z}
 use Rattle.der_types.specs.ConstraintLaws.{negative_le, unsigned_le}
 use Rattle.der_types.proofs.whole_number.U128WholeNumber.is_at_least.Goals as goal
 
 pub returns-in-Ok : goal.returns-in-Ok
-returns-in-Ok c = unsigned_le c.args.least c.args.self.now c.in-Ok.bound c.in-Ok.ensures.0 c.in-Ok.ensures.1
+returns-in-Ok c =
+    let own = to_z-of_z w128 c.args.least c.ranges.least in
+    unsigned_le c.args.least c.args.self.now c.in-Ok.bound (rw own at c.in-Ok.ensures.0) (rw own at c.in-Ok.ensures.1)
 
 pub returns-in-Err : goal.returns-in-Err
-returns-in-Err c = negative_le c.args.least c.args.self.now c.in-Err.ensures
+returns-in-Err c =
+    let own = to_z-of_z w128 c.args.least c.ranges.least in
+    negative_le c.args.least c.args.self.now (rw own at c.in-Err.ensures)
