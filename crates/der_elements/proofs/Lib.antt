@@ -1,3 +1,4 @@
+mod Identifiers
 mod WellFormedLemmas
 mod Later
 mod NoValues
