@@ -1,10 +1,10 @@
 //! Values of types that aren't known, as elements.
-ghost use Rattle.std.specs.Prelude.{◌≡◌, Some, IfOk, IfErr};
+ghost use Rattle.std.specs.Prelude.{◌≡◌, ℕ, List, Some, IfOk, IfErr};
 ghost use Rattle.std.specs.Cmp.Lexicographic.{slice_cmp};
 ghost use Rattle.std.specs.Ordering.{nat_cmp};
 ghost use Rattle.std.specs.Hash as fed;
 ghost use Rattle.picky_der_core.specs.Encoding.{der};
-ghost use Rattle.picky_der_core.specs.Equality.{IsEqualityOf, IsThatOf};
+ghost use Rattle.picky_der_core.specs.Equality.{IsEqualityOf};
 ghost use Rattle.picky_der_core.specs.Shape.{Shape};
 ghost use Rattle.picky_der_core.specs.Tree.{Tree};
 ghost use Rattle.picky_der_de.specs.Facts.{raw_facts, ruled};
@@ -41,18 +41,19 @@ pub struct AnyElement {
 /// Elements are equal exactly if their bytes are the same. They are ordered like their bytes, at the first index where
 /// these differ, and hashed like a list of their bytes.
 pub fn comparisons()
-    ensures equal { IsEqualityOf ⟦<AnyElement as PartialEq>⟧.eq (λ it. it.element.0.items) }
-    ensures order { IsThatOf ⟦<AnyElement as PartialOrd>⟧.partial_cmp (λ it. it.element.0.items)
-        (λ x y. Some (slice_cmp nat_cmp x y)) }
-    ensures hash { (it : _) → ⟦<AnyElement as Hash>⟧.hash_input it
-        ≡ fed.slice fed.u8 it.element.0.items }
+    ensures equal { IsEqualityOf ⟦<AnyElement as PartialEq>⟧.eq ⟦<AnyElement as Serialize>⟧.meaning }
+    ensures order { (x y : _) (a b : List ℕ) → ⟦<AnyElement as Serialize>⟧.meaning x ≡ Tree.raw a
+        → ⟦<AnyElement as Serialize>⟧.meaning y ≡ Tree.raw b
+        → ⟦<AnyElement as PartialOrd>⟧.partial_cmp x y ≡ Some (slice_cmp nat_cmp a b) }
+    ensures hash { (it : _) (bytes : List ℕ) → ⟦<AnyElement as Serialize>⟧.meaning it ≡ Tree.raw bytes
+        → ⟦<AnyElement as Hash>⟧.hash_input it ≡ fed.slice fed.u8 bytes }
 {}
 
 impl AnyElement {
     /// Returns this element. `InvalidData` if it isn't one element of DER with elements in it, and `OutOfMemory` if an
     /// allocation fails.
     pub fn from_element(element: Asn1RawDer) -> Result<AnyElement>
-        ensures ok { IfOk result (λ it. it.element ≡ element) }
+        ensures ok { IfOk result (λ it. ⟦<AnyElement as Serialize>⟧.meaning it ≡ Tree.raw element.0.items) }
         ensures err { IfErr result (RefusesElement element.0.items) }
     {
         match is_well_formed(*element.0.allocator(), &element.0) {
@@ -65,7 +66,7 @@ impl AnyElement {
     /// Returns the encoding of a value. The errors are those of `to_vec`, and `InvalidData` if the encoding isn't one
     /// element of DER with elements in it.
     pub fn from_value<T: Serialize>(alloc: Global, value: &T) -> Result<AnyElement>
-        ensures ok { IfOk result (λ it. it.element.0.items ≡ der (T.meaning value.now)) }
+        ensures ok { IfOk result (λ it. ⟦<AnyElement as Serialize>⟧.meaning it ≡ Tree.raw (der (T.meaning value.now))) }
         ensures err { IfErr result (RefusesValue (T.meaning value.now)) }
     {
         AnyElement::from_element(Asn1RawDer(to_vec(alloc, value)?))
@@ -73,7 +74,7 @@ impl AnyElement {
 
     /// Returns the bytes, with the header.
     pub fn as_bytes(&self) -> &[u8]
-        ensures value { result.now ≡ self.now.element.0.items }
+        ensures value { ⟦<AnyElement as Serialize>⟧.meaning self.now ≡ Tree.raw result.now }
         ensures well_formed { ∥ IsWellFormed result.now ∥₁ }
     {
         self.element.0.as_slice()
@@ -81,14 +82,14 @@ impl AnyElement {
 
     /// Returns the element as one of which nothing is known.
     pub fn as_raw(&self) -> &Asn1RawDer
-        ensures { result.now ≡ self.now.element }
+        ensures { ⟦<AnyElement as Serialize>⟧.meaning self.now ≡ Tree.raw result.now.0.items }
     {
         &self.element
     }
 
     /// Returns the element as one of which nothing is known.
     pub fn into_raw(self) -> Asn1RawDer
-        ensures { result ≡ self.element }
+        ensures { ⟦<AnyElement as Serialize>⟧.meaning self ≡ Tree.raw result.0.items }
     {
         let AnyElement { element } = self;
         element
@@ -96,18 +97,21 @@ impl AnyElement {
 
     /// Returns the value of the type `T` whose encoding this is. The errors are those of `from_der`.
     pub fn to<T: Deserialize>(&self) -> std::result::Result<T, DecodeError>
-        ensures ok { IfOk result (IsWhole T.meaning T.shape T.eq self.now.element.0.items) }
-        ensures err { IfErr result (λ refusal. IsNoEncoding T.meaning T.shape
-            self.now.element.0.items refusal.error refusal.position) }
-        ensures refused_by { IfErr result (λ refusal. RefusesWholeBy T.meaning T.shape T.facts.rule
-            self.now.element.0.items refusal.error refusal.position) }
+        ensures ok { (bytes : List ℕ) → ⟦<AnyElement as Serialize>⟧.meaning self.now ≡ Tree.raw bytes
+            → IfOk result (IsWhole T.meaning T.shape T.eq bytes) }
+        ensures err { (bytes : List ℕ) → ⟦<AnyElement as Serialize>⟧.meaning self.now ≡ Tree.raw bytes
+            → IfErr result (λ refusal. IsNoEncoding T.meaning T.shape bytes refusal.error refusal.position) }
+        ensures refused_by { (bytes : List ℕ) → ⟦<AnyElement as Serialize>⟧.meaning self.now ≡ Tree.raw bytes
+            → IfErr result (λ refusal. RefusesWholeBy T.meaning T.shape T.facts.rule bytes refusal.error
+            refusal.position) }
     {
         from_der(*self.element.0.allocator(), &self.element.0)
     }
 
     /// A copy, on the same allocator. `OutOfMemory` if an allocation fails.
     pub fn clone(&self) -> Result<AnyElement>
-        ensures same { IfOk result (λ copy. copy.element.0.items ≡ self.now.element.0.items) }
+        ensures same { IfOk result (λ copy. ⟦<AnyElement as Serialize>⟧.meaning copy
+            ≡ ⟦<AnyElement as Serialize>⟧.meaning self.now) }
         ensures memory { IfErr result (λ e. e ≡ Asn1DerError.OutOfMemory) }
     {
         Ok(AnyElement {

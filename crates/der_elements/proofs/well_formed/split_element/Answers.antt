@@ -1,6 +1,5 @@
-use Rattle.std.proofs.Common.{◌≡◌, ◌++◌, ◌^◌, ◌<◌, length, take, drop, sym, ap, ◌∙◌, arith, take-append-drop}
+use Rattle.std.proofs.Common.{◌≡◌, ◌++◌, length, take, drop, sym, ap, ◌∙◌, arith, take-append-drop}
 use Rattle.std.proofs.Common.{length-take-le, subst}
-use Rattle.std.specs.Prelude.{slice_range}
 use Rattle.picky_der_core.specs.Element.{length_octets}
 use Rattle.der_elements.specs.Fronts.{IsFront}
 use Rattle.der_elements.proofs.WellFormedLemmas.{no_bytes, first_of, is_front, no_number, no_length, too_long}
