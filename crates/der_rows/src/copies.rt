@@ -2,6 +2,7 @@
 
 use crate::growths::{Stop, is};
 use crate::reads::by_from_bytes;
+use der_elements::AnyElement;
 use picky_asn1_der::Asn1DerError::OutOfMemory;
 use picky_asn1_der::application_tag::ApplicationTag;
 use picky_asn1_der::asn1::{
@@ -33,6 +34,12 @@ impl<const TAG: u8> Copied for TaggedBytes<TAG> {
 
 impl Copied for Asn1RawDer {
     fn copied(&self) -> DerResult<Asn1RawDer> {
+        self.clone()
+    }
+}
+
+impl Copied for AnyElement {
+    fn copied(&self) -> DerResult<AnyElement> {
         self.clone()
     }
 }
@@ -99,6 +106,7 @@ pub(crate) fn copy(alloc: Global, name: &str, bytes: &[u8]) -> Result<(), Stop> 
         "ByteBuf" => copy_as::<ByteBuf>(alloc, bytes),
         "TaggedBytes<0x9E>" => copy_as::<TaggedBytes<0x9E>>(alloc, bytes),
         "Asn1RawDer" => copy_as::<Asn1RawDer>(alloc, bytes),
+        "AnyElement" => copy_as::<AnyElement>(alloc, bytes),
         "Asn1SequenceOf<ByteBuf>" => copy_as::<Asn1SequenceOf<ByteBuf>>(alloc, bytes),
         "Asn1SetOf<ByteBuf>" => copy_as::<Asn1SetOf<ByteBuf>>(alloc, bytes),
         "Asn1SetOf<Asn1SetOf<ByteBuf>>" => copy_as::<Asn1SetOf<Asn1SetOf<ByteBuf>>>(alloc, bytes),

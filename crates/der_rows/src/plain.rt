@@ -2,6 +2,7 @@
 
 use crate::answers::{RowBytes, read_as, read_copied};
 use crate::lists;
+use der_elements::AnyElement;
 use picky_asn1_der::Asn1RawDer;
 use picky_asn1_der::asn1::{ByteBuf, TaggedBytes};
 use std::alloc::{AllocError, Global};
@@ -24,6 +25,7 @@ pub(crate) fn answer(alloc: Global, name: &str, row: &RowBytes) -> Result<String
         "TaggedBytes<0x9E>" => read_copied::<TaggedBytes<0x9E>>(alloc, row),
         "Option<u8>" => read_as::<Option<u8>>(alloc, row),
         "Asn1RawDer" => read_copied::<Asn1RawDer>(alloc, row),
+        "AnyElement" => read_copied::<AnyElement>(alloc, row),
         _ => lists::answer(alloc, name, row),
     }
 }

@@ -5,6 +5,7 @@ macro_rules! same {
     };
 }
 
+mod any_elements;
 mod checks;
 mod contents;
 mod device_labels;

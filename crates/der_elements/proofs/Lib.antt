@@ -1,0 +1,4 @@
+mod Identifiers
+mod WellFormedLemmas
+mod Later
+mod NoValues

@@ -1,0 +1,9 @@
+//! Elements of DER with elements in them at every depth, for types that aren't known.
+#![tactic(auto)]
+
+pub mod any_element;
+mod notated;
+mod well_formed;
+
+pub use any_element::AnyElement;
+pub use well_formed::{are_well_formed, is_well_formed};
