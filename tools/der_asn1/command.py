@@ -3,7 +3,7 @@
     der_asn1 --report [--types] [OPTION ..] MODULE.asn1 ..
     der_asn1 --print crates/NAME/specs/Notation.antt ..
     der_asn1 --out crates/NAME [--type TYPE,..] [--group FILE=TYPE,..] [--crate MODULE=CRATE ..] [--distinct TYPE,..] [--own MODULE=NAME,..]
-        [--own-terms NAME,..] [--constructors [TYPE,..]] [--check] [--allow-raw [TYPE,..]] [--allow-wider [TYPE,..]]
+        [--own-terms NAME,..] [--constructors [TYPE,..]] [--raw-any] [--check] [--allow-raw [TYPE,..]] [--allow-wider [TYPE,..]]
         [OPTION ..] MODULE.asn1 ..
     der_asn1 derive [--check] FILE.rt ..
 
@@ -17,7 +17,9 @@ library are missing for the others. `--types` adds a line for each type.
 `--out` writes a crate of all types of the modules, or of the types after `--type` and what they need, and prints its line of `crates.txt`.
 `--check` writes nothing, and fails if a file isn't what would be written. What would be kept as bytes is an error without `--allow-raw`, and
 what would have other values than the notation is one without `--allow-wider`: one error for each cause, at the member that lacks something.
-Both may be for some types alone, those that the errors name. An open type is any element.
+Both may be for some types alone, those that the errors name.
+
+An open type is any element that has elements in it at every depth. With `--raw-any` it is any element.
 
 The types of a module are in one file, which has the module's name, or is `types.rt` if the crate is of one module alone.
 `--group FILE=TYPE,..` puts types with their parts into another file.
@@ -84,6 +86,7 @@ def arguments(words: Optional[list[str]]) -> argparse.Namespace:
     parser.add_argument("--allow-raw", action="append", default=[], metavar="[TYPE,..]", help="keep as bytes what the library has no type for")
     parser.add_argument("--allow-wider", action="append", default=[], metavar="[TYPE,..]", help="use a type that has other values than the notation")
     parser.add_argument("--import", action="append", default=[], dest="imported", metavar="OTHER.asn1", help="a file for what the modules import")
+    parser.add_argument("--raw-any", action="store_true", help="look at nothing in the values of open types")
     parser.add_argument("--depth", type=int, default=DEPTH, metavar="N", help=f"how often a type may be in itself: {DEPTH} if nothing is said")
     parser.add_argument("--strict", action="store_true", help="refuse what the standard doesn't allow, where it is accepted else")
     return parser.parse_args(with_types(sys.argv[1:] if words is None else words))
@@ -164,7 +167,8 @@ def written(options: argparse.Namespace, modules: list[tree.Module], imported: l
         others = other_crates(options.crate, folder)
     except OSError as error:
         sys.exit(f"{error.filename}: {error.strerror}")
-    crate = crate_of(name, modules, imported, listed(options.type), problems, others, listed(options.distinct), options.depth)
+    distinct = listed(options.distinct)
+    crate = crate_of(name, modules, imported, listed(options.type), problems, others, distinct, options.depth, options.raw_any)
     crate.own, crate.own_terms, crate.groups = named_lists(options.own), listed(options.own_terms), named_lists(options.group)
     crate.constructed = Allowed(options.constructors)
     check_groups(crate, problems)
@@ -178,7 +182,8 @@ def written(options: argparse.Namespace, modules: list[tree.Module], imported: l
             print(f"{options.out}/{path} isn't what would be written")
         return 1 if wrong else 0
     write(options.out, files, own)
-    print(" ".join([f"{name}:", *sorted({*crate.elsewhere.values()}), *NEEDS]))
+    elements = ["der_elements"] if any("use der_elements::" in it for it in files.values()) else []
+    print(" ".join([f"{name}:", *sorted({*crate.elsewhere.values(), *elements}), *NEEDS]))
     return 0
 
 
@@ -216,16 +221,18 @@ def crate_of(
     others: OtherCrates = OtherCrates(),
     distinct: Iterable[str] = (),
     depth: int = DEPTH,
+    raw_any: bool = False,
 ) -> Crate:
     """The crate of all types of the modules, or of those with these names. Those in `distinct` are structs of their own.
 
     Types of `others` are named and not declared. Which of these are used is found at first, so that their names are free else.
     """
     if others.crates:
-        meanings, found = declared(Program(modules, Problems(problems.strict), imported), names, distinct, others, depth)
+        silent = Program(modules, Problems(problems.strict), imported)
+        meanings, found = declared(silent, names, distinct, others, depth, raw_any)
         others = others.using(reached_elsewhere(meanings.declarations, found).values())
     program = Program(modules, problems, imported)
-    meanings, found = declared(program, names, distinct, others, depth)
+    meanings, found = declared(program, names, distinct, others, depth, raw_any)
     declarations = meanings.declarations
     types, elsewhere = reached(declarations, found), reached_elsewhere(declarations, found)
     for it in types.values():
@@ -240,11 +247,19 @@ def crate_of(
     return found
 
 
-def declared(program: Program, names: list[str], distinct: Iterable[str], others: OtherCrates, depth: int = DEPTH) -> tuple[Meanings, list[str]]:
+def declared(
+    program: Program,
+    names: list[str],
+    distinct: Iterable[str],
+    others: OtherCrates,
+    depth: int = DEPTH,
+    raw_any: bool = False,
+) -> tuple[Meanings, list[str]]:
     """All meanings with their declarations, and the types of Rust of these names, or of all types of the program's own modules."""
     modules, problems = program.modules, program.problems
     identified(program)
-    meanings, checks = Meanings(program, Declarations(others), distinct, recursion_in(program, depth)), ModuleChecks(program)
+    meanings = Meanings(program, Declarations(others), distinct, recursion_in(program, depth), raw_any)
+    checks = ModuleChecks(program)
     for module in [] if names else modules:
         checks.module(module)
     found, missing = [], set(names)

@@ -25,7 +25,7 @@ no_type = Notation.choice Alternatives.none
 
 -- an open type (X.681, 14.2), and ANY of 1988
 abbrev pub ANY : Notation
-ANY = Notation.any-element
+ANY = Notation.well-formed-element
 
 -- a type that contains itself, where a value would be in itself too often: it begins with this byte, and has no values
 abbrev pub beyond-depth : ℕ → Notation

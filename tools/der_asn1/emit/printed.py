@@ -137,6 +137,8 @@ class _Printer:
     def type(self, term: Applied) -> str:
         """A term as a type."""
         word, given = term.word, term.arguments
+        if word == "any-element":
+            return "ANY"
         if word == "wider":
             return f"{self.type(given[0])} (CONSTRAINED BY {{}})"
         if word in _CLASSES:

@@ -283,7 +283,7 @@ def empty(type_: tree.StructureType, scope: Scope, first: int) -> Meaning:
     if is_extensible(type_, scope) and type_.form is tree.Form.SEQUENCE:
         return Meaning(Rust(of(name, of("Asn1RawDer")), Core.LIST, firsts, term=Term(f"{form} {LATER}")))
     if is_extensible(type_, scope):
-        term = Term(f"{form}-OF", Term("ANY"))
+        term = Term(f"{form}-OF", Term("any-element"))
         return Meaning(Rust(of(name, of("Asn1RawDer")), Core.LIST, firsts, term=term)).lacking(Feature.EXTENSION)
     return Meaning(Rust(of("WithSize", of(name, UNIT), "0", "0"), Core.LIST, firsts, bounded=True, term=Term(f"{form} end")))
 

@@ -11,7 +11,7 @@ from .character_sets import has_all, own_set
 from .checks import Checks
 from .declarations import AliasDeclaration, Declaration, Declarations, Hint, NewtypeDeclaration
 from .features import Feature, Level, Note
-from .library import Core, Rust, any_element, tagged_bytes, without_values
+from .library import Core, Rust, any_element, tagged_bytes, well_formed_element, without_values
 from .library_table import BY_NAME, UNIVERSAL_TAGS, LibraryType
 from .intervals import NATURAL
 from .meaning import Meaning, lacks
@@ -106,8 +106,16 @@ def alias(name: str, found: Found, type_: tree.Type, meaning: Meaning, kind: typ
 class Meanings:
     """The meanings of the types of a program. Each assignment is worked out once."""
 
-    def __init__(self, program: Program, declarations: Optional[Declarations] = None, distinct: Iterable[str] = (), recursion: Recursion = NONE) -> None:
+    def __init__(
+        self,
+        program: Program,
+        declarations: Optional[Declarations] = None,
+        distinct: Iterable[str] = (),
+        recursion: Recursion = NONE,
+        raw_any: bool = False,
+    ) -> None:
         self.program, self.recursion = program, recursion
+        self.raw_any = raw_any  # whether nothing in a value of an open type is looked at
         self.level: Optional[recursive.Level] = None  # where the type is that is being worked out
         self.edges: dict[tuple, set[tuple]] = {}  # which assignments each names
         self.distinct = frozenset(distinct)  # the names of types that are structs of their own, in place of names of others
@@ -210,8 +218,8 @@ class Meanings:
         return Meaning(any_element()).lacking(feature)
 
     def any_type(self) -> Meaning:
-        """An open type, which is any element."""
-        return Meaning(any_element()).noting(Note.OPEN)
+        """An open type, which is any element: one with elements in it, unless nothing in it is to be looked at."""
+        return Meaning(any_element() if self.raw_any else well_formed_element()).noting(Note.OPEN)
 
     # ---- types
 

@@ -105,7 +105,7 @@ class Terms(unittest.TestCase):
         self.check([("CHOICE { a NULL, ... }", "wider (CHOICE (NULL ∣ later-alternatives-refused))")])
 
     def test_what_is_kept_as_bytes(self):
-        self.check([("CHARACTER STRING", "wider (any-content 0x3D)"), ("SEQUENCE { a T2 }", "SEQUENCE (required (wider ANY) ⨾ end)")])
+        self.check([("CHARACTER STRING", "wider (any-content 0x3D)"), ("SEQUENCE { a T2 }", "SEQUENCE (required (wider any-element) ⨾ end)")])
 
     def test_strings_that_contain_a_value(self):
         self.check([("OCTET STRING (CONTAINING NULL)", "OCTET-STRING-CONTAINING NULL")])
