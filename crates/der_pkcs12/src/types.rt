@@ -9,6 +9,7 @@ ghost use Rattle.der_types.specs.ExactMembers.{struct_values};
 ghost use Rattle.der_types.specs.SampleTrees.{exact_example};
 
 use der_cms::ContentInfo;
+use der_elements::AnyElement;
 use der_pkix::{EncryptedPrivateKeyInfo, PrivateKeyInfo};
 use der_types::{
     Exact, ExactMembers, InRange, Integer, Notated, NotatedMembers, ObjectIdentifier, OtherThan,
@@ -19,8 +20,8 @@ use picky_asn1_der::de::{Begins, Faithful, FaithfulMembers, Inhabited};
 use picky_asn1_der::misc::{ReadExt, WriteExt};
 use picky_asn1_der::ser::{Optional, OptionalRef};
 use picky_asn1_der::{
-    Asn1RawDer, Deserialize, DeserializeMembers, Deserializer, List, Result, Serialize,
-    SerializeMembers, Serializer, Struct, deserialize_struct_as,
+    Deserialize, DeserializeMembers, Deserializer, List, Result, Serialize, SerializeMembers,
+    Serializer, Struct, deserialize_struct_as,
 };
 
 /// A store. Its content is the encoding of an AuthenticatedSafe in a message of kind id-data, or
@@ -288,14 +289,14 @@ pub struct SafeBag {
     /// `OBJECT IDENTIFIER`.
     pub bag_id: ObjectIdentifier,
     /// `[0] EXPLICIT ANY DEFINED BY bagId`.
-    pub bag_value: ExplicitContextTag0<Asn1RawDer>,
+    pub bag_value: ExplicitContextTag0<AnyElement>,
     /// `SET OF PKCS12Attribute OPTIONAL`.
     pub bag_attributes: Option<Asn1SetOf<Pkcs12Attribute>>,
 }
 
 type SafeBagParts = (
     ObjectIdentifier,
-    ExplicitContextTag0<Asn1RawDer>,
+    ExplicitContextTag0<AnyElement>,
     Optional<Asn1SetOf<Pkcs12Attribute>>,
     (),
 );
@@ -381,10 +382,10 @@ pub struct Pkcs12Attribute {
     /// `OBJECT IDENTIFIER`.
     pub attr_id: ObjectIdentifier,
     /// `SET OF ANY`.
-    pub attr_values: Asn1SetOf<Asn1RawDer>,
+    pub attr_values: Asn1SetOf<AnyElement>,
 }
 
-type Pkcs12AttributeParts = (ObjectIdentifier, Asn1SetOf<Asn1RawDer>, ());
+type Pkcs12AttributeParts = (ObjectIdentifier, Asn1SetOf<AnyElement>, ());
 
 impl Struct for Pkcs12Attribute {
     type Members = Pkcs12AttributeParts;
@@ -466,10 +467,10 @@ pub struct CertBag {
     /// `OBJECT IDENTIFIER`.
     pub cert_id: ObjectIdentifier,
     /// `[0] EXPLICIT ANY DEFINED BY certId`.
-    pub cert_value: ExplicitContextTag0<Asn1RawDer>,
+    pub cert_value: ExplicitContextTag0<AnyElement>,
 }
 
-type CertBagParts = (ObjectIdentifier, ExplicitContextTag0<Asn1RawDer>, ());
+type CertBagParts = (ObjectIdentifier, ExplicitContextTag0<AnyElement>, ());
 
 impl Struct for CertBag {
     type Members = CertBagParts;
@@ -545,10 +546,10 @@ pub struct CrlBag {
     /// `OBJECT IDENTIFIER`.
     pub crl_id: ObjectIdentifier,
     /// `[0] EXPLICIT ANY DEFINED BY crlId`.
-    pub crl_value: ExplicitContextTag0<Asn1RawDer>,
+    pub crl_value: ExplicitContextTag0<AnyElement>,
 }
 
-type CrlBagParts = (ObjectIdentifier, ExplicitContextTag0<Asn1RawDer>, ());
+type CrlBagParts = (ObjectIdentifier, ExplicitContextTag0<AnyElement>, ());
 
 impl Struct for CrlBag {
     type Members = CrlBagParts;
@@ -621,10 +622,10 @@ pub struct SecretBag {
     /// `OBJECT IDENTIFIER`.
     pub secret_type_id: ObjectIdentifier,
     /// `[0] EXPLICIT ANY DEFINED BY secretTypeId`.
-    pub secret_value: ExplicitContextTag0<Asn1RawDer>,
+    pub secret_value: ExplicitContextTag0<AnyElement>,
 }
 
-type SecretBagParts = (ObjectIdentifier, ExplicitContextTag0<Asn1RawDer>, ());
+type SecretBagParts = (ObjectIdentifier, ExplicitContextTag0<AnyElement>, ());
 
 impl Struct for SecretBag {
     type Members = SecretBagParts;

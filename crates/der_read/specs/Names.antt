@@ -91,7 +91,7 @@ pub record IsAttributeText (a : AttributeTypeAndValue) (text : List ℕ) : Type 
   pub type_text : List ℕ
   pub value_text : List ℕ
   pub of_type : IsTypeText a.type_ type_text
-  pub of_value : IsValueText a.value.0.items value_text
+  pub of_value : IsValueText a.value.element.0.items value_text
   pub is : text ≡ type_text ++ (codes "=" ++ value_text)
 
 abbrev pub IsTextOfAttribute : AttributeTypeAndValue → String Global → Type 0

@@ -83,7 +83,7 @@ fn attribute_text(alloc: Global, attribute: &Attribute) -> Result<String, AllocE
     ensures { IfOk result (λ text. IsAttributeText attribute.now (string_bytes text)) }
 {
     let kind = type_text(alloc, &attribute.type_)?;
-    let value = value_text(alloc, &attribute.value.0)?;
+    let value = value_text(alloc, attribute.value.as_bytes())?;
     format!(in alloc; "{kind}={value}")
 }
 

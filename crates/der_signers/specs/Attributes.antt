@@ -38,7 +38,7 @@ has_kind kind attributes = list_any (is_kind kind) attributes
 
 -- the elements that are an attribute's values
 abbrev pub values_of : Attribute → List (List ℕ)
-values_of a = map (λ v. v.0.items) a.attr_values.0.items
+values_of a = map (λ v. v.element.0.items) a.attr_values.0.items
 
 -- if it is of this kind, this element is its only value
 abbrev pub Agrees : List ℕ → List ℕ → Attribute → Type 0

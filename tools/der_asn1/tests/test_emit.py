@@ -93,7 +93,7 @@ class AsDerived(unittest.TestCase):
             content EncapsulatedContentInfo, certificates [0] IMPLICIT SET OF ANY OPTIONAL,
             revocation-lists [1] IMPLICIT SET OF ANY OPTIONAL, signer-infos SET OF SignerInfo }
             AlgorithmIdentifier ::= SEQUENCE { a NULL } EncapsulatedContentInfo ::= SEQUENCE { a NULL } SignerInfo ::= SEQUENCE { a NULL }"""
-        self.check(body, "SignedData", "signed_data")
+        self.check(body, "SignedData", "signed_data", [("AnyElement", "Asn1RawDer")])
 
     def test_twenty_members(self):
         body = """Vessel ::= SEQUENCE { name UTF8String, number INTEGER (0..4294967295), call-sign [0] UTF8String OPTIONAL,
@@ -241,9 +241,10 @@ class Defaults(unittest.TestCase):
 class Imports(unittest.TestCase):
     def test_of_a_struct(self):
         text = crate_of("A ::= SEQUENCE { a B, b [10] INTEGER OPTIONAL, c [2] ANY OPTIONAL } B ::= SEQUENCE { a NULL }", "A").files()["src/types.rt"]
-        found = text[text.index("use der_types") : text.index("use picky_asn1_der::{")]
+        found = text[text.index("use der_elements") : text.index("use picky_asn1_der::{")]
         self.assertEqual(
             [
+                "use der_elements::AnyElement;",
                 "use der_types::{Exact, ExactMembers, Integer, Notated, NotatedMembers};",
                 "use picky_asn1_der::asn1::{ExplicitContextTag2, ExplicitContextTag10, Tag};",
                 "use picky_asn1_der::de::{Begins, Faithful, FaithfulMembers, Inhabited};",
@@ -252,6 +253,13 @@ class Imports(unittest.TestCase):
             ],
             found.strip().split("\n"),
         )
+
+    def test_of_a_value_at_which_nothing_is_looked(self):
+        modules = read_text("M DEFINITIONS ::= BEGIN A ::= SEQUENCE { a ANY } END", "m.asn1", Problems())
+        files = command.crate_of("it", modules, [], [], Problems(), raw_any=True).files()
+        self.assertIn("    pub a: Asn1RawDer,\n", files["src/types.rt"])
+        self.assertIn("    required any-element ⨾\n", files["specs/Notation.antt"])
+        self.assertNotIn("der_elements", "".join(files.values()))
 
     def test_of_two_types(self):
         """A file imports what both use once, and what only one uses, and nothing of its own."""

@@ -32,6 +32,7 @@ PRINTED = [
     ("INTEGER-in (up-to (minus 9) ∷ from-to (number 1) (number 2) ∷ from-on (number 5) ∷ [])", "INTEGER (MIN..-9 | 1..2 | 5..MAX)"),
     ("FROM ((65, 66) ∷ (97, 97) ∷ []) IA5String", "IA5String (FROM ({0, 0, 0, 65}..{0, 0, 0, 66} | {0, 0, 0, 97}..{0, 0, 0, 97}))"),
     ("OCTET-STRING-CONTAINING ANY", "OCTET STRING (CONTAINING ANY)"),
+    ("SET-OF any-element", "SET OF ANY"),
     ("CHOICE (NULL ∣ BOOLEAN ∣ later-alternatives-refused)", "CHOICE { alternative1 NULL, alternative2 BOOLEAN, ... }"),
     (
         "SEQUENCE (required NULL ⨾ default (minus 1) INTEGER ⨾ added (required BOOLEAN ⨾ default-of (number 7) INTEGER ⨾ later-members))",
