@@ -36,7 +36,7 @@ IsNoContentInfo bytes r = IsNoEncoding content_info_written.ghosts.meaning conte
 
 -- the content of a message
 abbrev pub content_bytes : ContentInfo → List ℕ
-content_bytes m = m.content.0.0.items
+content_bytes m = m.content.0.element.0.items
 
 -- the signed data whose encoding the bytes are
 abbrev pub IsSignedData : List ℕ → SignedData → Type 0
