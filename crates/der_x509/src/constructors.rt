@@ -6,8 +6,8 @@ ghost use Rattle.std.specs.Prelude.{◌≡◌};
 use crate::{
     AlgorithmIdentifier, AttributeType, AttributeTypeAndValue, AttributeValue, SubjectPublicKeyInfo,
 };
+use der_elements::AnyElement;
 use der_types::{BitString, ObjectIdentifier};
-use picky_asn1_der::Asn1RawDer;
 
 impl SubjectPublicKeyInfo {
     /// Returns the value with these members.
@@ -36,7 +36,7 @@ impl AlgorithmIdentifier {
     }
 
     /// Returns the same value with this `parameters`.
-    pub fn with_parameters(self, parameters: Asn1RawDer) -> AlgorithmIdentifier
+    pub fn with_parameters(self, parameters: AnyElement) -> AlgorithmIdentifier
         ensures { result ≡ record self { parameters = Some parameters } }
     {
         AlgorithmIdentifier {
