@@ -1,3 +1,4 @@
 pub mod Fronts
 pub mod Refusals
 pub mod ExactElements
+pub mod ExactLater

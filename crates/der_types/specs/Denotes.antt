@@ -74,6 +74,11 @@ AreNumberedFrom least (Trees.more (Tree.raw s) ts) =
     (number : ℕ) × (least ≤ number) × HasContextTag number s × AreNumberedFrom (number + 1) ts
 AreNumberedFrom least (Trees.more _ ts) = ⊥
 
+-- one element, with elements in it at every depth if it is constructed
+abbrev pub IsWellFormedTree : Tree → Type 0
+IsWellFormedTree (Tree.raw s) = ∥ IsWellFormed s ∥₁
+IsWellFormedTree _ = ⊥
+
 -- A readable tree that is denoted is a value's.
 abbrev mutual
   pub Denotes : Notation → Tree → Type 0
@@ -120,6 +125,7 @@ abbrev mutual
   DenoteMembers (Members.added ms) = AllOrNone (DenoteMembers ms)
   DenoteMembers (Members.others excluded) = AreOthers excluded
   DenoteMembers (Members.others-from least) = AreNumberedFrom least
+  DenoteMembers (Members.well-formed ms) = λ ts. DenoteMembers ms ts × EachIs IsWellFormedTree ts
 
   pub DenoteOneOf : Alternatives → Tree → Type 0
   DenoteOneOf Alternatives.none = λ t. ⊥

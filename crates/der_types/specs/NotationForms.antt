@@ -198,11 +198,14 @@ excluding count before (Members.member (Member.defaulted value t) ms) =
 excluding count before (Members.added ms) = Members.added (excluding count before ms)
 excluding count before (Members.others excluded) = Members.others (in_both_forms before)
 excluding count before (Members.others-from least) = Members.others-from count
+excluding count before (Members.well-formed ms) = Members.well-formed (excluding count before ms)
 
 -- 25: one without members is a list of none, and one with those of later versions alone a list of any elements
 abbrev pub SEQUENCE : Members → Notation
 SEQUENCE Members.end = Notation.sized 0 0 (Notation.list-of ListKind.sequence Notation.NULL)
 SEQUENCE (Members.others excluded) = Notation.list-of ListKind.sequence Notation.any-element
+SEQUENCE (Members.well-formed (Members.others excluded)) =
+    Notation.list-of ListKind.sequence Notation.well-formed-element
 SEQUENCE ms = Notation.sequence (excluding 0 [] ms)
 
 abbrev least_place : List ℕ → ℕ
@@ -220,6 +223,7 @@ insert m Members.end = m ⨾ Members.end
 insert m (Members.added ms) = m ⨾ Members.added ms
 insert m (Members.others excluded) = m ⨾ Members.others excluded
 insert m (Members.others-from least) = m ⨾ Members.others-from least
+insert m (Members.well-formed ms) = m ⨾ Members.well-formed ms
 insert m (Members.member n ns) = if nat_lt (place_of m) (place_of n) then m ⨾ n ⨾ ns else n ⨾ insert m ns
 
 abbrev in_tag_order : Members → Members
@@ -227,6 +231,7 @@ in_tag_order Members.end = Members.end
 in_tag_order (Members.added ms) = Members.added ms
 in_tag_order (Members.others excluded) = Members.others excluded
 in_tag_order (Members.others-from least) = Members.others-from least
+in_tag_order (Members.well-formed ms) = Members.well-formed ms
 in_tag_order (Members.member m ms) = insert m (in_tag_order ms)
 
 -- 27, and X.690, 10.3: the members come in the order of their tags

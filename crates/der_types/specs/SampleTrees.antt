@@ -372,6 +372,12 @@ absent_default value n ms others = record {
   short = others.short;
 }
 
+-- no members are well-formed ones
+abbrev none_well_formed : (ms : Members) (ts : Trees) → DenoteMembers ms ts → Option (MembersSample (Members.well-formed ms))
+none_well_formed ms Trees.none d =
+    Some (record { trees = Trees.none; denoted = (d, tt); readable = tt; short = tt })
+none_well_formed ms (Trees.more t ts) d = None
+
 abbrev sequence_sample : (ms : Members) → MembersSample ms → Option (Sample (Notation.sequence ms))
 sequence_sample ms m =
     with (decided (nat_lt (member_count m.trees) (2 ^ 63)))
@@ -549,6 +555,7 @@ abbrev mutual
       Some (record { trees = Trees.none; denoted = tt; readable = tt; short = tt })
   members_sample (Members.others-from least) =
       Some (record { trees = Trees.none; denoted = tt; readable = tt; short = tt })
+  members_sample (Members.well-formed ms) = with (members_sample ms) (λ x. none_well_formed ms x.trees x.denoted)
 
   pub alternative_sample : (ts : Alternatives) → Option (AlternativeSample ts)
   alternative_sample Alternatives.none = None
