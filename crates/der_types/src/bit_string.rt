@@ -44,6 +44,13 @@ impl BitString {
         Ok(BitString { content })
     }
 
+    /// Returns its content (X.690, 8.6.2): a byte with the number of unused bits, and the bytes of the bits.
+    pub fn content(&self) -> &[u8]
+        ensures { result.now ≡ self.now.content.items }
+    {
+        &self.content
+    }
+
     /// Returns how many of the lowest bits of the last byte are unused, at most 7.
     pub fn unused(&self) -> u8
         ensures value { result ≡ slice_index self.now.content.items 0 }

@@ -1,8 +1,8 @@
 //! Bit strings whose bits have names, as sets of flags.
-ghost use Rattle.std.specs.Prelude.{◌≡◌, true, false, slice_index_or, IfOk, IfErr};
+ghost use Rattle.std.specs.Prelude.{◌≡◌, ◌==◌, true, false, length, slice_index_or, IfOk, IfErr};
 ghost use Rattle.der_types.specs.BitString.{is_named_bits, bit_string_content, without_zeros, bits_of};
 
-use crate::bits::{bit_of, content_of, without_zeros};
+use crate::bits::{bit_of, content_of, len_of, without_zeros};
 use picky_der_core::{Asn1DerError, Result};
 use std::alloc::Global;
 
@@ -27,6 +27,28 @@ impl NamedBits {
     {
         let content = content_of(alloc, without_zeros(bits))?;
         Ok(NamedBits { content })
+    }
+
+    /// Returns its content (X.690, 8.6.2): a byte with the number of unused bits, and the bytes of the bits.
+    pub fn content(&self) -> &[u8]
+        ensures { result.now ≡ self.now.content.items }
+    {
+        &self.content
+    }
+
+    /// Returns how many bits it has up to the last one that is `true`. It is a `u128`, since a vector may have more than
+    /// `u64::MAX` / 8 bytes.
+    pub fn len(&self) -> u128
+        ensures { result ≡ length (bits_of self.now.content.items) }
+    {
+        len_of(&self.content)
+    }
+
+    /// Returns whether no bit is `true`.
+    pub fn is_empty(&self) -> bool
+        ensures { result ≡ (length (bits_of self.now.content.items) == 0) }
+    {
+        self.len() == 0
     }
 
     /// Returns the bit with this number. The first bit has the number 0. A bit that is left out is `false`.

@@ -225,13 +225,14 @@ class TestedDeclaration(NewtypeDeclaration):
 
 @dataclass
 class ListedDeclaration(TestedDeclaration):
-    """A struct round those values of another type that have listed contents, or others."""
+    """A struct round those values of another type that have listed contents, or others. `most` is the most bits that one with names has."""
 
     contents: Contents = ANY_CONTENT
+    most: Optional[int] = None
 
     def parts(self) -> object:
         """The type inside, and which contents its values have."""
-        return self.type, self.contents
+        return self.type, self.contents, self.most
 
 
 @dataclass

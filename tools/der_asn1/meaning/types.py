@@ -18,7 +18,7 @@ from .extensible import choice
 from .features import Feature, Level, Note
 from .library import MAX_TAG, Core, Rust, any_element, tagged_bytes, without_values
 from .library_table import BY_NAME, UNIVERSAL_TAGS, LibraryType
-from .listed import declared_list, listed
+from .listed import declared_list, listed, most_bits
 from .inner import inner_types
 from .intervals import NATURAL
 from .meaning import Meaning, lacks
@@ -321,11 +321,15 @@ class Meanings:
         if contents and contents.constraint.type is not None:
             return self.checked(self.container(contents, "BitStringAsn1Container", firsts, hint), type_, scope, constraints)
         if not type_.named:
-            return self.checked(Meaning(library_type(BY_NAME["BIT STRING"])), type_, scope, constraints)
+            plain, limits = in_words(Meaning(library_type(BY_NAME["BIT STRING"])), constraints), self.limits(constraints, type_, scope)
+            return bounded(*listed(self, plain, type_, scope, hint, limits))
         meaning = Meaning(Rust(of("NamedBits"), Core.CONTENTS, firsts, term=Term("BIT-STRING-named")))
         limits = self.limits(constraints, type_, scope)
         if limits.size.pairs and limits.size.high != float("inf"):
-            meaning = meaning.lacking(Feature.NAMED_BITS_SIZE)
+            is_both = not limits.contents.is_all()
+            meaning = meaning.lacking(Feature.NAMED_BITS_SIZE) if is_both else most_bits(self, meaning, type_, scope, hint, int(limits.size.high))
+            limits = replace(limits, size=NATURAL)
+        meaning, limits = listed(self, meaning, type_, scope, hint, limits)
         return meaning.noting(Note.CONSTRAINT) if limits.other or not limits.contents.is_all() else meaning
 
     def of_octets(self, type_: tree.SimpleType, scope: Scope, hint: Hint, constraints: tuple[ScopedConstraint, ...]) -> Meaning:

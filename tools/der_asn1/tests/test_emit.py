@@ -281,10 +281,10 @@ class Comments(unittest.TestCase):
         self.assertIn("    /// `BOOLEAN DEFAULT TRUE`.\n", text)
 
     def test_a_default_that_isnt_one(self):
-        text = crate_of("A ::= SEQUENCE { a BIT STRING DEFAULT '1'B, b NULL }", "A").files()["src/types.rt"]
+        text = crate_of("A ::= SEQUENCE { a SET OF NULL DEFAULT {}, b NULL }", "A").files()["src/types.rt"]
         wanted = "as a SEQUENCE.\n///\n/// Its values differ from the notation's. The crate lacks: DEFAULT of bits, strings,"
         self.assertIn(wanted, text)
-        self.assertIn("/// `BIT STRING DEFAULT '1'B`. A default that is written out is read, too.\n    pub a: Option<BitString>,\n", text)
+        self.assertIn("/// `SET OF NULL DEFAULT { }`. A default that is written out is read, too.\n    pub a: Option<Asn1SetOf<()>>,\n", text)
 
     def test_a_default_of_which_the_other_values_are_a_type(self):
         body = """A ::= SEQUENCE { a [0] IMPLICIT OBJECT IDENTIFIER DEFAULT { 1 2 3 }, b [1] B DEFAULT { c TRUE }, d UTF8String DEFAULT "en" }

@@ -71,8 +71,8 @@ class Terms(unittest.TestCase):
         wanted = "SEQUENCE (required NULL ⨾ optional BOOLEAN ⨾ default TRUE (CONTEXT 0 TAGS-M BOOLEAN) ⨾ end)"
         self.check([("SEQUENCE { a NULL, b BOOLEAN OPTIONAL, c [0] BOOLEAN DEFAULT TRUE }", wanted)])
         self.check([("SEQUENCE { a INTEGER DEFAULT -1 }", "SEQUENCE (default-of (minus 1) INTEGER ⨾ end)")])
-        wanted = "wider (SEQUENCE (default-as-optional BIT-STRING ⨾ required NULL ⨾ end))"
-        self.check([("SEQUENCE { a BIT STRING DEFAULT '1'B, b NULL }", wanted), ("SEQUENCE {}", "SEQUENCE end")])
+        wanted = "wider (SEQUENCE (default-as-optional (SET-OF NULL) ⨾ required NULL ⨾ end))"
+        self.check([("SEQUENCE { a SET OF NULL DEFAULT {}, b NULL }", wanted), ("SEQUENCE {}", "SEQUENCE end")])
         self.check([("SEQUENCE { a NULL DEFAULT NULL }", "SEQUENCE (default-as-optional (narrower (encoded NULL)) ⨾ end)")])
         self.check([("SEQUENCE { a [0] INTEGER DEFAULT 7 }", "SEQUENCE (default-of (number 7) (CONTEXT 0 TAGS-M INTEGER) ⨾ end)")])
 
