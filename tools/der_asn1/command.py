@@ -3,8 +3,8 @@
     der_asn1 --report [--types] [OPTION ..] MODULE.asn1 ..
     der_asn1 --print crates/NAME/specs/Notation.antt ..
     der_asn1 --out crates/NAME [--type TYPE,..] [--group FILE=TYPE,..] [--crate MODULE=CRATE ..] [--distinct TYPE,..] [--own MODULE=NAME,..]
-        [--own-terms NAME,..] [--constructors [TYPE,..]] [--check] [--allow-raw [TYPE,..]] [--allow-wider [TYPE,..]]
-        [OPTION ..] MODULE.asn1 ..
+        [--own-terms NAME,..] [--constructors [TYPE,..]] [--raw-any] [--derive TRAIT,..] [--check] [--allow-raw [TYPE,..]]
+        [--allow-wider [TYPE,..]] [OPTION ..] MODULE.asn1 ..
     der_asn1 derive [--check] FILE.rt ..
 
 `derive` is in derive.py, and writes what the structs and enums of a file of Rust need.
@@ -17,7 +17,9 @@ library are missing for the others. `--types` adds a line for each type.
 `--out` writes a crate of all types of the modules, or of the types after `--type` and what they need, and prints its line of `crates.txt`.
 `--check` writes nothing, and fails if a file isn't what would be written. What would be kept as bytes is an error without `--allow-raw`, and
 what would have other values than the notation is one without `--allow-wider`: one error for each cause, at the member that lacks something.
-Both may be for some types alone, those that the errors name. An open type is any element.
+Both may be for some types alone, those that the errors name.
+
+An open type is any element that has elements in it at every depth. With `--raw-any` it is any element.
 
 The types of a module are in one file, which has the module's name, or is `types.rt` if the crate is of one module alone.
 `--group FILE=TYPE,..` puts types with their parts into another file.
@@ -28,7 +30,8 @@ The types of a module are in one file, which has the module's name, or is `types
 own in the crate are left alone, which are files with the folders of their names: `--own MODULE=NAME,..` names a module of `src` with the
 names of it that the root exports, and `--own-terms NAME,..` names modules of `specs`.
 
-`--constructors` writes constructors of the structs of all types, or of these. Names of bits, numbers and items are constants in `named.rt`.
+`--constructors` writes constructors of all types, or of these. Names of bits, numbers and items are constants in `named.rt`.
+`--derive TRAIT,..` lets all types derive these traits, too: Clone, PartialOrd, Ord, Hash.
 
 A file after `--import` is read for the names that the modules import. `--strict` refuses what the standard doesn't allow and is otherwise
 accepted. The status is 1 if there is an error.
@@ -43,6 +46,7 @@ from typing import Optional
 
 from .derive import command as derive
 from .emit.crate import NEEDS, RESERVED, Crate, reached, reached_elsewhere
+from .emit.derives import MORE
 from .emit.folder import difference, own_paths, write
 from .emit.printed import printed, read_terms
 from .emit.values import values_of
@@ -68,11 +72,16 @@ _OF_TYPES, _TYPES = ("--allow-raw", "--allow-wider", "--constructors"), re.compi
 
 @dataclass(frozen=True)
 class How:
-    """How types are written: the names of those that are structs of their own, how often a type may be in itself, and whether defaults are left out."""
+    """How types are written.
+
+    `distinct` has the names of types that are structs of their own, and `depth` is how often a type may be in itself. `optional_defaults` is
+    whether defaults are left out, and `raw_any` whether nothing in a value of an open type is looked at.
+    """
 
     distinct: Sequence[str] = ()
     depth: int = DEPTH
     optional_defaults: bool = False
+    raw_any: bool = False
 
 
 def arguments(words: Optional[list[str]]) -> argparse.Namespace:
@@ -90,12 +99,14 @@ def arguments(words: Optional[list[str]]) -> argparse.Namespace:
     parser.add_argument("--distinct", action="append", default=[], metavar="TYPE,..", help="write these types as structs, and not as names of others")
     parser.add_argument("--own", action="append", default=[], metavar="MODULE=NAME,..", help="a module of one's own in src, with its public names")
     parser.add_argument("--own-terms", action="append", default=[], metavar="NAME,..", help="modules of one's own in specs")
-    parser.add_argument("--constructors", action="append", default=[], metavar="[TYPE,..]", help="write constructors of these structs, or of all")
+    parser.add_argument("--constructors", action="append", default=[], metavar="[TYPE,..]", help="write constructors of these types, or of all")
+    parser.add_argument("--derive", action="append", default=[], metavar="TRAIT,..", help="derive these traits, too: Clone, PartialOrd, Ord, Hash")
     parser.add_argument("--check", action="store_true", help="write nothing, and fail where a file is another one")
     parser.add_argument("--allow-raw", action="append", default=[], metavar="[TYPE,..]", help="keep as bytes what the library has no type for")
     parser.add_argument("--allow-wider", action="append", default=[], metavar="[TYPE,..]", help="use a type that has other values than the notation")
     parser.add_argument("--optional-defaults", action="store_true", help="read a DEFAULT of texts, identifiers and structures as OPTIONAL")
     parser.add_argument("--import", action="append", default=[], dest="imported", metavar="OTHER.asn1", help="a file for what the modules import")
+    parser.add_argument("--raw-any", action="store_true", help="look at nothing in the values of open types")
     parser.add_argument("--depth", type=int, default=DEPTH, metavar="N", help=f"how often a type may be in itself: {DEPTH} if nothing is said")
     parser.add_argument("--strict", action="store_true", help="refuse what the standard doesn't allow, where it is accepted else")
     return parser.parse_args(with_types(sys.argv[1:] if words is None else words))
@@ -176,11 +187,13 @@ def written(options: argparse.Namespace, modules: list[tree.Module], imported: l
         others = other_crates(options.crate, folder)
     except OSError as error:
         sys.exit(f"{error.filename}: {error.strerror}")
-    how = How(listed(options.distinct), options.depth, options.optional_defaults)
+    how = How(listed(options.distinct), options.depth, options.optional_defaults, options.raw_any)
     crate = crate_of(name, modules, imported, listed(options.type), problems, others, how)
     crate.own, crate.own_terms, crate.groups = named_lists(options.own), listed(options.own_terms), named_lists(options.group)
     crate.constructed = Allowed(options.constructors)
+    crate.derives = listed(options.derive)
     check_groups(crate, problems)
+    check_derives(crate, problems)
     refuse(problems, crate.causes, Allowed(options.allow_raw), Allowed(options.allow_wider))
     if said(problems):
         return 1
@@ -191,7 +204,8 @@ def written(options: argparse.Namespace, modules: list[tree.Module], imported: l
             print(f"{options.out}/{path} isn't what would be written")
         return 1 if wrong else 0
     write(options.out, files, own)
-    print(" ".join([f"{name}:", *sorted({*crate.elsewhere.values()}), *NEEDS]))
+    elements = ["der_elements"] if any("use der_elements::" in it for it in files.values()) else []
+    print(" ".join([f"{name}:", *sorted({*crate.elsewhere.values(), *elements}), *NEEDS]))
     return 0
 
 
@@ -218,6 +232,15 @@ def check_groups(crate: Crate, problems: Problems) -> None:
             problems.error(crate.modules[0].place, f"the crate has no type `{missing[0]}` for `{stem}.rt`", "docs/ASN1.md")
         if stem in crate.own or stem in RESERVED:
             problems.error(crate.modules[0].place, f"a group can't be called `{stem}`", "docs/ASN1.md")
+
+
+def check_derives(crate: Crate, problems: Problems) -> None:
+    """Says which traits can't be derived for all types, and which need another one."""
+    for it in crate.derives:
+        if it not in MORE:
+            problems.error(crate.modules[0].place, f"`{it}` can't be derived for all types, only {', '.join(MORE)}", "docs/ASN1.md")
+        elif MORE[it] and MORE[it] not in crate.derives:
+            problems.error(crate.modules[0].place, f"`{it}` needs `{MORE[it]}`", "docs/ASN1.md")
 
 
 def crate_of(
@@ -257,7 +280,8 @@ def declared(program: Program, names: list[str], others: OtherCrates, how: How) 
     modules, problems = program.modules, program.problems
     identified(program)
     recursion = recursion_in(program, how.depth)
-    meanings, checks = Meanings(program, Declarations(others), how.distinct, recursion, how.optional_defaults), ModuleChecks(program)
+    meanings = Meanings(program, Declarations(others), how.distinct, recursion, how.optional_defaults, how.raw_any)
+    checks = ModuleChecks(program)
     for module in [] if names else modules:
         checks.module(module)
     found, missing = [], set(names)

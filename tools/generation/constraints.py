@@ -23,6 +23,8 @@ use picky_der_core::asn1::Tag;
 use picky_der_core::misc::{ReadExt, WriteExt};
 use picky_der_de::{Begins, Deserialize, Deserializer, Faithful};
 use picky_der_ser::{$list_use Serialize, Serializer};
+use std::alloc::AllocError;
+use std::fmt;
 $phantom_use
 $doc
 $derives
@@ -61,6 +63,37 @@ $first        if $code {
     {
         let $taken = self;
         value
+    }
+}
+
+/// It has a copy of the $value. A copy that the bounds don't allow, which no type of this library makes, counts as a failed
+/// allocation.
+impl<T: $of + Clone, $parameters> Clone for $type {
+    ghost is_clone = { λ x y. T.is_clone x.value y.value };
+
+    fn clone(&self) -> std::result::Result<$type, AllocError> {
+        match Self::new(self.value.clone()?) {
+            Some(copy) => Ok(copy),
+            None => Err(AllocError),
+        }
+    }
+}
+
+/// It prints as the $value.
+impl<T: $of + fmt::Debug, $parameters> fmt::Debug for $type {
+    ghost debug_output = { λ it. T.debug_output it.value };
+
+    fn fmt<W: fmt::Write>(&self, f: &mut fmt::Formatter<W>) -> fmt::Result {
+        self.value.fmt(f)
+    }
+}
+
+/// It prints as the $value.
+impl<T: $of + fmt::Display, $parameters> fmt::Display for $type {
+    ghost output = { λ it. T.output it.value };
+
+    fn fmt<W: fmt::Write>(&self, f: &mut fmt::Formatter<W>) -> fmt::Result {
+        self.value.fmt(f)
     }
 }
 
@@ -236,7 +269,7 @@ def made(row: Constraint, phantom: str = "PhantomData") -> str:
 def struct_words(row: Constraint) -> dict[str, str]:
     """What the template names of the struct. One with fields of types has derives that ask nothing of these."""
     found = phantoms_of(row)
-    derives = "#[derive(Drop)]\n#[derive_where(Debug, PartialEq, Eq; T)]" if found else "#[derive(Debug, Drop, PartialEq, Eq)]"
+    derives = "#[derive(Drop)]\n#[derive_where(PartialEq, Eq, PartialOrd, Ord, Hash; T)]" if found else "#[derive(Drop, PartialEq, Eq, PartialOrd, Ord, Hash)]"
     return {
         "derives": derives,
         "fields": "".join(f"    #[derive_where(skip)]\n    {field}: PhantomData<{name}>,\n" for field, name in found),

@@ -21,10 +21,16 @@ def by_tag(cases: list[tuple[int, str]], other: str) -> str:
 
 
 def strings(rows: list[Characters]) -> Lines:
-    """The strings by their tags: the width and the set of their characters."""
+    """The strings by their tags: which tags they are, the width and the set of their characters."""
+    tags = " ∷ ".join([f"0x{tag:02X}" for tag in sorted(row.tag for row in rows)] + ["[]"])
     return [
-        "-- ---- the restricted strings by their tags (41, table 8)",
+        "-- ---- the restricted strings by their tags (41, table 8), and ObjectDescriptor (48.3)",
         "",
+        "-- UTF8String isn't one of these",
+        "abbrev pub string_tags : List ℕ",
+        f"string_tags = {tags}",
+        "",
+        "-- what follows says something of these tags alone",
         "abbrev pub string_width : ℕ → Width",
         "string_width tag =",
         f"    {by_tag([(row.tag, row.width) for row in rows if row.width != 'One'], 'One')}",
@@ -43,7 +49,7 @@ def content_types() -> Lines:
     return [
         *proof(),
         "-- The types of ASN.1 whose content passes a test, and the string types by their tags. The clauses are those of X.680.",
-        "use Rattle.std.specs.Prelude.{ℕ, Bool, List, length, ◌==◌, if◌then◌else◌}",
+        "use Rattle.std.specs.Prelude.{ℕ, Bool, List, [], ◌∷◌, length, ◌==◌, if◌then◌else◌}",
         "use Rattle.der_types.specs.declared.width.Width.{Width}",
         "use Rattle.der_types.specs.declared.width.Width.TheVariants.{One, Two, Four}",
         f"use Rattle.der_types.specs.CharacterStrings.{{{', '.join(tests)}}}",

@@ -19,7 +19,7 @@ class Form:
     # the functions of `Contents`
     functions: str
     shown: str = ""
-    # a copy of `self`: nothing if the type is `Copy`
+    # the body of `clone`: nothing if the type is `Copy`
     copy: str = ""
     # what its contracts and its code import, besides what all such types do
     ghost_uses: tuple[str, ...] = ()
@@ -122,6 +122,7 @@ FORMS = {
         functions=FROM_VECTOR,
         copy=COPY_CONTENT,
         ghost_uses=("Rattle.der_types.specs.MadeValues.{vec_of}",),
+        uses=("std::alloc::AllocError",),
     ),
     "short vector": Form(
         content="$it.content.items",
@@ -131,7 +132,7 @@ FORMS = {
         shown="⟦<$name as Contents>⟧.content $it",
         copy=COPY_CONTENT,
         ghost_uses=("Rattle.der_types.specs.MadeValues.{small_vec_of}",),
-        uses=("crate::object_identifier::INLINE", "smallvec::SmallVec", "std::alloc::Global"),
+        uses=("crate::object_identifier::INLINE", "smallvec::SmallVec", "std::alloc::{AllocError, Global}"),
     ),
     "integer": Form(
         content="$it.0.content.items",
@@ -141,6 +142,7 @@ FORMS = {
         copy=COPY_INTEGER,
         ghost_uses=("Rattle.der_types.specs.MadeValues.{vec_of}",),
         names=("Integer",),
+        uses=("std::alloc::AllocError",),
     ),
     "date and time": Form(
         content="utc_content $it.at",
@@ -157,14 +159,24 @@ FORMS = {
     ),
 }
 
+# a copy, on the same allocator
 COPY = """
-impl $name {
-    /// Returns a copy, on the same allocator. `OutOfMemory` if the allocation fails.
-    pub fn clone(&self) -> Result<$name>
-        ensures same { IfOk result (λ copy. $copy_shown ≡ $self_shown) }
-        ensures memory { IfErr result (λ e. e ≡ Asn1DerError.OutOfMemory) }
-    {
+impl Clone for $name {
+    ghost is_clone = { λ x y. $copy_shown ≡ $self_shown };
+
+    fn clone(&self) -> std::result::Result<$name, AllocError> {
 $copy
+    }
+}
+"""
+
+# it prints as its text
+PRINTED = """
+impl fmt::Debug for $name {
+    ghost debug_output = { ⟦<Self as fmt::Display>⟧.output };
+
+    fn fmt<W: fmt::Write>(&self, f: &mut fmt::Formatter<W>) -> fmt::Result {
+        fmt::Display::fmt(self, f)
     }
 }
 """
@@ -270,7 +282,7 @@ def words_of(row: Content) -> dict[str, str]:
     words |= {it: filled(form.content, it=it) for it in ("x", "y")}
     words["content"] = filled(form.content, it="it")
     shown = form.shown or form.content
-    for key, it in (("it_shown", "it"), ("copy_shown", "copy"), ("self_shown", "self.now")):
+    for key, it in (("it_shown", "it"), ("copy_shown", "y"), ("self_shown", "x")):
         words[key] = filled(shown, it=it, name=row.name)
     if form.shown:
         words["it_shown"] = f"({words['it_shown']})"
@@ -312,11 +324,12 @@ def uses(row: Content) -> Lines:
     names = sorted(["Contents", "Exact", "ExactContents", "Notated", row.name, "deserialize_contents_as", *form.names])
     paths = [
         f"crate::{{{', '.join(names)}}}",
-        "picky_der_core::{Asn1DerError, Result}" if form.copy else "picky_der_core::Result",
+        "picky_der_core::Result",
         "picky_der_core::asn1::Tag",
         "picky_der_core::misc::{ReadExt, WriteExt}",
         "picky_der_de::{Begins, Deserialize, Deserializer, Faithful, Inhabited}",
         "picky_der_ser::{Serialize, Serializer}",
+        "std::fmt",
         *form.uses,
         *([row.code] if row.code else []),
     ]
@@ -326,8 +339,8 @@ def uses(row: Content) -> Lines:
 def implementations(row: Content) -> Lines:
     """The file of a type."""
     words = words_of(row)
-    copy = filled(COPY, **words) + "\n\n" if FORMS[row.form].copy else ""
-    text = copy + filled(IMPLEMENTATIONS, **words)
+    templates = [*([COPY] if FORMS[row.form].copy else []), PRINTED, IMPLEMENTATIONS]
+    text = "\n\n".join(filled(it, **words) for it in templates)
     return [*source(f"`{row.name}` as a type whose content passes a test."), *ghost_uses(row), "", *uses(row), "", *text.split("\n")]
 
 

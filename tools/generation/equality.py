@@ -1,4 +1,4 @@
-"""When two values of a type of der_types whose content passes a test are equal."""
+"""When two values of a type of der_types whose content passes a test are equal, what a copy of one is, and how they are ordered."""
 from string import Template
 
 from generation.contents import FORMS
@@ -19,18 +19,37 @@ def content_of(row: Content, value: str) -> str:
     return Template(FORMS[row.form].content).substitute(it=value)
 
 
+def clauses(rows: list[Content], claim: str) -> Lines:
+    """A clause for each of these types: a claim of `$name` and `$part`, its content."""
+    shown = [Template(claim).substitute(name=row.name, part=f"(λ it. {content_of(row, 'it')})") for row in rows]
+    return [f"    ensures {row.module} {{ {it} }}" for row, it in zip(rows, shown)]
+
+
 def law() -> Lines:
-    """The law of all such types, a clause each."""
-    clauses = [f"    ensures {row.module} {{ IsEqualityOf ⟦<{row.name} as PartialEq>⟧.eq (λ it. {content_of(row, 'it')}) }}" for row in derived()]
+    """The laws of all such types, a clause each."""
+    copied = [row for row in contents() if FORMS[row.form].copy]
+    ordered = [row for row in contents() if row.order == "content"]
     return [
-        *source("When two values of a type whose content passes a test are equal by `==`."),
-        "ghost use Rattle.picky_der_core.specs.Equality.{IsEqualityOf};",
+        *source("When two values of a type whose content passes a test are equal by `==`, what a copy is, and how they are ordered."),
+        "ghost use Rattle.std.specs.Cmp.Lexicographic.{slice_cmp};",
+        "ghost use Rattle.std.specs.Ordering.{nat_cmp};",
+        "ghost use Rattle.picky_der_core.specs.Equality.{IsEqualityOf, IsKept, IsThatOf};",
         "",
-        f"use crate::{{{', '.join(sorted(row.name for row in derived()))}}};",
+        f"use crate::{{{', '.join(sorted({row.name for row in [*derived(), *copied, *ordered]}))}}};",
         "",
         "/// Two values are equal by `==` exactly if their contents are the same.",
         "pub fn content_equality()",
-        *clauses,
+        *clauses(derived(), "IsEqualityOf ⟦<$name as PartialEq>⟧.eq $part"),
+        "{}",
+        "",
+        "/// A copy has the same content.",
+        "pub fn content_copies()",
+        *clauses(copied, "IsKept ⟦<$name as Clone>⟧.is_clone $part"),
+        "{}",
+        "",
+        "/// Values are ordered by the bytes of their contents, at the first index where these differ.",
+        "pub fn content_orders()",
+        *clauses(ordered, "IsThatOf ⟦<$name as Ord>⟧.cmp $part (slice_cmp nat_cmp)"),
         "{}",
     ]
 

@@ -134,6 +134,44 @@ def notated_numbers() -> Lines:
     ]
 
 
+FROM_INTEGER = """
+/// The number of an INTEGER; `UnsupportedValue` if it doesn't fit the type.
+impl TryFrom<&Integer> for $name {
+    type Error = Asn1DerError;
+
+    ghost try_from_gives = { λ integer made.
+        IfOk made (λ n. $number ≡ integer_value integer.now.content.items)
+        × IfErr made (λ e. (e ≡ UnsupportedValue)
+            × ($fits $bits (integer_value integer.now.content.items) ≡ false)) };
+
+    fn try_from(integer: &Integer) -> Result<$name> {
+        match number_of(integer.content()) {
+            Some(number) => Ok(number),
+            None => Err(Asn1DerError::UnsupportedValue),
+        }
+    }
+}
+"""
+
+
+def numbers_of_integers() -> Lines:
+    """The file of numbers of INTEGERs as numbers of each type."""
+    return [
+        *source("The numbers of INTEGERs, in each type that has them."),
+        "ghost use Rattle.std.specs.Prelude.{◌≡◌, pos, false, IfOk, IfErr};",
+        "ghost use Rattle.picky_der_core.specs.Integer.{fits_signed, fits_unsigned, integer_value};",
+        "ghost use Rattle.picky_der_core.specs.declared.error.Asn1DerError.TheVariants.{UnsupportedValue};",
+        "",
+        "use crate::Integer;",
+        "use picky_der_core::integer::number_of;",
+        "use picky_der_core::{Asn1DerError, Result};",
+        "use std::convert::TryFrom;",
+        "",
+        *each(FROM_INTEGER, UNSIGNED, number="pos n", fits="fits_unsigned"),
+        *each(FROM_INTEGER, SIGNED, number="n", fits="fits_signed"),
+    ]
+
+
 def files() -> Files:
-    """The file of der_types."""
-    return {"crates/der_types/src/generated/numbers.rt": notated_numbers()}
+    """The files of der_types."""
+    return {"crates/der_types/src/generated/numbers.rt": notated_numbers(), "crates/der_types/src/generated/integer_numbers.rt": numbers_of_integers()}

@@ -49,6 +49,7 @@ class Content:
     sized: bool = True
     size: Named | None = None
     equality: Equality | None = None
+    order: str = "content"
 
     @property
     def module(self) -> str:

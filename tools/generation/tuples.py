@@ -252,7 +252,7 @@ def read_members_by_rule(first: str, read: str) -> Lines:
     """That members are refused by their rules, where the first was read as said."""
     a = "g.A.DeserializeMember"
     member = f"{a}.item_meaning {a}.left_out {a}.shape {a}.facts.rule"
-    item = f"{a}.presence ({a}.item c.in_ok-first.first) ({first}.there c.in_ok-first.first) {read}"
+    item = f"{a}.presence ({a}.item c.in_ok-first.first) ({first}.there c.in_ok-first.first) (g.met.A.DeserializeMember.distinguished.written c.in_ok-first.first) {read}"
     after = f"(still_none {a}.item_meaning {a}.shape _ _ none c.requires.implicit_tag ({a}.item c.in_ok-first.first) {read})"
     return [
         "",

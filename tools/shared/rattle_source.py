@@ -83,7 +83,7 @@ def split(text: str) -> list[str]:
 
 
 def block_of(header: str) -> str:
-    """The name of an `impl` or `trait` in the checker's names: that of the type, and of the trait that it has there."""
+    """The name of an `impl`, a `trait` or a module in the checker's names: for an `impl` that of the type, and of the trait that it has there."""
     header = re.sub(r"\bwhere\b.*", "", header, flags=re.S).strip()
     if header.startswith("impl"):
         header, parameters = header[len("impl") :].strip(), []
@@ -105,7 +105,7 @@ def parts(text: str) -> tuple[list[Part], list[Block]]:
     found: list[Part] = []
     blocks: list[Block] = []
     code, at = blanked(text), 0
-    pattern = re.compile(r"\bfn\s+(\w+)|\b((?:impl|trait)\b(?:[^;{\[]|\[[^\]]*\])*)\{")
+    pattern = re.compile(r"\bfn\s+(\w+)|\b((?:impl|trait|mod)\b(?:[^;{\[]|\[[^\]]*\])*)\{")
     for it in iter(lambda: pattern.search(code, at), None):
         if it[1]:
             begin = max(code.rfind(sign, 0, it.start()) for sign in "{};") + 1

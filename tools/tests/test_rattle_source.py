@@ -24,6 +24,10 @@ trait Named: Sized {
         ensures is { result ≡ 'a' };
 }
 
+pub mod level {
+    pub fn numbers() {}
+}
+
 fn main() {}
 """
 
@@ -31,11 +35,11 @@ fn main() {}
 class Functions(unittest.TestCase):
     def test_each_has_its_block_and_name(self) -> None:
         found = [(block, name) for block, name, _, _ in source.functions(FILE)]
-        self.assertEqual([("Level", "name"), ("Level", "len"), ("Named", "name"), ("", "main")], found)
+        self.assertEqual([("Level", "name"), ("Level", "len"), ("Named", "name"), ("level", "numbers"), ("", "main")], found)
 
     def test_a_body_begins_after_the_clauses(self) -> None:
         bodies = [FILE[body:end] for _, _, _, body, end in source.parts(FILE)[0]]
-        self.assertEqual(['{\n        "{"\n    }', "{ if self.0 { 1 } else { 2 } }", ";", "{}"], bodies)
+        self.assertEqual(['{\n        "{"\n    }', "{ if self.0 { 1 } else { 2 } }", ";", "{}", "{}"], bodies)
 
     def test_clauses(self) -> None:
         text = "fn f() ensures one { a { b } } ensures { ⟦<[T] as Clone>⟧ ⟦<Of<T, 1> as PartialEq>⟧ } {}"
@@ -44,8 +48,8 @@ class Functions(unittest.TestCase):
 
     def test_the_blocks_are_whole(self) -> None:
         blocks = [FILE[begin:end] for _, begin, end in source.parts(FILE)[1]]
-        self.assertEqual(["impl<T: Copy> Level<T> {", "trait Named: Sized {"], [it.split("\n")[0] for it in blocks])
-        self.assertEqual(["}", "}"], [it.split("\n")[-1] for it in blocks])
+        self.assertEqual(["impl<T: Copy> Level<T> {", "trait Named: Sized {", "mod level {"], [it.split("\n")[0] for it in blocks])
+        self.assertEqual(["}", "}", "}"], [it.split("\n")[-1] for it in blocks])
 
     def test_what_is_no_code_is_blank(self) -> None:
         self.assertEqual("a     b c   \n e", source.blanked("a/*{*/b c//d\n e"))

@@ -137,7 +137,7 @@ NAMES: Dict[str, int] = {
     "EcdsaSigValue": 24,
     "EcpkParameters": 25,
     "DssParms": 26,
-    "Pfx": 27,
+    "PFX": 27,
     "Ticket": 28,
     "KerberosMessage": 29,
     "AsReq": 30,

@@ -12,6 +12,7 @@ ghost use Rattle.der_types.specs.ExactChoices.{choice_values};
 ghost use Rattle.der_types.specs.ExactMembers.{struct_values};
 ghost use Rattle.der_types.specs.SampleTrees.{exact_example};
 
+use der_elements::AnyElement;
 use der_types::{
     AtLeast, Exact, ExactAlternatives, ExactMembers, Integer, Notated, NotatedAlternatives,
     NotatedMembers, Plus, WithSize,
@@ -25,8 +26,8 @@ use picky_asn1_der::de::{
 use picky_asn1_der::misc::{ReadExt, WriteExt};
 use picky_asn1_der::ser::{Optional, OptionalRef};
 use picky_asn1_der::{
-    Alternatives, Asn1RawDer, Choice, Deserialize, DeserializeMembers, Deserializer, List, NoneOf,
-    OneOf, Result, Serialize, SerializeMembers, Serializer, Struct, deserialize_struct_as,
+    Alternatives, Choice, Deserialize, DeserializeMembers, Deserializer, List, NoneOf, OneOf,
+    Result, Serialize, SerializeMembers, Serializer, Struct, deserialize_struct_as,
 };
 
 /// `PBKDF2-params` of PKCS5v2-1, as a SEQUENCE.
@@ -138,10 +139,10 @@ pub enum Pbkdf2Salt {
     /// `OCTET STRING`.
     Specified(ByteBuf),
     /// `SEQUENCE SIZE (1..2) OF ANY`.
-    OtherSource(WithSize<Vec<Asn1RawDer>, 1, 2>),
+    OtherSource(WithSize<Vec<AnyElement>, 1, 2>),
 }
 
-type Pbkdf2SaltParts = OneOf<ByteBuf, OneOf<WithSize<Vec<Asn1RawDer>, 1, 2>, NoneOf>>;
+type Pbkdf2SaltParts = OneOf<ByteBuf, OneOf<WithSize<Vec<AnyElement>, 1, 2>, NoneOf>>;
 
 impl Choice for Pbkdf2Salt {
     ghost use Rattle.der_algorithms.specs.declared.pkcs5_v2_1.Pbkdf2Salt.TheVariants as variants;

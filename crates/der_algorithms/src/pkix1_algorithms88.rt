@@ -8,6 +8,7 @@ ghost use Rattle.der_types.specs.Notation.{Notation};
 ghost use Rattle.der_types.specs.ExactMembers.{struct_values};
 ghost use Rattle.der_types.specs.SampleTrees.{exact_example};
 
+use der_elements::AnyElement;
 use der_types::{
     BitString, Exact, ExactMembers, Integer, Notated, NotatedMembers, ObjectIdentifier,
 };
@@ -16,8 +17,8 @@ use picky_asn1_der::de::{Begins, Faithful, FaithfulMembers, Inhabited};
 use picky_asn1_der::misc::{ReadExt, WriteExt};
 use picky_asn1_der::ser::{Optional, OptionalRef};
 use picky_asn1_der::{
-    Asn1RawDer, Deserialize, DeserializeMembers, Deserializer, List, Result, Serialize,
-    SerializeMembers, Serializer, Struct, deserialize_struct_as,
+    Deserialize, DeserializeMembers, Deserializer, List, Result, Serialize, SerializeMembers,
+    Serializer, Struct, deserialize_struct_as,
 };
 
 /// `DSAPublicKey` of PKIX1Algorithms88: `INTEGER`.
@@ -441,10 +442,10 @@ pub struct FieldId {
     /// `OBJECT IDENTIFIER`.
     pub field_type: ObjectIdentifier,
     /// `ANY DEFINED BY fieldType`.
-    pub parameters: Asn1RawDer,
+    pub parameters: AnyElement,
 }
 
-type FieldIdParts = (ObjectIdentifier, Asn1RawDer, ());
+type FieldIdParts = (ObjectIdentifier, AnyElement, ());
 
 impl Struct for FieldId {
     type Members = FieldIdParts;
@@ -526,10 +527,10 @@ pub struct CharacteristicTwo {
     /// `OBJECT IDENTIFIER`.
     pub basis: ObjectIdentifier,
     /// `ANY DEFINED BY basis`.
-    pub parameters: Asn1RawDer,
+    pub parameters: AnyElement,
 }
 
-type CharacteristicTwoParts = (Integer, ObjectIdentifier, Asn1RawDer, ());
+type CharacteristicTwoParts = (Integer, ObjectIdentifier, AnyElement, ());
 
 impl Struct for CharacteristicTwo {
     type Members = CharacteristicTwoParts;

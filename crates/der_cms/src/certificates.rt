@@ -13,6 +13,7 @@ ghost use Rattle.der_types.specs.ExactChoices.{choice_values};
 ghost use Rattle.der_types.specs.ExactMembers.{struct_values};
 ghost use Rattle.der_types.specs.SampleTrees.{exact_example};
 
+use der_elements::AnyElement;
 use der_types::{
     Exact, ExactAlternatives, ExactMembers, Notated, NotatedAlternatives, NotatedMembers,
     ObjectIdentifier,
@@ -28,8 +29,8 @@ use picky_asn1_der::de::{
 };
 use picky_asn1_der::misc::{ReadExt, WriteExt};
 use picky_asn1_der::{
-    Alternatives, Asn1RawDer, Choice, Choice4, Deserialize, DeserializeMembers, Deserializer, List,
-    NoneOf, OneOf, Result, Serialize, SerializeMembers, Serializer, Struct, deserialize_struct_as,
+    Alternatives, Choice, Choice4, Deserialize, DeserializeMembers, Deserializer, List, NoneOf,
+    OneOf, Result, Serialize, SerializeMembers, Serializer, Struct, deserialize_struct_as,
 };
 
 /// `RevocationInfoChoices` of CryptographicMessageSyntax2004: `SET OF RevocationInfoChoice`.
@@ -135,10 +136,10 @@ pub struct OtherRevocationInfoFormat {
     /// `OBJECT IDENTIFIER`.
     pub other_rev_info_format: ObjectIdentifier,
     /// `ANY DEFINED BY otherRevInfoFormat`.
-    pub other_rev_info: Asn1RawDer,
+    pub other_rev_info: AnyElement,
 }
 
-type OtherRevocationInfoFormatParts = (ObjectIdentifier, Asn1RawDer, ());
+type OtherRevocationInfoFormatParts = (ObjectIdentifier, AnyElement, ());
 
 impl Struct for OtherRevocationInfoFormat {
     type Members = OtherRevocationInfoFormatParts;
@@ -342,13 +343,13 @@ impl Inhabited for CertificateChoices {
 /// Certificates of PKCS #6 and attribute certificates (RFC 5755), by their members. This module
 /// doesn't define these. `ExtendedCertificate` of CryptographicMessageSyntax2004: `SEQUENCE OF
 /// ANY`.
-pub type ExtendedCertificate = Vec<Asn1RawDer>;
+pub type ExtendedCertificate = Vec<AnyElement>;
 
 /// `AttributeCertificateV1` of CryptographicMessageSyntax2004: `SEQUENCE OF ANY`.
-pub type AttributeCertificateV1 = Vec<Asn1RawDer>;
+pub type AttributeCertificateV1 = Vec<AnyElement>;
 
 /// `AttributeCertificateV2` of CryptographicMessageSyntax2004: `SEQUENCE OF ANY`.
-pub type AttributeCertificateV2 = Vec<Asn1RawDer>;
+pub type AttributeCertificateV2 = Vec<AnyElement>;
 
 /// `OtherCertificateFormat` of CryptographicMessageSyntax2004, as a SEQUENCE.
 #[derive(Debug, Drop, PartialEq, Eq)]
@@ -356,10 +357,10 @@ pub struct OtherCertificateFormat {
     /// `OBJECT IDENTIFIER`.
     pub other_cert_format: ObjectIdentifier,
     /// `ANY DEFINED BY otherCertFormat`.
-    pub other_cert: Asn1RawDer,
+    pub other_cert: AnyElement,
 }
 
-type OtherCertificateFormatParts = (ObjectIdentifier, Asn1RawDer, ());
+type OtherCertificateFormatParts = (ObjectIdentifier, AnyElement, ());
 
 impl Struct for OtherCertificateFormat {
     type Members = OtherCertificateFormatParts;

@@ -16,6 +16,7 @@ use crate::{
     EncapsulatedContentInfo, EncryptedContentInfo, OriginatorInfo, RecipientInfos, SignerInfo,
     UnprotectedAttributes,
 };
+use der_elements::AnyElement;
 use der_types::{
     Exact, ExactAlternatives, ExactMembers, GeneralizedTime, Integer, Notated, NotatedAlternatives,
     NotatedMembers, ObjectIdentifier, UtcTime, WithSize,
@@ -32,8 +33,8 @@ use picky_asn1_der::de::{
 use picky_asn1_der::misc::{ReadExt, WriteExt};
 use picky_asn1_der::ser::{Optional, OptionalRef};
 use picky_asn1_der::{
-    Alternatives, Asn1RawDer, Choice, Deserialize, DeserializeMembers, Deserializer, List, NoneOf,
-    OneOf, Result, Serialize, SerializeMembers, Serializer, Struct, deserialize_struct_as,
+    Alternatives, Choice, Deserialize, DeserializeMembers, Deserializer, List, NoneOf, OneOf,
+    Result, Serialize, SerializeMembers, Serializer, Struct, deserialize_struct_as,
 };
 
 /// A message: which kind it is, and the message itself. The identifiers of the kinds are below.
@@ -43,10 +44,10 @@ pub struct ContentInfo {
     /// `ContentType`.
     pub content_type: ContentType,
     /// `[0] EXPLICIT ANY DEFINED BY contentType`.
-    pub content: ExplicitContextTag0<Asn1RawDer>,
+    pub content: ExplicitContextTag0<AnyElement>,
 }
 
-type ContentInfoParts = (ContentType, ExplicitContextTag0<Asn1RawDer>, ());
+type ContentInfoParts = (ContentType, ExplicitContextTag0<AnyElement>, ());
 
 impl Struct for ContentInfo {
     type Members = ContentInfoParts;
@@ -203,7 +204,7 @@ impl Inhabited for Attribute {
 }
 
 /// `AttributeValue` of CryptographicMessageSyntax2004: `ANY`.
-pub type AttributeValue = Asn1RawDer;
+pub type AttributeValue = AnyElement;
 
 /// `DigestedData` of CryptographicMessageSyntax2004, as a SEQUENCE.
 #[derive(Debug, Drop, PartialEq, Eq)]

@@ -17,6 +17,7 @@ use crate::{
     CmsVersion, IssuerAndSerialNumber, KeyAgreeRecipientInfo, KeyDerivationAlgorithmIdentifier,
     KeyEncryptionAlgorithmIdentifier,
 };
+use der_elements::AnyElement;
 use der_types::{
     Exact, ExactAlternatives, ExactMembers, GeneralizedTime, Notated, NotatedAlternatives,
     NotatedMembers, ObjectIdentifier, WithSize,
@@ -33,8 +34,8 @@ use picky_asn1_der::de::{
 use picky_asn1_der::misc::{ReadExt, WriteExt};
 use picky_asn1_der::ser::{Optional, OptionalRef};
 use picky_asn1_der::{
-    Alternatives, Asn1RawDer, Choice, Choice4, Deserialize, DeserializeMembers, Deserializer, List,
-    NoneOf, OneOf, Result, Serialize, SerializeMembers, Serializer, Struct, deserialize_struct_as,
+    Alternatives, Choice, Choice4, Deserialize, DeserializeMembers, Deserializer, List, NoneOf,
+    OneOf, Result, Serialize, SerializeMembers, Serializer, Struct, deserialize_struct_as,
 };
 
 /// `RecipientInfos` of CryptographicMessageSyntax2004: `SET SIZE (1..MAX) OF RecipientInfo`.
@@ -704,10 +705,10 @@ pub struct OtherRecipientInfo {
     /// `OBJECT IDENTIFIER`.
     pub ori_type: ObjectIdentifier,
     /// `ANY DEFINED BY oriType`.
-    pub ori_value: Asn1RawDer,
+    pub ori_value: AnyElement,
 }
 
-type OtherRecipientInfoParts = (ObjectIdentifier, Asn1RawDer, ());
+type OtherRecipientInfoParts = (ObjectIdentifier, AnyElement, ());
 
 impl Struct for OtherRecipientInfo {
     type Members = OtherRecipientInfoParts;
@@ -784,10 +785,10 @@ pub struct OtherKeyAttribute {
     /// `OBJECT IDENTIFIER`.
     pub key_attr_id: ObjectIdentifier,
     /// `ANY DEFINED BY keyAttrId OPTIONAL`.
-    pub key_attr: Option<Asn1RawDer>,
+    pub key_attr: Option<AnyElement>,
 }
 
-type OtherKeyAttributeParts = (ObjectIdentifier, Optional<Asn1RawDer>, ());
+type OtherKeyAttributeParts = (ObjectIdentifier, Optional<AnyElement>, ());
 
 impl Struct for OtherKeyAttribute {
     type Members = OtherKeyAttributeParts;

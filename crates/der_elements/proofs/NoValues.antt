@@ -4,6 +4,7 @@ use Rattle.std.specs.Prelude.{Result, Ok, Err, IfErr}
 use Rattle.std.proofs.lemmas.Grind.{not_there}
 use Rattle.picky_der_core.specs.declared.error.Asn1DerError.{Asn1DerError}
 use Rattle.picky_der_core.specs.Encoding.{der}
+use Rattle.picky_der_core.specs.Readable.{IsWritable}
 use Rattle.picky_der_core.specs.Tree.{Tree}
 use Rattle.picky_der_de.specs.Twins.{IsNoValue}
 use Rattle.der_types.specs.WellFormed.{IsWellFormed}
@@ -26,6 +27,6 @@ module _ {V W : Type 0} (bytes : W → List ℕ) (part : V → W) (kept : (v : V
 
 -- are a value's encoding
 pub refused_value : {V : Type 0} (t : Tree) (bytes : List ℕ) (r : Result V Asn1DerError) → bytes ≡ der t
-    → IfErr r (RefusesElement bytes) → IfErr r (RefusesValue t)
-refused_value t bytes (Ok v) is h = h
-refused_value t bytes (Err e) is h = RefusesValue.refused (subst (λ s. RefusesElement s e) is h)
+    → IsWritable t → IfErr r (RefusesElement bytes) → IfErr r (RefusesValue t)
+refused_value t bytes (Ok v) is w h = h
+refused_value t bytes (Err e) is w h = RefusesValue.refused w (subst (λ s. RefusesElement s e) is h)

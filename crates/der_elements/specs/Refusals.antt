@@ -13,7 +13,7 @@ pub data RefusesElement (bytes : List ℕ) (e : Asn1DerError) : Type 0 where
   no_memory : e ≡ OutOfMemory → RefusesElement bytes e
   not_formed : e ≡ InvalidData → (IsWellFormed bytes → ⊥) → RefusesElement bytes e
 
--- the value can't be written, or its encoding is refused
+-- the value can't be written or an allocation fails, or it can be written and its encoding is refused
 pub data RefusesValue (t : Tree) (e : Asn1DerError) : Type 0 where
   not_written : MemoryExcuse (IsWritable t) e → RefusesValue t e
-  refused : RefusesElement (der t) e → RefusesValue t e
+  refused : IsWritable t → RefusesElement (der t) e → RefusesValue t e

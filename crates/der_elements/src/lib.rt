@@ -2,8 +2,12 @@
 #![tactic(auto)]
 
 pub mod any_element;
+mod later_elements;
+mod later_elements_from;
 mod notated;
 mod well_formed;
 
 pub use any_element::AnyElement;
+pub use later_elements::LaterElements;
+pub use later_elements_from::LaterElementsFrom;
 pub use well_formed::{are_well_formed, is_well_formed};

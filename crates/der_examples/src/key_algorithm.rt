@@ -7,8 +7,8 @@ ghost use Rattle.picky_der_de.specs.Facts.{tested_facts};
 ghost use Rattle.der_types.specs.declared.names.TheConstants.{RSA_ENCRYPTION, EC_PUBLIC_KEY};
 ghost use Rattle.der_examples.specs.KeyAlgorithm.{element_of, is_null, is_curve};
 
+use crate::RawAlgorithm;
 use der_types::{Encoded, ObjectIdentifier, names};
-use der_x509::AlgorithmIdentifier;
 use picky_asn1_der::misc::{ReadExt, WriteExt};
 use picky_asn1_der::{
     Asn1DerError, Asn1RawDer, Deserialize, Deserializer, Result, Serialize, Serializer, TryVia,
@@ -71,12 +71,12 @@ impl KeyAlgorithm {
 }
 
 impl TryVia for KeyAlgorithm {
-    type As = AlgorithmIdentifier;
+    type As = RawAlgorithm;
 
     ghost parts = { λ it. record { algorithm = it.identifier; parameters = element_of it.parameters } };
 
-    fn try_from_parts(value: AlgorithmIdentifier) -> Result<KeyAlgorithm> {
-        let AlgorithmIdentifier {
+    fn try_from_parts(value: RawAlgorithm) -> Result<KeyAlgorithm> {
+        let RawAlgorithm {
             algorithm: identifier,
             parameters,
         } = value;
@@ -111,7 +111,7 @@ impl PartialEq for KeyAlgorithm {
 }
 
 impl Serialize for KeyAlgorithm {
-    ghost meaning = { λ it. ⟦<AlgorithmIdentifier as Serialize>⟧.meaning (⟦<KeyAlgorithm as TryVia>⟧.parts it) };
+    ghost meaning = { λ it. ⟦<RawAlgorithm as Serialize>⟧.meaning (⟦<KeyAlgorithm as TryVia>⟧.parts it) };
 
     fn serialize<W: WriteExt>(&self, serializer: &mut Serializer<W>) -> Result<usize> {
         match self.parameters.element() {
@@ -122,9 +122,10 @@ impl Serialize for KeyAlgorithm {
 }
 
 impl Deserialize for KeyAlgorithm {
-    ghost shape = { ⟦<AlgorithmIdentifier as Deserialize>⟧.shape };
+    ghost shape = { ⟦<RawAlgorithm as Deserialize>⟧.shape };
 
-    ghost facts = { tested_facts ⟦<AlgorithmIdentifier as Deserialize>⟧.facts ⟦<AlgorithmIdentifier as Serialize>⟧.meaning ⟦<KeyAlgorithm as TryVia>⟧.parts };
+    ghost facts = { tested_facts ⟦<RawAlgorithm as Deserialize>⟧.facts ⟦<RawAlgorithm as Serialize>⟧.meaning
+        ⟦<KeyAlgorithm as TryVia>⟧.parts };
 
     ghost proved = { Prim.assumption };
 

@@ -54,8 +54,8 @@ MacData = SEQUENCE (
     end)
 
 -- PFX of PKCS-12
-abbrev pub Pfx : Notation
-Pfx = SEQUENCE (
+abbrev pub PFX : Notation
+PFX = SEQUENCE (
     -- version INTEGER { v3 (3) } (v3)
     required (INTEGER-from-to 3 3) ⨾
     -- authSafe ContentInfo

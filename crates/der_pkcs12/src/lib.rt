@@ -9,6 +9,6 @@ mod types;
 pub mod values;
 
 pub use types::{
-    AuthenticatedSafe, CertBag, CrlBag, DigestInfo, KeyBag, MacData, Pfx, Pkcs8ShroudedKeyBag,
+    AuthenticatedSafe, CertBag, CrlBag, DigestInfo, KeyBag, MacData, PFX, Pkcs8ShroudedKeyBag,
     Pkcs12Attribute, Pkcs12PbeParams, SafeBag, SafeContents, SecretBag,
 };

@@ -5,7 +5,7 @@ ghost use Rattle.std.specs.Prelude.{◌≡◌};
 ghost use Rattle.der_pkcs12.specs.Notation as notation;
 
 use crate::{
-    AuthenticatedSafe, CertBag, CrlBag, DigestInfo, KeyBag, MacData, Pfx, Pkcs8ShroudedKeyBag,
+    AuthenticatedSafe, CertBag, CrlBag, DigestInfo, KeyBag, MacData, PFX, Pkcs8ShroudedKeyBag,
     Pkcs12Attribute, Pkcs12PbeParams, SafeBag, SafeContents, SecretBag,
 };
 use der_types::Exact;
@@ -19,7 +19,7 @@ pub fn types()
     ensures digest_info { ⟦<DigestInfo as Exact>⟧.values.notation ≡ notation.DigestInfo }
     ensures key_bag { ⟦<KeyBag as Exact>⟧.values.notation ≡ notation.KeyBag }
     ensures mac_data { ⟦<MacData as Exact>⟧.values.notation ≡ notation.MacData }
-    ensures pfx { ⟦<Pfx as Exact>⟧.values.notation ≡ notation.Pfx }
+    ensures pfx { ⟦<PFX as Exact>⟧.values.notation ≡ notation.PFX }
     ensures pkcs8_shrouded_key_bag { ⟦<Pkcs8ShroudedKeyBag as Exact>⟧.values.notation ≡ notation.Pkcs8ShroudedKeyBag }
     ensures pkcs12_attribute { ⟦<Pkcs12Attribute as Exact>⟧.values.notation ≡ notation.Pkcs12Attribute }
     ensures pkcs12_pbe_params { ⟦<Pkcs12PbeParams as Exact>⟧.values.notation ≡ notation.Pkcs12PbeParams }

@@ -9,6 +9,7 @@ ghost use Rattle.der_types.specs.ExactMembers.{struct_values};
 ghost use Rattle.der_types.specs.SampleTrees.{exact_example};
 
 use der_cms::ContentInfo;
+use der_elements::AnyElement;
 use der_pkix::{EncryptedPrivateKeyInfo, PrivateKeyInfo};
 use der_types::{
     Exact, ExactMembers, InRange, Integer, Notated, NotatedMembers, ObjectIdentifier, OtherThan,
@@ -19,14 +20,14 @@ use picky_asn1_der::de::{Begins, Faithful, FaithfulMembers, Inhabited};
 use picky_asn1_der::misc::{ReadExt, WriteExt};
 use picky_asn1_der::ser::{Optional, OptionalRef};
 use picky_asn1_der::{
-    Asn1RawDer, Deserialize, DeserializeMembers, Deserializer, List, Result, Serialize,
-    SerializeMembers, Serializer, Struct, deserialize_struct_as,
+    Deserialize, DeserializeMembers, Deserializer, List, Result, Serialize, SerializeMembers,
+    Serializer, Struct, deserialize_struct_as,
 };
 
 /// A store. Its content is the encoding of an AuthenticatedSafe in a message of kind id-data, or
 /// signed. `PFX` of PKCS-12, as a SEQUENCE.
 #[derive(Debug, Drop, PartialEq, Eq)]
-pub struct Pfx {
+pub struct PFX {
     /// `INTEGER { v3 (3) } (v3)`.
     pub version: InRange<u8, 3, 3>,
     /// `ContentInfo`.
@@ -35,16 +36,16 @@ pub struct Pfx {
     pub mac_data: Option<MacData>,
 }
 
-type PfxParts = (InRange<u8, 3, 3>, ContentInfo, Optional<MacData>, ());
+type PFXParts = (InRange<u8, 3, 3>, ContentInfo, Optional<MacData>, ());
 
-impl Struct for Pfx {
-    type Members = PfxParts;
+impl Struct for PFX {
+    type Members = PFXParts;
 
     ghost parts = { λ it. (it.version, it.auth_safe, record { 0 = it.mac_data }, tt) };
 
-    fn from_parts(members: PfxParts) -> Pfx {
+    fn from_parts(members: PFXParts) -> PFX {
         let (version, auth_safe, Optional(mac_data), ()) = members;
-        Pfx {
+        PFX {
             version,
             auth_safe,
             mac_data,
@@ -52,8 +53,8 @@ impl Struct for Pfx {
     }
 }
 
-impl Serialize for Pfx {
-    ghost meaning = { sequence_of ⟦<PfxParts as SerializeMembers>⟧.members ⟦<Self as Struct>⟧.parts };
+impl Serialize for PFX {
+    ghost meaning = { sequence_of ⟦<PFXParts as SerializeMembers>⟧.members ⟦<Self as Struct>⟧.parts };
 
     fn serialize<W: WriteExt>(&self, serializer: &mut Serializer<W>) -> Result<usize> {
         (
@@ -66,49 +67,49 @@ impl Serialize for Pfx {
     }
 }
 
-impl Deserialize for Pfx {
-    ghost shape = { sequence_shape ⟦<PfxParts as DeserializeMembers>⟧.layout };
+impl Deserialize for PFX {
+    ghost shape = { sequence_shape ⟦<PFXParts as DeserializeMembers>⟧.layout };
 
-    ghost facts = { struct_facts ⟦<PfxParts as DeserializeMembers>⟧.facts refl ⟦<Self as Struct>⟧.parts };
+    ghost facts = { struct_facts ⟦<PFXParts as DeserializeMembers>⟧.facts refl ⟦<Self as Struct>⟧.parts };
 
-    fn deserialize<R: ReadExt>(deserializer: &mut Deserializer<R>) -> Result<Pfx> {
+    fn deserialize<R: ReadExt>(deserializer: &mut Deserializer<R>) -> Result<PFX> {
         deserialize_struct_as(deserializer)
     }
 
     ghost proved = { Prim.assumption };
 }
 
-impl Begins for Pfx {
+impl Begins for PFX {
     fn begins_with(tag: Tag) -> bool {
         tag == Tag::SEQUENCE
     }
 }
 
-impl List for Pfx {
+impl List for PFX {
     ghost is_list = { λ it. tt };
 }
 
-impl Notated for Pfx {
-    ghost notation = { Notation.sequence ⟦<PfxParts as NotatedMembers>⟧.members_notation };
+impl Notated for PFX {
+    ghost notation = { Notation.sequence ⟦<PFXParts as NotatedMembers>⟧.members_notation };
 
     ghost denoted = { refl };
 }
 
-impl Exact for Pfx {
-    ghost values = { struct_values ⟦<PfxParts as ExactMembers>⟧.all_values ⟦<PfxParts as NotatedMembers>⟧.members_notation
-        ⟦<PfxParts as SerializeMembers>⟧.members ⟦<Self as Struct>⟧.parts
+impl Exact for PFX {
+    ghost values = { struct_values ⟦<PFXParts as ExactMembers>⟧.all_values ⟦<PFXParts as NotatedMembers>⟧.members_notation
+        ⟦<PFXParts as SerializeMembers>⟧.members ⟦<Self as Struct>⟧.parts
         (λ m. (record { version = m.0; auth_safe = m.1; mac_data = m.2.0 }, refl {a = m})) };
 
     ghost exact = { Prim.assumption };
 }
 
-impl Faithful for Pfx {
-    ghost sameness = { struct_sameness ⟦<PfxParts as FaithfulMembers>⟧.sameness ⟦<Self as Struct>⟧.parts };
+impl Faithful for PFX {
+    ghost sameness = { struct_sameness ⟦<PFXParts as FaithfulMembers>⟧.sameness ⟦<Self as Struct>⟧.parts };
 
     ghost respects = { Prim.assumption };
 }
 
-impl Inhabited for Pfx {
+impl Inhabited for PFX {
     ghost example = { exact_example ⟦<Self as Exact>⟧.values ⟦<Self as Notated>⟧.notation ⟦<Self as Serialize>⟧.meaning refl Prim.assumption };
 }
 
@@ -288,14 +289,14 @@ pub struct SafeBag {
     /// `OBJECT IDENTIFIER`.
     pub bag_id: ObjectIdentifier,
     /// `[0] EXPLICIT ANY DEFINED BY bagId`.
-    pub bag_value: ExplicitContextTag0<Asn1RawDer>,
+    pub bag_value: ExplicitContextTag0<AnyElement>,
     /// `SET OF PKCS12Attribute OPTIONAL`.
     pub bag_attributes: Option<Asn1SetOf<Pkcs12Attribute>>,
 }
 
 type SafeBagParts = (
     ObjectIdentifier,
-    ExplicitContextTag0<Asn1RawDer>,
+    ExplicitContextTag0<AnyElement>,
     Optional<Asn1SetOf<Pkcs12Attribute>>,
     (),
 );
@@ -381,10 +382,10 @@ pub struct Pkcs12Attribute {
     /// `OBJECT IDENTIFIER`.
     pub attr_id: ObjectIdentifier,
     /// `SET OF ANY`.
-    pub attr_values: Asn1SetOf<Asn1RawDer>,
+    pub attr_values: Asn1SetOf<AnyElement>,
 }
 
-type Pkcs12AttributeParts = (ObjectIdentifier, Asn1SetOf<Asn1RawDer>, ());
+type Pkcs12AttributeParts = (ObjectIdentifier, Asn1SetOf<AnyElement>, ());
 
 impl Struct for Pkcs12Attribute {
     type Members = Pkcs12AttributeParts;
@@ -466,10 +467,10 @@ pub struct CertBag {
     /// `OBJECT IDENTIFIER`.
     pub cert_id: ObjectIdentifier,
     /// `[0] EXPLICIT ANY DEFINED BY certId`.
-    pub cert_value: ExplicitContextTag0<Asn1RawDer>,
+    pub cert_value: ExplicitContextTag0<AnyElement>,
 }
 
-type CertBagParts = (ObjectIdentifier, ExplicitContextTag0<Asn1RawDer>, ());
+type CertBagParts = (ObjectIdentifier, ExplicitContextTag0<AnyElement>, ());
 
 impl Struct for CertBag {
     type Members = CertBagParts;
@@ -545,10 +546,10 @@ pub struct CrlBag {
     /// `OBJECT IDENTIFIER`.
     pub crl_id: ObjectIdentifier,
     /// `[0] EXPLICIT ANY DEFINED BY crlId`.
-    pub crl_value: ExplicitContextTag0<Asn1RawDer>,
+    pub crl_value: ExplicitContextTag0<AnyElement>,
 }
 
-type CrlBagParts = (ObjectIdentifier, ExplicitContextTag0<Asn1RawDer>, ());
+type CrlBagParts = (ObjectIdentifier, ExplicitContextTag0<AnyElement>, ());
 
 impl Struct for CrlBag {
     type Members = CrlBagParts;
@@ -621,10 +622,10 @@ pub struct SecretBag {
     /// `OBJECT IDENTIFIER`.
     pub secret_type_id: ObjectIdentifier,
     /// `[0] EXPLICIT ANY DEFINED BY secretTypeId`.
-    pub secret_value: ExplicitContextTag0<Asn1RawDer>,
+    pub secret_value: ExplicitContextTag0<AnyElement>,
 }
 
-type SecretBagParts = (ObjectIdentifier, ExplicitContextTag0<Asn1RawDer>, ());
+type SecretBagParts = (ObjectIdentifier, ExplicitContextTag0<AnyElement>, ());
 
 impl Struct for SecretBag {
     type Members = SecretBagParts;

@@ -13,6 +13,7 @@ ghost use Rattle.der_types.specs.ExactChoices.{choice_values};
 ghost use Rattle.der_types.specs.ExactMembers.{struct_values};
 ghost use Rattle.der_types.specs.SampleTrees.{exact_example};
 
+use der_elements::AnyElement;
 use der_types::{
     Exact, ExactAlternatives, ExactMembers, Ia5String, Notated, NotatedAlternatives,
     NotatedMembers, ObjectIdentifier, WithSize,
@@ -30,8 +31,8 @@ use picky_asn1_der::de::{
 };
 use picky_asn1_der::misc::{ReadExt, WriteExt};
 use picky_asn1_der::{
-    Alternatives, Asn1RawDer, Choice, Choice4, Deserialize, DeserializeMembers, Deserializer, List,
-    NoneOf, OneOf, Result, Serialize, SerializeMembers, Serializer, Struct, deserialize_struct_as,
+    Alternatives, Choice, Choice4, Deserialize, DeserializeMembers, Deserializer, List, NoneOf,
+    OneOf, Result, Serialize, SerializeMembers, Serializer, Struct, deserialize_struct_as,
 };
 
 /// `SubjectAltName` of PKIX1Implicit88: `GeneralNames`.
@@ -202,10 +203,10 @@ pub struct AnotherName {
     /// `OBJECT IDENTIFIER`.
     pub type_id: ObjectIdentifier,
     /// `[0] EXPLICIT ANY DEFINED BY type-id`.
-    pub value: ExplicitContextTag0<Asn1RawDer>,
+    pub value: ExplicitContextTag0<AnyElement>,
 }
 
-type AnotherNameParts = (ObjectIdentifier, ExplicitContextTag0<Asn1RawDer>, ());
+type AnotherNameParts = (ObjectIdentifier, ExplicitContextTag0<AnyElement>, ());
 
 impl Struct for AnotherName {
     type Members = AnotherNameParts;
@@ -274,10 +275,10 @@ impl Inhabited for AnotherName {
 
 /// An X.400 address and an EDI name, by their members. The module that defines these isn't here.
 /// `ORAddress` of PKIX1Implicit88: `SEQUENCE OF ANY`.
-pub type OrAddress = Vec<Asn1RawDer>;
+pub type OrAddress = Vec<AnyElement>;
 
 /// `EDIPartyName` of PKIX1Implicit88: `SEQUENCE OF ANY`.
-pub type EdiPartyName = Vec<Asn1RawDer>;
+pub type EdiPartyName = Vec<AnyElement>;
 
 /// `IssuerAltName` of PKIX1Implicit88: `GeneralNames`.
 pub type IssuerAltName = GeneralNames;

@@ -12,6 +12,7 @@ ghost use Rattle.der_types.specs.ExactChoices.{choice_values};
 ghost use Rattle.der_types.specs.ExactMembers.{struct_values};
 ghost use Rattle.der_types.specs.SampleTrees.{exact_example};
 
+use der_elements::AnyElement;
 use der_types::{
     AtLeast, BmpString, Exact, ExactAlternatives, ExactMembers, Ia5String, Integer, Notated,
     NotatedAlternatives, NotatedMembers, ObjectIdentifier, Plus, VisibleString, WithSize,
@@ -24,8 +25,8 @@ use picky_asn1_der::de::{
 use picky_asn1_der::misc::{ReadExt, WriteExt};
 use picky_asn1_der::ser::{Optional, OptionalRef};
 use picky_asn1_der::{
-    Alternatives, Asn1RawDer, Choice, Choice4, Deserialize, DeserializeMembers, Deserializer, List,
-    NoneOf, Result, Serialize, SerializeMembers, Serializer, Struct, deserialize_struct_as,
+    Alternatives, Choice, Choice4, Deserialize, DeserializeMembers, Deserializer, List, NoneOf,
+    Result, Serialize, SerializeMembers, Serializer, Struct, deserialize_struct_as,
 };
 
 /// `CertificatePolicies` of PKIX1Implicit88: `SEQUENCE SIZE (1..MAX) OF PolicyInformation`.
@@ -129,10 +130,10 @@ pub struct PolicyQualifierInfo {
     /// `PolicyQualifierId`.
     pub policy_qualifier_id: PolicyQualifierId,
     /// `ANY DEFINED BY policyQualifierId`.
-    pub qualifier: Asn1RawDer,
+    pub qualifier: AnyElement,
 }
 
-type PolicyQualifierInfoParts = (PolicyQualifierId, Asn1RawDer, ());
+type PolicyQualifierInfoParts = (PolicyQualifierId, AnyElement, ());
 
 impl Struct for PolicyQualifierInfo {
     type Members = PolicyQualifierInfoParts;

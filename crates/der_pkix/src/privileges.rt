@@ -13,6 +13,7 @@ ghost use Rattle.der_types.specs.ExactMembers.{struct_values};
 ghost use Rattle.der_types.specs.SampleTrees.{exact_example};
 
 use crate::{Attribute, GeneralName, GeneralNames};
+use der_elements::AnyElement;
 use der_types::{
     Exact, ExactAlternatives, ExactMembers, Integer, NamedBits, Notated, NotatedAlternatives,
     NotatedMembers, ObjectIdentifier,
@@ -27,8 +28,8 @@ use picky_asn1_der::de::{
 use picky_asn1_der::misc::{ReadExt, WriteExt};
 use picky_asn1_der::ser::{Optional, OptionalRef};
 use picky_asn1_der::{
-    Alternatives, Asn1RawDer, Choice, Deserialize, DeserializeMembers, Deserializer, List, NoneOf,
-    OneOf, Result, Serialize, SerializeMembers, Serializer, Struct, deserialize_struct_as,
+    Alternatives, Choice, Deserialize, DeserializeMembers, Deserializer, List, NoneOf, OneOf,
+    Result, Serialize, SerializeMembers, Serializer, Struct, deserialize_struct_as,
 };
 
 /// `IetfAttrSyntax` of PKIXAttributeCertificate-2008, as a SEQUENCE.
@@ -487,12 +488,12 @@ pub struct SecurityCategory {
     /// `[0] OBJECT IDENTIFIER`.
     pub type_: ImplicitContextTag0<ObjectIdentifier>,
     /// `[1] EXPLICIT ANY DEFINED BY type`.
-    pub value: ExplicitContextTag1<Asn1RawDer>,
+    pub value: ExplicitContextTag1<AnyElement>,
 }
 
 type SecurityCategoryParts = (
     ImplicitContextTag0<ObjectIdentifier>,
-    ExplicitContextTag1<Asn1RawDer>,
+    ExplicitContextTag1<AnyElement>,
     (),
 );
 

@@ -6,6 +6,7 @@ use Rattle.std.specs.List.{AllZip, flat_map, list_all, list_any}
 use Rattle.std.specs.Str.{is_utf8, encode_utf8_all}
 use Rattle.picky_der_core.specs.Element.{IsElement}
 use Rattle.picky_der_core.specs.Shape.{contains}
+use Rattle.der_elements.specs.Elements.{element_bytes}
 use Rattle.der_program_base.specs.Line.{escaped, is_special_in_names}
 use Rattle.der_program_base.specs.Texts.{marked_bytes}
 use Rattle.der_types.specs.declared.object_identifier.ObjectIdentifier.{ObjectIdentifier}
@@ -91,7 +92,7 @@ pub record IsAttributeText (a : AttributeTypeAndValue) (text : List ℕ) : Type 
   pub type_text : List ℕ
   pub value_text : List ℕ
   pub of_type : IsTypeText a.type_ type_text
-  pub of_value : IsValueText a.value.0.items value_text
+  pub of_value : IsValueText (element_bytes a.value) value_text
   pub is : text ≡ type_text ++ (codes "=" ++ value_text)
 
 abbrev pub IsTextOfAttribute : AttributeTypeAndValue → String Global → Type 0

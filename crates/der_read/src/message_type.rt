@@ -17,7 +17,7 @@ use der_kerberos::{
     EncKrbPrivPart, EncTgsRepPart, EncTicketPart, KrbCred, KrbError, KrbPriv, KrbSafe, TgsRep,
     TgsReq, Ticket,
 };
-use der_pkcs12::Pfx;
+use der_pkcs12::PFX;
 use der_pkix::{
     AttributeCertificate, CertificationRequest, EcPrivateKey, EncryptedPrivateKeyInfo,
     PrivateKeyInfo, RsaPrivateKey, RsaPublicKey,
@@ -447,7 +447,7 @@ impl Described for MessageType {
       | named.EcdsaSignature ↦ described ⟦<EcdsaSigValue as Serialize>⟧.meaning ⟦<EcdsaSigValue as Deserialize>⟧.shape
       | named.EcParameters ↦ described ⟦<EcpkParameters as Serialize>⟧.meaning ⟦<EcpkParameters as Deserialize>⟧.shape
       | named.DsaParameters ↦ described ⟦<DssParms as Serialize>⟧.meaning ⟦<DssParms as Deserialize>⟧.shape
-      | named.Pkcs12 ↦ described ⟦<Pfx as Serialize>⟧.meaning ⟦<Pfx as Deserialize>⟧.shape
+      | named.Pkcs12 ↦ described ⟦<PFX as Serialize>⟧.meaning ⟦<PFX as Deserialize>⟧.shape
       | named.Ticket ↦ described ⟦<Ticket as Serialize>⟧.meaning ⟦<Ticket as Deserialize>⟧.shape
       | named.Krb ↦ described ⟦<KerberosMessage as Serialize>⟧.meaning ⟦<KerberosMessage as Deserialize>⟧.shape
       | named.AsReq ↦ described ⟦<AsReq as Serialize>⟧.meaning ⟦<AsReq as Deserialize>⟧.shape
@@ -505,7 +505,7 @@ pub fn refusal_of(
         MessageType::EcdsaSignature => refusal_as::<EcdsaSigValue>(alloc, bytes),
         MessageType::EcParameters => refusal_as::<EcpkParameters>(alloc, bytes),
         MessageType::DsaParameters => refusal_as::<DssParms>(alloc, bytes),
-        MessageType::Pkcs12 => refusal_as::<Pfx>(alloc, bytes),
+        MessageType::Pkcs12 => refusal_as::<PFX>(alloc, bytes),
         MessageType::Ticket => refusal_as::<Ticket>(alloc, bytes),
         MessageType::Krb => refusal_as::<KerberosMessage>(alloc, bytes),
         MessageType::AsReq => refusal_as::<AsReq>(alloc, bytes),

@@ -3,11 +3,13 @@ ghost use Rattle.std.specs.Prelude.{◌≡◌, ℕ, List, ◌++◌, map, IfOk, O
 ghost use Rattle.der_program_base.specs.Line.{escaped, is_special_in_names, shown};
 ghost use Rattle.der_program_base.specs.Texts.{marked_bytes};
 ghost use Rattle.std.specs.List.{AllZip};
+ghost use Rattle.der_elements.specs.Elements.{element_bytes};
 ghost use Rattle.der_read.specs.Names.{dotted_text, has_wide_arc, joined, IsTypeText, IsValueText, IsAttributeText};
 ghost use Rattle.der_read.specs.Names.{IsTextOfAttribute, IsStepText, IsStepsText, IsNameText};
 
 use crate::attribute_name::AttributeName;
 use crate::strings::text_of;
+use der_elements::AnyElement;
 use der_program_base::{Line, push_bytes, push_text};
 use der_types::ObjectIdentifier;
 use der_x509::{Attribute, Name, RelativeName};
@@ -83,7 +85,7 @@ fn attribute_text(alloc: Global, attribute: &Attribute) -> Result<String, AllocE
     ensures { IfOk result (λ text. IsAttributeText attribute.now (string_bytes text)) }
 {
     let kind = type_text(alloc, &attribute.type_)?;
-    let value = value_text(alloc, &attribute.value.0)?;
+    let value = any_text(alloc, &attribute.value)?;
     format!(in alloc; "{kind}={value}")
 }
 
@@ -124,6 +126,13 @@ fn marked_bytes(alloc: Global, bytes: &[u8]) -> Result<String, AllocError>
     let mut line = Line::new(alloc);
     push_bytes(&mut line, bytes)?;
     Ok(line.into_string())
+}
+
+// The text of a value of any type.
+fn any_text(alloc: Global, value: &AnyElement) -> Result<String, AllocError>
+    ensures { IfOk result (λ text. IsValueText (element_bytes value.now) (string_bytes text)) }
+{
+    value_text(alloc, value.as_bytes())
 }
 
 // The text of a string with backslashes before special characters, and any other element as `#` and its bytes in

@@ -2,18 +2,18 @@
 ghost use Rattle.std.specs.Prelude.{◌≡◌, ◌∷◌, IfOk};
 
 use anyhow::Context;
+use der_elements::AnyElement;
 use der_pkix::{CertificationRequest, CertificationRequestInfo, named};
 use der_types::{BitString, Contents, InRange, ObjectIdentifier, WithSize, names};
 use der_x509::{AlgorithmIdentifier, AttributeTypeAndValue, Name, SubjectPublicKeyInfo};
 use named::certification_request_info_version::V1;
 use picky_asn1_der::asn1::Asn1SetOf;
-use picky_asn1_der::{Asn1RawDer, to_vec};
 use std::alloc::Global;
 
 // The name of one attribute, a common name.
 fn common_name(alloc: Global, text: &str) -> anyhow::Result<Name> {
     let kind = ObjectIdentifier::from_bytes(alloc, names::COMMON_NAME)?;
-    let value = Asn1RawDer(to_vec(alloc, &String::from_str(alloc, text)?)?);
+    let value = AnyElement::from_value(alloc, &String::from_str(alloc, text)?)?;
     let attribute = AttributeTypeAndValue::new(kind, value);
     let step = Asn1SetOf(vec![in alloc; attribute]?);
     let step = WithSize::new(step).context("a step of a name has an attribute")?;
@@ -24,9 +24,8 @@ fn common_name(alloc: Global, text: &str) -> anyhow::Result<Name> {
 fn public_key(alloc: Global, point: &[u8]) -> anyhow::Result<SubjectPublicKeyInfo> {
     let curve = ObjectIdentifier::from_bytes(alloc, names::SECP256R1)?;
     let algorithm = ObjectIdentifier::from_bytes(alloc, names::EC_PUBLIC_KEY)?;
-    let algorithm = AlgorithmIdentifier::new(algorithm).with_parameters(Asn1RawDer(to_vec(
-        alloc, &curve,
-    )?));
+    let parameters = AnyElement::from_value(alloc, &curve)?;
+    let algorithm = AlgorithmIdentifier::new(algorithm).with_parameters(parameters);
     let point = BitString::from_bytes(alloc, point, 0)?;
     Ok(SubjectPublicKeyInfo::new(algorithm, point))
 }

@@ -293,6 +293,7 @@ mutual
   members_checked (Members.added ms) e ts (inr d) = none_checked ts d
   members_checked (Members.others excluded) e ts d = cc
   members_checked (Members.others-from least) e ts d = cc
+  members_checked (Members.well-formed ms) e ts d = cc
 
   alternatives_checked : (ns : Alternatives) → are_alternatives_checked ns ≡ true → (t : Tree) → DenoteOneOf ns t
       → IsChecked t

@@ -70,6 +70,7 @@ abbrev mutual
   are_members_checked (Members.added ms) = are_members_checked ms
   are_members_checked (Members.others excluded) = false
   are_members_checked (Members.others-from least) = false
+  are_members_checked (Members.well-formed ms) = false
 
   pub are_alternatives_checked : Alternatives → Bool
   are_alternatives_checked Alternatives.none = true

@@ -1,6 +1,6 @@
 //! Object identifiers as text.
-ghost use Rattle.std.specs.Prelude.{◌≡◌, option_map};
-ghost use Rattle.der_show.specs.ObjectIdentifiers.{has_wide_arc, known_name_of};
+ghost use Rattle.std.specs.Prelude.{◌≡◌, ◌++◌, option_map, OnOk};
+ghost use Rattle.der_show.specs.ObjectIdentifiers.{has_wide_arc, identifier_text, known_name_of};
 
 use crate::names::further_name_of;
 use der_program_base::{Line, push_bytes};
@@ -15,7 +15,9 @@ use std::alloc::AllocError;
 pub fn push_object_identifier(
     line: &mut Line,
     identifier: &ObjectIdentifier,
-) -> Result<(), AllocError> {
+) -> Result<(), AllocError>
+    ensures { OnOk result (line.new ≡ line.old ++ identifier_text identifier.now) }
+{
     if has_wide_arc(identifier) {
         return push_bytes(line, identifier.content());
     }

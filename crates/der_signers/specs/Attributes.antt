@@ -7,6 +7,7 @@ use Rattle.picky_der_core.specs.Primitive.{Primitive}
 use Rattle.picky_der_core.specs.Tree.{ListKind, Tree}
 use Rattle.picky_der_core.specs.Encoding.{der}
 use Rattle.picky_der_ser.specs.Meaning.{list_meaning}
+use Rattle.der_elements.specs.Elements.{element_bytes}
 use Rattle.der_cms.specs.declared.cryptographic_message_syntax2004.Attribute.{Attribute}
 use Rattle.der_cms.specs.declared.signed_data.SignerInfo.{SignerInfo}
 use Rattle.der_cms.specs.contracts.cryptographic_message_syntax2004.AttributeSerialize.TheImpl as attribute
@@ -38,7 +39,7 @@ has_kind kind attributes = list_any (is_kind kind) attributes
 
 -- the elements that are an attribute's values
 abbrev pub values_of : Attribute → List (List ℕ)
-values_of a = map (λ v. v.0.items) a.attr_values.0.items
+values_of a = map element_bytes a.attr_values.0.items
 
 -- if it is of this kind, this element is its only value
 abbrev pub Agrees : List ℕ → List ℕ → Attribute → Type 0

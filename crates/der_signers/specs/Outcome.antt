@@ -3,6 +3,7 @@ use Rattle.std.specs.Prelude.{◌≡◌, ◌≢◌, ℕ, ◌+◌, ◌-◌, List,
 use Rattle.picky_der_core.specs.declared.error.Asn1DerError.TheVariants.{OutOfMemory}
 use Rattle.picky_der_de.specs.declared.whole_input.DecodeError.{DecodeError}
 use Rattle.picky_der_de.specs.Whole.{IsWhole, IsNoEncoding}
+use Rattle.der_elements.specs.Elements.{element_bytes}
 use Rattle.der_types.specs.declared.object_identifier.ObjectIdentifier.{ObjectIdentifier}
 use Rattle.der_cms.specs.declared.cryptographic_message_syntax2004.ContentInfo.{ContentInfo}
 use Rattle.der_cms.specs.declared.signed_data.SignedData.{SignedData}
@@ -36,7 +37,7 @@ IsNoContentInfo bytes r = IsNoEncoding content_info_written.ghosts.meaning conte
 
 -- the content of a message
 abbrev pub content_bytes : ContentInfo → List ℕ
-content_bytes m = m.content.0.0.items
+content_bytes m = element_bytes m.content.0
 
 -- the signed data whose encoding the bytes are
 abbrev pub IsSignedData : List ℕ → SignedData → Type 0

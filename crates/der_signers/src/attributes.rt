@@ -111,7 +111,7 @@ fn is_only_value(attribute: &Attribute, value: &[u8]) -> bool
     ensures { IsTrue result ↔ (values_of attribute.now ≡ value.now ∷ []) }
 {
     match attribute.attr_values.0.as_slice() {
-        [only] => only.0.as_slice() == value,
+        [only] => only.as_bytes() == value,
         _ => false,
     }
 }

@@ -146,7 +146,7 @@ fn examine_content(
     if !content_type.is(values::ID_SIGNED_DATA) {
         return Ok(Outcome::Refused(Refusal::OtherContent(content_type)));
     }
-    let content = content.0.0;
+    let content = content.0.into_raw().0;
     match from_der::<SignedData>(alloc, &content) {
         Ok(signed_data) => {
             let message = read_message(alloc, &content, &signed_data, request)?;

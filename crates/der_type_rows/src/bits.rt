@@ -1,6 +1,6 @@
 //! Bit strings, and bits with names.
 
-use crate::outcomes::{Shown, made};
+use crate::outcomes::{Shown, decoded, made, written};
 use der_fixtures::bytes_of;
 use der_types::{BitString, NamedBits};
 use std::alloc::{AllocError, Global};
@@ -22,6 +22,31 @@ pub(crate) fn octets(alloc: Global, text: &str) -> Result<String, AllocError> {
             let unused = unused.parse().unwrap_or(0);
             made(alloc, BitString::from_bytes(alloc, &bytes, unused))
         }
+        Err(error) => format!(in alloc; "{error}"),
+    }
+}
+
+/// The set of the bits with these numbers.
+pub(crate) fn numbered(alloc: Global, text: &str) -> Result<String, AllocError> {
+    let mut numbers = Vec::new(alloc);
+    for word in text.split(' ') {
+        if let Ok(number) = word.parse() {
+            numbers.push(number)?;
+        }
+    }
+    made(alloc, NamedBits::of(alloc, &numbers))
+}
+
+/// The set that is read, with another value of one bit, as `6 true 03 02 02 04`.
+pub(crate) fn changed(alloc: Global, text: &str) -> Result<String, AllocError> {
+    let (number, rest) = text.split_once(' ').unwrap_or((text, ""));
+    let (value, digits) = rest.split_once(' ').unwrap_or((rest, ""));
+    let mut bits = match decoded::<NamedBits>(alloc, digits)? {
+        Ok(bits) => bits,
+        Err(error) => return Ok(error),
+    };
+    match bits.set(alloc, number.parse().unwrap_or(0), value == "true") {
+        Ok(()) => written(alloc, &bits),
         Err(error) => format!(in alloc; "{error}"),
     }
 }

@@ -70,14 +70,14 @@ fn fit<N: Int>(integer: DerResult<Integer>) -> DerResult<N> {
 
 // A copy of what is read is written again.
 fn read_integer(alloc: Global, bytes: &[u8]) -> Result<String, AllocError> {
-    match from_bytes::<Integer>(alloc, bytes).and_then(|it| it.clone()) {
+    match from_bytes::<Integer>(alloc, bytes).and_then(|it| Ok(it.clone()?)) {
         Ok(copy) => written(alloc, &copy),
         Err(error) => format!(in alloc; "refused {error}"),
     }
 }
 
 fn read_enumerated(alloc: Global, bytes: &[u8]) -> Result<String, AllocError> {
-    match from_bytes::<Enumerated>(alloc, bytes).and_then(|it| it.clone()) {
+    match from_bytes::<Enumerated>(alloc, bytes).and_then(|it| Ok(it.clone()?)) {
         Ok(copy) => written(alloc, &copy),
         Err(error) => format!(in alloc; "refused {error}"),
     }

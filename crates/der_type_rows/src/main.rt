@@ -10,6 +10,7 @@ mod messages;
 mod outcomes;
 mod rows;
 mod strings;
+mod texts;
 mod times;
 mod usages;
 

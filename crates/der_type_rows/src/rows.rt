@@ -1,10 +1,10 @@
 //! The forms of rows.
 
-use crate::bits::{bits_of, octets};
+use crate::bits::{bits_of, changed, numbered, octets};
 use crate::integers::Way;
 use crate::messages::trials::Task;
 use crate::outcomes::{made, read};
-use crate::{bounds, integers, messages, strings, times, usages};
+use crate::{bounds, integers, messages, strings, texts, times, usages};
 use der_types::{
     BitString, GeneralizedTime, NamedBits, ObjectIdentifier, RelativeOid, Time, UtcTime,
 };
@@ -22,9 +22,12 @@ use std::alloc::{AllocError, Global};
 /// | `order BYTES, BYTES` | which of two GeneralizedTimes is first |
 /// | `oid ARCS`, `relative ARCS`, `read-oid BYTES`, `read-relative BYTES` | object identifiers |
 /// | `bits DIGITS`, `octets UNUSED BYTES`, `flags DIGITS`, `read-bits BYTES`, `read-flags BYTES` | bit strings, and bits with names |
+/// | `flags-of NUMBERS`, `set-flag NUMBER true BYTES` | bits by their numbers |
 /// | `usage NAMES`, `read-usage BYTES`, `usage-in BYTES` | key usages, the last one of a certificate |
 /// | `text TYPE NUMBERS`, `string TYPE BYTES`, `characters TYPE` | character strings |
 /// | `bounded TYPE BYTES` | a value within bounds |
+/// | `print TYPE BYTES` | what a copy prints as, what the value prints as for debugging, and whether both are equal |
+/// | `compare BYTES, BYTES` | how two INTEGERs are ordered |
 /// | `message TYPE BYTES` | how a message is read and written back |
 /// | `try TYPE BYTES` | the same with all prefixes and changes |
 /// | `signed TYPE BYTES` | the bytes that are signed |
@@ -54,6 +57,8 @@ fn of_content(alloc: Global, word: &str, rest: &str) -> Result<String, AllocErro
         "text" => strings::text(alloc, rest),
         "string" => strings::string(alloc, rest),
         "characters" => strings::characters(alloc, rest),
+        "print" => texts::print(alloc, rest),
+        "compare" => texts::compare(alloc, rest),
         "bounded" => bounds::bounded(alloc, rest),
         _ => of_bits(alloc, word, rest),
     }
@@ -69,6 +74,8 @@ fn of_bits(alloc: Global, word: &str, rest: &str) -> Result<String, AllocError> 
         "bits" => made(alloc, BitString::from_bits(alloc, &bits_of(alloc, rest)?)),
         "octets" => octets(alloc, rest),
         "flags" => made(alloc, NamedBits::from_bits(alloc, &bits_of(alloc, rest)?)),
+        "flags-of" => numbered(alloc, rest),
+        "set-flag" => changed(alloc, rest),
         "read-bits" => read::<BitString>(alloc, "", rest),
         "read-flags" => read::<NamedBits>(alloc, "", rest),
         "usage" => made(

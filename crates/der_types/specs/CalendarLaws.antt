@@ -70,7 +70,7 @@ less a b h = sym (nat_cmp_is a b Less h)
 pub greater : (a b : ℕ) → b < a → nat_cmp a b ≡ Greater
 greater a b h = sym (nat_cmp_is a b Greater h)
 
-equal : (a b : ℕ) → a ≡ b → nat_cmp a b ≡ Equal
+pub equal : (a b : ℕ) → a ≡ b → nat_cmp a b ≡ Equal
 equal a b e = sym (nat_cmp_is a b Equal e)
 
 -- what is before it decides
@@ -80,7 +80,7 @@ when_less a b o h = ap (λ r. ordering_then r o) (less a b h)
 pub when_greater : (a b : ℕ) (o : Ordering) → b < a → ordering_then (nat_cmp a b) o ≡ Greater
 when_greater a b o h = ap (λ r. ordering_then r o) (greater a b h)
 
-when_equal : (a b : ℕ) (o : Ordering) → a ≡ b → ordering_then (nat_cmp a b) o ≡ o
+pub when_equal : (a b : ℕ) (o : Ordering) → a ≡ b → ordering_then (nat_cmp a b) o ≡ o
 when_equal a b o e = ap (λ r. ordering_then r o) (equal a b e)
 
 pub then_assoc : (a b c : Ordering) → ordering_then (ordering_then a b) c ≡ ordering_then a (ordering_then b c)

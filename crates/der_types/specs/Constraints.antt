@@ -1,5 +1,7 @@
 -- Constraints (X.680, 49), and how values that they don't allow are refused.
-use Rattle.std.specs.Prelude.{◌≡◌, ℕ, ◌+◌, ℤ, Bool, false, ◌&&◌, ◌⊎◌, nat_le, int_le, List, []}
+use Rattle.std.specs.Prelude.{◌≡◌, ℕ, ◌+◌, ℤ, Bool, false, ◌&&◌, ◌⊎◌, nat_le, int_le, List, [], ◌∷◌}
+use Rattle.picky_der_core.specs.declared.asn1.wrapper.Wrapper.TheVariants as wrapper
+use Rattle.picky_der_core.specs.Encoding.{der}
 use Rattle.picky_der_core.specs.Primitive.{Primitive}
 use Rattle.picky_der_core.specs.declared.error.Asn1DerError.{Asn1DerError}
 use Rattle.picky_der_core.specs.declared.error.Asn1DerError.TheVariants.{InvalidData}
@@ -43,10 +45,15 @@ member_count (Trees.more t ts) = 1 + member_count ts
 
 abbrev pub list_size : Tree → ℕ
 list_size (Tree.list kind ts) = member_count ts
+list_size (Tree.wrapped w t) = list_size t
 list_size _ = 0
 
--- the bytes of a text or of a content
+-- The bytes of a text or of a content, also under other tags. A string that holds an encoding has the string's own
+-- content: in that of bits the number of unused ones comes first (X.690, 8.6.2).
 abbrev pub tree_bytes : Tree → List ℕ
+tree_bytes (Tree.wrapped wrapper.OctetContainer t) = der t
+tree_bytes (Tree.wrapped wrapper.BitContainer t) = 0x00 ∷ der t
+tree_bytes (Tree.wrapped w t) = tree_bytes t
 tree_bytes (Tree.primitive (Primitive.text s)) = s
 tree_bytes (Tree.primitive (Primitive.bytes tag s)) = s
 tree_bytes _ = []

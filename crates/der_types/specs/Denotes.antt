@@ -3,6 +3,7 @@
 use Rattle.std.specs.Prelude.{◌≡◌, ◌≢◌, ℕ, ◌+◌, ◌-◌, ◌^◌, ◌≤◌, ◌<◌, ℤ, pos, negsuc, Bool, true, false, ◌&&◌, ◌⊎◌, ◌==◌}
 use Rattle.std.specs.Prelude.{nat_lt, nat_le, int_le, not, List, [], ◌∷◌, length, chars, IsTrue, ⊤, if◌then◌else◌}
 use Rattle.picky_der_core.specs.declared.asn1.tag.TagClass.TheVariants.{ContextSpecific}
+use Rattle.picky_der_core.specs.declared.asn1.wrapper.Wrapper.TheVariants as wrapper
 use Rattle.picky_der_core.specs.Tag.{class_of, number_of}
 use Rattle.picky_der_core.specs.Integer.{integer_content, integer_value, integer_tree, fits_signed}
 use Rattle.picky_der_core.specs.Primitive.{Primitive, primitive_content}
@@ -27,14 +28,19 @@ tree_number (Tree.primitive (Primitive.bytes tag s)) = integer_value s
 tree_number (Tree.wrapped w t) = tree_number t
 tree_number _ = pos 0
 
--- the size of a content, or of so many members
+-- The size of a content, or of so many members. A string that holds an encoding has its own size, whatever that of the
+-- value inside is.
 abbrev size_by : Notation → List ℕ → ℕ → ℕ
 size_by (Notation.checked-content c) s members = size_of c s
 size_by Notation.UTF8String s members = length (chars s)
 size_by (Notation.restricted-string tag) s members = length (characters (string_width tag) s)
 size_by (Notation.list-of kind t) s members = members
 size_by (Notation.content-under tag t) s members = size_by t s members
+size_by (Notation.sized least most t) s members = size_by t s members
 size_by (Notation.permitted ranges t) s members = size_by t s members
+size_by (Notation.wrapped wrapper.OctetContainer t) s members = length s
+size_by (Notation.wrapped wrapper.BitContainer t) s members = size_of ContentType.BIT-STRING s
+size_by (Notation.wrapped w t) s members = size_by t s members
 size_by _ s members = length s
 
 -- how many bits, bytes, characters or members a tree of the type has (51.5.3)
@@ -47,6 +53,10 @@ tree_characters Notation.UTF8String t = chars (tree_bytes t)
 tree_characters (Notation.restricted-string tag) t = characters (string_width tag) (tree_bytes t)
 tree_characters (Notation.content-under tag n) t = tree_characters n t
 tree_characters (Notation.sized least most n) t = tree_characters n t
+tree_characters (Notation.permitted ranges n) t = tree_characters n t
+tree_characters (Notation.wrapped wrapper.OctetContainer n) t = []
+tree_characters (Notation.wrapped wrapper.BitContainer n) t = []
+tree_characters (Notation.wrapped w n) t = tree_characters n t
 tree_characters _ t = []
 
 -- ---- trees
@@ -74,6 +84,11 @@ AreNumberedFrom least (Trees.more (Tree.raw s) ts) =
     (number : ℕ) × (least ≤ number) × HasContextTag number s × AreNumberedFrom (number + 1) ts
 AreNumberedFrom least (Trees.more _ ts) = ⊥
 
+-- one element, with elements in it at every depth if it is constructed
+abbrev pub IsWellFormedTree : Tree → Type 0
+IsWellFormedTree (Tree.raw s) = ∥ IsWellFormed s ∥₁
+IsWellFormedTree _ = ⊥
+
 -- A readable tree that is denoted is a value's.
 abbrev mutual
   pub Denotes : Notation → Tree → Type 0
@@ -99,8 +114,8 @@ abbrev mutual
   Denotes (Notation.list-of kind t) = IsMade (Tree.list kind) (EachIs (Denotes t))
   Denotes (Notation.wrapped w t) = IsMade (Tree.wrapped w) (Denotes t)
   Denotes (Notation.content-under tag t) =
-      IsMade (content_tree (primitive_form tag)) (λ s. (own : ℕ) × IsReadable (content_tree own s)
-      × Denotes t (content_tree own s))
+      IsMade (content_tree (primitive_form tag)) (λ s. (p : Primitive) × (primitive_content p ≡ s)
+      × IsReadable (Tree.primitive p) × Denotes t (Tree.primitive p))
   Denotes (Notation.in-range least most t) = λ x. Denotes t x × (is_between least most (tree_number x) ≡ true)
   Denotes (Notation.at-least least t) = λ x. Denotes t x × (int_le least (tree_number x) ≡ true)
   Denotes (Notation.at-most most t) = λ x. Denotes t x × (int_le (tree_number x) most ≡ true)
@@ -120,6 +135,7 @@ abbrev mutual
   DenoteMembers (Members.added ms) = AllOrNone (DenoteMembers ms)
   DenoteMembers (Members.others excluded) = AreOthers excluded
   DenoteMembers (Members.others-from least) = AreNumberedFrom least
+  DenoteMembers (Members.well-formed ms) = λ ts. DenoteMembers ms ts × EachIs IsWellFormedTree ts
 
   pub DenoteOneOf : Alternatives → Tree → Type 0
   DenoteOneOf Alternatives.none = λ t. ⊥

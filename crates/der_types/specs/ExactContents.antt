@@ -4,7 +4,7 @@ use Rattle.std.proofs.Common.{sym, ap, ◌∙◌, subst, ltb-true}
 use Rattle.picky_der_core.specs.Element.{IsElement}
 use Rattle.picky_der_core.specs.Integer.{fits_signed, int_tree, unsigned_tree}
 use Rattle.picky_der_core.specs.IntLaws.{fits-within, tree-fits}
-use Rattle.picky_der_core.specs.Primitive.{Primitive, PrimitiveShape}
+use Rattle.picky_der_core.specs.Primitive.{Primitive, PrimitiveShape, primitive_content}
 use Rattle.picky_der_core.specs.Readable.{IsReadable}
 use Rattle.picky_der_core.specs.Shape.{Shape, IsOf}
 use Rattle.picky_der_core.specs.Tag.{number_of, IsTagNumber}
@@ -18,8 +18,8 @@ use Rattle.der_types.specs.ContentTypes.{string_width, string_character}
 use Rattle.der_types.specs.Denotes.{Denotes, IsMade, content_tree, HasContent}
 use Rattle.der_types.specs.Exact.{IsExact, made_exact, Values, ProvedValues, is_exact, plain_values, content_exact}
 
-content_same : (x y : ℕ) (xs ys : List ℕ) → content_tree x xs ≡ content_tree y ys → xs ≡ ys
-content_same x y xs ys e = cc
+same_primitive : (p q : Primitive) → Tree.primitive p ≡ Tree.primitive q → p ≡ q
+same_primitive p q e = cc
 
 -- ---- contents under another tag
 
@@ -28,16 +28,18 @@ module _ {A V : Type 0} (n : Notation) (means : A → Tree) (is : IsExact (Denot
     (part : V → A) (whole : (x : A) → (v : V) × (part v ≡ x)) where
   pub content_under_exact : IsExact (Denotes (Notation.content-under tag n))
       (λ v. content_tree (primitive_form tag) (content (part v)))
-  content_under_exact = made_exact (content_tree (primitive_form tag)) (λ s. (t : ℕ) × IsReadable (content_tree t s)
-      × Denotes n (content_tree t s)) (λ v. content (part v))
+  content_under_exact = made_exact (content_tree (primitive_form tag)) (λ s. (p : Primitive) × (primitive_content p ≡ s)
+      × IsReadable (Tree.primitive p) × Denotes n (Tree.primitive p)) (λ v. content (part v))
       (λ v r.
       let e = own_tag (part v) in
       let readable : IsReadable (content_tree own (content (part v))) = (short, r.1) in
-      (own, readable, subst (Denotes n) e (is.sound (part v) (subst IsReadable (sym e) readable))))
+      let denoted = subst (Denotes n) e (is.sound (part v) (subst IsReadable (sym e) readable)) in
+      (Primitive.bytes own (content (part v)), refl, readable, denoted))
       (λ s d r h.
-      let x = is.complete (content_tree d.0 s) d.2 d.1 h in
+      let x = is.complete (Tree.primitive d.0) d.3 d.2 (subst (λ c. length c < 2 ^ 63) (sym d.1) h) in
       let v = whole x.0 in
-      (v.0, ap content v.1 ∙ content_same own d.0 (content x.0) s (sym (own_tag x.0) ∙ x.1)))
+      let same = same_primitive (Primitive.bytes own (content x.0)) d.0 (sym (own_tag x.0) ∙ x.1) in
+      (v.0, ap content v.1 ∙ (ap primitive_content same ∙ d.1)))
 
 -- ---- types without parts
 

@@ -3,11 +3,12 @@ use Rattle.std.specs.Prelude.{◌≡◌, ℕ, ◌%◌, ◌^◌, ◌<◌, Bool, t
 use Rattle.std.specs.List.{list_all}
 use Rattle.std.proofs.Common.{sym, ap, ◌∙◌, subst}
 use Rattle.std.proofs.lemmas.Bool.{and_from, and_parts}
+use Rattle.picky_der_core.specs.Shape.{contains}
 use Rattle.picky_der_core.specs.Tree.{Tree}
 use Rattle.der_types.specs.declared.width.Width.{Width}
 use Rattle.der_types.specs.Alphabets.{is_of, is_permitted, all-both, both-all}
 use Rattle.der_types.specs.CharacterStrings.{byte_count, characters, is_string_content}
-use Rattle.der_types.specs.ContentTypes.{string_width, string_character}
+use Rattle.der_types.specs.ContentTypes.{string_tags, string_width, string_character}
 use Rattle.der_types.specs.ContentsFacts.{contents_shape}
 use Rattle.der_types.specs.Denotes.{Denotes, HasContent, IsShort, content_tree, tree_characters, tree_size}
 use Rattle.der_types.specs.Exact.{IsExact, Values}
@@ -70,9 +71,10 @@ abbrev pub set_character : ℕ → Option (List (ℕ × ℕ)) → ℕ → Bool
 set_character tag None = string_character tag
 set_character tag (Some ranges) = is_permitted tag ranges
 
--- A set has the width and the characters of that type. These are equations, so that they hold by computing wherever the
--- set is known.
+-- A set has the tag of a string type, and the width and the characters of that type. These are equations, so that they
+-- hold by computing wherever the set is known.
 pub record IsSet (permitted : Option (List (ℕ × ℕ))) (tag : ℕ) (width : Width) (is_character : ℕ → Bool) : Type 0 where
+  pub is_string : contains string_tags tag ≡ true
   pub same_width : width ≡ string_width tag
   pub same_characters : is_character ≡ set_character tag permitted
 

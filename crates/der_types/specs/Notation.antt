@@ -70,6 +70,8 @@ mutual
     others : List ℕ → Members
     -- the same, of which each has an automatic tag whose number isn't below this one
     others-from : ℕ → Members
+    -- members of later versions in which there are elements at every depth, if they are constructed
+    well-formed : Members → Members
 
   pub data Alternatives : Type 0 where
     none : Alternatives
@@ -116,6 +118,7 @@ abbrev mutual
   layout_of (Members.added ms) = Layout.added (layout_of ms)
   layout_of (Members.others excluded) = Layout.others excluded
   layout_of (Members.others-from least) = Layout.others (numbered_below least)
+  layout_of (Members.well-formed ms) = layout_of ms
 
   pub shapes_of : Alternatives → Shapes
   shapes_of Alternatives.none = Shapes.none

@@ -6,14 +6,14 @@ use Rattle.picky_der_core.specs.declared.asn1.tag.TagClass.{TagClass}
 use Rattle.picky_der_core.specs.declared.asn1.tag.TagClass.TheVariants.{Universal, Application, ContextSpecific}
 use Rattle.picky_der_core.specs.declared.asn1.tag.TagClass.TheVariants.{Private}
 use Rattle.picky_der_core.specs.declared.asn1.wrapper.Wrapper.TheVariants as wrapper
-use Rattle.picky_der_core.specs.Integer.{bits_of, fits_signed, int_tree, unsigned_tree}
+use Rattle.picky_der_core.specs.Integer.{bits_of, fits_signed, int_tree, integer_content, unsigned_tree}
 use Rattle.picky_der_core.specs.Primitive.{Primitive}
 use Rattle.picky_der_core.specs.Tree.{ListKind, Tree}
 use Rattle.picky_der_core.specs.Shape.{firsts}
 use Rattle.picky_asn1_der.specs.LaterTags.{in_both_forms}
 use Rattle.der_types.specs.ContentForms.{INTEGER}
 use Rattle.der_types.specs.Notation.{Notation, Member, Members, Alternatives, shape_of}
-use Rattle.der_types.specs.TagOrder.{tag_place}
+use Rattle.der_types.specs.TagOrder.{tag_place, is_in_tag_order}
 
 -- the library has no type that has just the values of the text: this one is there instead
 abbrev pub wider : Notation → Notation
@@ -23,9 +23,10 @@ wider t = t
 abbrev no_type : Notation
 no_type = Notation.choice Alternatives.none
 
--- an open type (X.681, 14.2), and ANY of 1988
+-- An open type (X.681, 14.2), and ANY of 1988. Its value is a complete encoding of some type (X.690, 8.15). The values
+-- here are more: a constructed element has elements at every depth, but a primitive one may have any content.
 abbrev pub ANY : Notation
-ANY = Notation.any-element
+ANY = Notation.well-formed-element
 
 -- a type that contains itself, where a value would be in itself too often: it begins with this byte, and has no values
 abbrev pub beyond-depth : ℕ → Notation
@@ -140,13 +141,25 @@ abbrev pub ◌⨾◌ : Member → Members → Members
 abbrev pub later-members : Members
 later-members = Members.others []
 
--- the same, where the tags are automatic (25.7). `SEQUENCE` says from which number on.
+-- The same, where the tags are automatic (25.7) and no known members come after these: their numbers ascend in the
+-- order of the text then. `SEQUENCE` says from which number on.
 abbrev pub later-members-automatic : Members
 later-members-automatic = Members.others-from 0
+
+-- the same, with elements at every depth in each that is constructed
+abbrev pub later-elements : Members
+later-elements = Members.well-formed later-members
+
+abbrev pub later-elements-automatic : Members
+later-elements-automatic = Members.well-formed later-members-automatic
 
 -- the same, where none of them may be there
 abbrev pub later-members-refused : Members
 later-members-refused = Members.end
+
+-- the content of a number (X.690, 8.3): below 128 the byte itself, without more computing
+abbrev number_content : ℕ → List ℕ
+number_content n = if nat_lt n 0x80 then n ∷ [] else integer_content (pos n)
 
 -- what a default means, as its type has it
 abbrev value_of : Notation → Value → Tree
@@ -155,8 +168,8 @@ value_of Notation.BOOLEAN Value.TRUE = Tree.primitive (Primitive.boolean true)
 value_of Notation.BOOLEAN Value.FALSE = Tree.primitive (Primitive.boolean false)
 value_of (Notation.unsigned bits) (Value.number n) = unsigned_tree (2 ^ bits - 1) n
 value_of (Notation.signed bits) v = int_tree (fits_signed bits) (whole v)
-value_of (Notation.ENUMERATED numbers) (Value.number n) = Tree.primitive (Primitive.bytes 0x0A (n ∷ []))
-value_of (Notation.INTEGER-named numbers) (Value.number n) = Tree.primitive (Primitive.bytes 0x02 (n ∷ []))
+value_of (Notation.ENUMERATED numbers) (Value.number n) = Tree.primitive (Primitive.bytes 0x0A (number_content n))
+value_of (Notation.INTEGER-named numbers) (Value.number n) = Tree.primitive (Primitive.bytes 0x02 (number_content n))
 value_of _ _ = Tree.absent
 
 -- 25.1: one with this default
@@ -198,18 +211,22 @@ excluding count before (Members.member (Member.defaulted value t) ms) =
 excluding count before (Members.added ms) = Members.added (excluding count before ms)
 excluding count before (Members.others excluded) = Members.others (in_both_forms before)
 excluding count before (Members.others-from least) = Members.others-from count
+excluding count before (Members.well-formed ms) = Members.well-formed (excluding count before ms)
 
 -- 25: one without members is a list of none, and one with those of later versions alone a list of any elements
 abbrev pub SEQUENCE : Members → Notation
 SEQUENCE Members.end = Notation.sized 0 0 (Notation.list-of ListKind.sequence Notation.NULL)
 SEQUENCE (Members.others excluded) = Notation.list-of ListKind.sequence Notation.any-element
+SEQUENCE (Members.well-formed (Members.others excluded)) =
+    Notation.list-of ListKind.sequence Notation.well-formed-element
 SEQUENCE ms = Notation.sequence (excluding 0 [] ms)
 
 abbrev least_place : List ℕ → ℕ
 least_place [] = 128
 least_place (b ∷ bs) = if nat_lt (tag_place b) (least_place bs) then tag_place b else least_place bs
 
--- the place of a member by the least tag that it may have
+-- The place of a member by the least tag that it may have. In DER a choice without a tag has the place of the tag that
+-- is written (X.690, 10.3). These places are the same ones where `SET` is a type.
 abbrev place_of : Member → ℕ
 place_of (Member.required t) = least_place (firsts (shape_of t))
 place_of (Member.optional t) = least_place (firsts (shape_of t))
@@ -220,6 +237,7 @@ insert m Members.end = m ⨾ Members.end
 insert m (Members.added ms) = m ⨾ Members.added ms
 insert m (Members.others excluded) = m ⨾ Members.others excluded
 insert m (Members.others-from least) = m ⨾ Members.others-from least
+insert m (Members.well-formed ms) = m ⨾ Members.well-formed ms
 insert m (Members.member n ns) = if nat_lt (place_of m) (place_of n) then m ⨾ n ⨾ ns else n ⨾ insert m ns
 
 abbrev in_tag_order : Members → Members
@@ -227,12 +245,20 @@ in_tag_order Members.end = Members.end
 in_tag_order (Members.added ms) = Members.added ms
 in_tag_order (Members.others excluded) = Members.others excluded
 in_tag_order (Members.others-from least) = Members.others-from least
+in_tag_order (Members.well-formed ms) = Members.well-formed ms
 in_tag_order (Members.member m ms) = insert m (in_tag_order ms)
 
--- 27, and X.690, 10.3: the members come in the order of their tags
+-- with the tag of a set, if the members come in the order of their tags in each value
+abbrev ordered_set : Notation → Notation
+ordered_set t =
+    if is_in_tag_order (shape_of t) then Notation.wrapped (wrapper.ImplicitList 0x31) t else no_type
+
+-- 27, and X.690, 10.3: the members come in the order of their tags. The library has no type whose order changes with
+-- the tags that are written, as where a choice has one before and one after that of another member. It has none with
+-- members of later versions, which may come between known ones.
 abbrev pub SET : Members → Notation
 SET Members.end = Notation.sized 0 0 (Notation.list-of ListKind.set Notation.NULL)
-SET ms = Notation.wrapped (wrapper.ImplicitList 0x31) (Notation.sequence (in_tag_order ms))
+SET ms = ordered_set (Notation.sequence (in_tag_order ms))
 
 abbrev pub SEQUENCE-OF : Notation → Notation
 SEQUENCE-OF = Notation.list-of ListKind.sequence

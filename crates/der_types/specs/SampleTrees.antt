@@ -20,7 +20,7 @@ use Rattle.picky_der_core.specs.IntegerLaws.{AreBytes-content, value-content}
 use Rattle.picky_der_core.specs.IntLaws.{length-integer_content}
 use Rattle.picky_der_core.specs.Order.{is_less, IsAscending}
 use Rattle.picky_der_core.specs.OrderLaws.{IsSortedBy-nil, IsSortedBy-one, IsSortedBy-cons}
-use Rattle.picky_der_core.specs.Primitive.{Primitive, unsigned_content}
+use Rattle.picky_der_core.specs.Primitive.{Primitive, primitive_content, unsigned_content}
 use Rattle.picky_der_core.specs.Readable.{IsReadable, AreReadable, IsInOrder, IsHeadedIfChoice, IsNoChoice}
 use Rattle.picky_der_core.specs.Shape.{contains, EachIs}
 use Rattle.picky_der_core.specs.Tag.{number_of, is_tag_number, is_constructed, IsConstructedTag, is_constructed_tag}
@@ -292,8 +292,10 @@ module _ (w : Wrapper) (n : Notation) where
 -- a content under this tag in place of its own
 abbrev under_sample : (tag : ℕ) (n : Notation) (t : Tree) → Denotes n t → IsReadable t
     → Option (Sample (Notation.content-under tag n))
-under_sample tag n (Tree.primitive (Primitive.bytes own s)) d r =
-    content_sample (Notation.content-under tag n) (primitive_form tag) s (Some (s, refl, (own, r, d)))
+under_sample tag n (Tree.primitive (Primitive.unsigned k)) d r = None
+under_sample tag n (Tree.primitive p) d r =
+    content_sample (Notation.content-under tag n) (primitive_form tag) (primitive_content p)
+    (Some (primitive_content p, refl, (p, refl, r, d)))
 under_sample tag n _ d r = None
 
 -- ---- lists of copies of one tree
@@ -371,6 +373,13 @@ absent_default value n ms others = record {
       others.readable;
   short = others.short;
 }
+
+-- no members are well-formed ones
+abbrev none_well_formed : (ms : Members) (ts : Trees) → DenoteMembers ms ts
+    → Option (MembersSample (Members.well-formed ms))
+none_well_formed ms Trees.none d =
+    Some (record { trees = Trees.none; denoted = (d, tt); readable = tt; short = tt })
+none_well_formed ms (Trees.more t ts) d = None
 
 abbrev sequence_sample : (ms : Members) → MembersSample ms → Option (Sample (Notation.sequence ms))
 sequence_sample ms m =
@@ -549,6 +558,7 @@ abbrev mutual
       Some (record { trees = Trees.none; denoted = tt; readable = tt; short = tt })
   members_sample (Members.others-from least) =
       Some (record { trees = Trees.none; denoted = tt; readable = tt; short = tt })
+  members_sample (Members.well-formed ms) = with (members_sample ms) (λ x. none_well_formed ms x.trees x.denoted)
 
   pub alternative_sample : (ts : Alternatives) → Option (AlternativeSample ts)
   alternative_sample Alternatives.none = None

@@ -10,7 +10,9 @@ use std::alloc::Global;
 
 /// A bit string (X.690, 8.6), kept as its content: a byte with the number of unused bits, then the bytes. At most 7
 /// bits of the last byte are unused, and unused bits are zero (11.2.1).
-#[derive(Debug, Drop, PartialEq, Eq, Hash)]
+///
+/// It prints as its bits, as `'1011'B` (X.680, 12.10). Its order is that of the bytes of its content.
+#[derive(Drop, PartialEq, Eq, PartialOrd, Ord, Hash)]
 pub struct BitString {
     pub(crate) content: Vec<u8>,
     ghost canonical: { is_bit_string content.items ≡ true },
@@ -42,6 +44,13 @@ impl BitString {
     {
         let content = content_of(alloc, bits)?;
         Ok(BitString { content })
+    }
+
+    /// Returns its content (X.690, 8.6.2): a byte with the number of unused bits, and the bytes of the bits.
+    pub fn content(&self) -> &[u8]
+        ensures { result.now ≡ self.now.content.items }
+    {
+        &self.content
     }
 
     /// Returns how many of the lowest bits of the last byte are unused, at most 7.

@@ -1,5 +1,7 @@
 //! The bytes of bit strings (X.690, 8.6.2).
 ghost use Rattle.std.specs.Prelude.{◌≡◌, ◌++◌, ◌-◌, ◌*◌, ◌≤◌, ◌<◌, ◌%◌, ◌^◌, ◌==◌, true, length, slice_get, OnOk, IfOk};
+ghost use Rattle.std.specs.Prelude.{ℕ, false, slice_index_or, if◌then◌else◌};
+ghost use Rattle.std.specs.List.{list_any};
 ghost use Rattle.der_types.specs.BitString.{weigh, octets, bit_string_content, is_bit_string, is_bit_set};
 ghost use Rattle.der_types.specs.BitString.{is_named_bits, byte_bit, bits_of, without_zeros};
 
@@ -46,7 +48,7 @@ pub(crate) fn is_named_bits(bytes: &[u8]) -> bool
 }
 
 // The bit at this place of a byte. Place 0 is the highest bit.
-fn byte_bit(byte: u8, place: u8) -> bool
+pub(crate) fn byte_bit(byte: u8, place: u8) -> bool
     requires { place < 8 }
     ensures { result ≡ byte_bit byte place }
 {
@@ -124,4 +126,58 @@ pub(crate) fn without_zeros(bits: &[bool]) -> &[bool]
         used = others;
     }
     used
+}
+
+// The bits of a content.
+fn bits_of(alloc: Global, content: &[u8]) -> Result<Vec<bool>, AllocError>
+    requires { is_bit_string content.now ≡ true }
+    ensures { IfOk result (λ bits. bits.items ≡ bits_of content.now) }
+{
+    let mut bits = Vec::new(alloc);
+    while let Some(bit) = bit_of(content, bits.len()) {
+        bits.push(bit)?;
+    }
+    Ok(bits)
+}
+
+// Makes the bit with this number `value`. Bits that are added before it are zero.
+fn put_bit(bits: &mut Vec<bool>, number: usize, value: bool) -> Result<(), AllocError>
+    ensures { OnOk result ((k : ℕ) → slice_index_or bits.new.items k false
+        ≡ (if k == number then value else slice_index_or bits.old.items k false)) }
+{
+    if number < bits.len() {
+        bits[number] = value;
+        return Ok(());
+    }
+    bits.resize(number, false)?;
+    bits.push(value)?;
+    Ok(())
+}
+
+// The bits of a content, where the one with this number is `value`.
+pub(crate) fn with_bit(
+    alloc: Global,
+    content: &[u8],
+    number: usize,
+    value: bool,
+) -> Result<Vec<bool>, AllocError>
+    requires { is_bit_string content.now ≡ true }
+    ensures { IfOk result (λ bits. (k : ℕ) → slice_index_or bits.items k false
+        ≡ (if k == number then value else slice_index_or (bits_of content.now) k false)) }
+{
+    let mut bits = bits_of(alloc, content)?;
+    put_bit(&mut bits, number, value)?;
+    Ok(bits)
+}
+
+// Bits of which exactly those with these numbers are one.
+pub(crate) fn bits_with(alloc: Global, numbers: &[usize]) -> Result<Vec<bool>, AllocError>
+    ensures { IfOk result (λ bits. (k : ℕ) → slice_index_or bits.items k false
+        ≡ list_any (λ number. k == number) numbers.now) }
+{
+    let mut bits = Vec::new(alloc);
+    for number in numbers {
+        put_bit(&mut bits, *number, true)?;
+    }
+    Ok(bits)
 }

@@ -8,7 +8,7 @@ use std::fmt;
 /// is that of time.
 ///
 /// It prints as `2026-11-27T23:12:00Z`.
-#[derive(Debug, Clone, Copy, PartialEq, Eq, PartialOrd, Ord, Hash)]
+#[derive(Clone, Copy, PartialEq, Eq, PartialOrd, Ord, Hash)]
 pub struct DateTime {
     pub(crate) year: u16,
     pub(crate) month: u8,

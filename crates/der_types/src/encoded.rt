@@ -17,12 +17,14 @@ use picky_der_core::misc::{ReadExt, WriteExt};
 use picky_der_core::{Asn1DerError, Result};
 use picky_der_de::{Deserialize, Deserializer, TryVia, from_der, try_deserialize_as};
 use picky_der_ser::{Serialize, Serializer};
+use std::alloc::AllocError;
+use std::fmt;
 
 /// A value of the type `T` together with its encoding, for a member whose type another member decides (ANY DEFINED BY).
-/// Two of them are equal exactly if their encodings are.
+/// Two of them are equal exactly if their encodings are. It prints as its value.
 ///
 /// On reading, `InvalidData` if the element isn't an encoding of a `T`; the element has then been consumed completely.
-#[derive(Debug, Drop)]
+#[derive(Drop)]
 pub struct Encoded<T: Deserialize> {
     encoding: Asn1RawDer,
     value: T,
@@ -74,6 +76,29 @@ impl<T: Deserialize> PartialEq for Encoded<T> {
 
     fn eq(&self, other: &Encoded<T>) -> bool {
         self.encoding == other.encoding
+    }
+}
+
+/// The value of a copy is read from a copy of the encoding.
+impl<T: Deserialize> Clone for Encoded<T> {
+    ghost is_clone = { λ x y. y.encoding.0.items ≡ x.encoding.0.items };
+
+    fn clone(&self) -> std::result::Result<Encoded<T>, AllocError> {
+        let Ok(encoding) = self.encoding.clone() else {
+            return Err(AllocError);
+        };
+        match Encoded::from_encoding(encoding) {
+            Ok(copy) => Ok(copy),
+            Err(_) => Err(AllocError),
+        }
+    }
+}
+
+impl<T: Deserialize + fmt::Debug> fmt::Debug for Encoded<T> {
+    ghost debug_output = { λ it. T.debug_output it.value };
+
+    fn fmt<W: fmt::Write>(&self, f: &mut fmt::Formatter<W>) -> fmt::Result {
+        self.value.fmt(f)
     }
 }
 

@@ -19,7 +19,7 @@ use std::hash::{Hash, Hasher};
 /// A GeneralizedTime (X.690, 8.26, 11.7), by its content: `YYYYMMDDHHMMSSZ` of the years 0 to 9999. Before the Z a
 /// fraction of a second may be, of any length: a point and digits, of which the last isn't 0. Its order is that of
 /// time.
-#[derive(Debug, Drop)]
+#[derive(Drop)]
 pub struct GeneralizedTime {
     pub(crate) content: Vec<u8>,
     ghost canonical: { is_generalized_time content.items ≡ true },

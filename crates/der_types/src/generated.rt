@@ -10,6 +10,7 @@ pub mod equality;
 mod generalized_time;
 pub mod in_range;
 mod integer;
+mod integer_numbers;
 mod kinds;
 mod members;
 mod named_bits;

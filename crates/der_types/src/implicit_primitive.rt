@@ -20,7 +20,7 @@ use picky_der_ser::{Serialize, Serializer};
 ///
 /// `TAG` is a whole identifier byte. It has to be primitive (bit 6 is clear), with a number of at most 30. Otherwise
 /// writing and reading fail with `UnsupportedValue`. `ImplicitList` does the same for lists.
-#[derive(Debug, Drop, PartialEq, Eq, Hash)]
+#[derive(Debug, Clone, Drop, PartialEq, Eq, PartialOrd, Ord, Hash)]
 pub struct ImplicitPrimitive<T, const TAG: u8>(pub T);
 
 // This identifier byte. A constructed one becomes the identifier byte of the long form, which isn't supported.

@@ -15,7 +15,7 @@ use std::alloc::Global;
 
 /// A GeneralizedTime of RFC 5280 (4.1.2.5.2) where a UTCTime can't be: `YYYYMMDDHHMMSSZ`, a second of the years 2050 to
 /// 9999, without a fraction. Its order is that of time.
-#[derive(Debug, Clone, Copy, PartialEq, Eq, PartialOrd, Ord, Hash)]
+#[derive(Clone, Copy, PartialEq, Eq, PartialOrd, Ord, Hash)]
 pub struct LaterTime {
     at: DateTime,
     ghost later: { 2050 ≤ at.year },
@@ -118,7 +118,8 @@ impl Deserialize for LaterTime {
 
     ghost shape = { contents_shape 0x18 };
 
-    ghost facts = { contents_facts 0x18 (λ it. generalized_content it.at []) ⟦<Self as PartialEq>⟧.eq is_later_time ⟦<Self as Contents>⟧.same };
+    ghost facts = { contents_facts 0x18 (λ it. generalized_content it.at []) ⟦<Self as PartialEq>⟧.eq is_later_time
+        ⟦<Self as Contents>⟧.same };
 
     ghost proved = { Prim.assumption };
 

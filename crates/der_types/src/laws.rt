@@ -1,12 +1,14 @@
 //! Laws about what the types mean. They are statements for proofs and run no code, which is why their bodies are empty.
 ghost use Rattle.std.specs.Prelude.{◌≡◌, ◌≤◌, ℕ, Bool, List, [], ◌∷◌, length, true, chars, IsUtf8};
 ghost use Rattle.std.specs.List.{list_all};
-ghost use Rattle.std.specs.Ordering.{nat_cmp};
+ghost use Rattle.std.specs.Cmp.Lexicographic.{slice_cmp};
+ghost use Rattle.std.specs.Ordering.{nat_cmp, int_cmp};
 ghost use Rattle.std.specs.Char.Escape.{encode_utf16};
 ghost use Rattle.picky_der_core.specs.Element.{AreBytes};
+ghost use Rattle.picky_der_core.specs.Integer.{integer_value};
 ghost use Rattle.picky_der_core.specs.Readable.{IsReadable};
 ghost use Rattle.picky_der_core.specs.Shape.{IsOf};
-ghost use Rattle.picky_der_core.specs.Equality.{IsEqualityOf, IsThatOf, IsKept};
+ghost use Rattle.picky_der_core.specs.Equality.{IsEqualityOf, IsThatOf, IsKept, IsCopied};
 ghost use Rattle.der_types.specs.BitString.{is_bit_string, bit_string_content, bits_of, is_named_bits, without_zeros};
 ghost use Rattle.der_types.specs.CharacterStrings.{string_content, characters, is_string_content, is_ia5, is_bmp};
 ghost use Rattle.picky_der_core.specs.Tree.{Tree};
@@ -24,10 +26,10 @@ ghost use Rattle.der_types.specs.TimeChoice.{date_time_of};
 ghost use Rattle.der_types.specs.TimeContents.{is_utc_time, fraction_of};
 ghost use Rattle.der_types.specs.TimeValues.{utc_content};
 
-pub use crate::generated::equality::content_equality;
+pub use crate::generated::equality::{content_copies, content_equality, content_orders};
 use crate::{
-    Arcs, CharacterSet, DateTime, Exact, GeneralizedTime, LaterTime, OidError, RestrictedString,
-    TagOrdered, Time, UtcTime, Width,
+    Arcs, CharacterSet, DateTime, Exact, GeneralizedTime, ImplicitPrimitive, ImplicitSet, Integer,
+    LaterTime, OidError, RestrictedString, TagOrdered, Time, TimeError, UtcTime, Width,
 };
 pub use picky_der_core::laws::integers;
 
@@ -44,6 +46,7 @@ pub fn equality()
 pub fn copies()
     ensures arcs { IsKept ⟦<Arcs<'static> as Clone>⟧.is_clone (λ arcs. arcs) }
     ensures error { IsKept ⟦<OidError as Clone>⟧.is_clone (λ error. error) }
+    ensures time_error { IsKept ⟦<TimeError as Clone>⟧.is_clone (λ error. error) }
     ensures width { IsKept ⟦<Width as Clone>⟧.is_clone (λ width. width) }
     ensures date_time { IsKept ⟦<DateTime as Clone>⟧.is_clone (λ at. at) }
     ensures utc_time { IsKept ⟦<UtcTime as Clone>⟧.is_clone (λ time. time) }
@@ -73,6 +76,13 @@ pub fn relative_oids()
     ensures one { (a b : List ℕ) → relative_oid_content a ≡ relative_oid_content b → a ≡ b }
 {}
 
+/// INTEGERs are in the order of their numbers.
+pub fn integer_order()
+    ensures { (x y : Integer) → AreBytes x.content.items → AreBytes y.content.items
+        → ⟦<Integer as Ord>⟧.cmp x y
+        ≡ int_cmp (integer_value x.content.items) (integer_value y.content.items) }
+{}
+
 /// When a SET is read back, its members begin with tags in the order of tags (X.690, 10.3), and no tag occurs twice.
 pub fn sets<T: TagOrdered>()
     ensures order { (value : T) → IsOf T.shape (T.meaning value) → IsReadable (T.meaning value)
@@ -99,6 +109,21 @@ pub fn named_bits()
 /// Two strings of a set are equal by `==` exactly if their contents are the same.
 pub fn string_equality<S: CharacterSet>()
     ensures { IsEqualityOf ⟦<RestrictedString<S> as PartialEq>⟧.eq (λ it. it.content.items) }
+{}
+
+/// Strings of a set are ordered by the bytes of their contents, at the first index where these differ. A copy has the
+/// same content.
+pub fn string_order<S: CharacterSet>()
+    ensures order { IsThatOf ⟦<RestrictedString<S> as Ord>⟧.cmp (λ it. it.content.items) (slice_cmp nat_cmp) }
+    ensures copy { IsKept ⟦<RestrictedString<S> as Clone>⟧.is_clone (λ it. it.content.items) }
+{}
+
+/// A primitive value under another tag is ordered as the value, and so is a set as its members. A copy holds a copy.
+pub fn wrappers<T: Clone + Ord, const TAG: u8>()
+    ensures primitive { IsThatOf ⟦<ImplicitPrimitive<T, TAG> as Ord>⟧.cmp (λ tagged. tagged.0) T.cmp }
+    ensures set { IsThatOf ⟦<ImplicitSet<T, TAG> as Ord>⟧.cmp (λ set. set.0) T.cmp }
+    ensures primitive_copy { IsCopied ⟦<ImplicitPrimitive<T, TAG> as Clone>⟧.is_clone (λ tagged. tagged.0) T.is_clone }
+    ensures set_copy { IsCopied ⟦<ImplicitSet<T, TAG> as Clone>⟧.is_clone (λ set. set.0) T.is_clone }
 {}
 
 /// Each text whose characters are all in a set has a content, each content encodes its characters, and different texts

@@ -20,7 +20,8 @@ pub(crate) const INLINE: usize = 16;
 /// ends.
 ///
 /// It prints as its arcs with points between them, as `2.5.4.3`; an arc above `u64::MAX` prints as `(above 64 bits)`.
-#[derive(Debug, Drop, PartialEq, Eq, Hash)]
+/// Its order is that of the bytes of its content.
+#[derive(Drop, PartialEq, Eq, PartialOrd, Ord, Hash)]
 pub struct ObjectIdentifier {
     pub(crate) content: SmallVec<u8, INLINE>,
     ghost canonical: { is_object_identifier content.items ≡ true },
@@ -84,8 +85,8 @@ impl ObjectIdentifier {
 
     /// Returns the object identifier with this content, as `from_bytes(alloc, names::KEY_USAGE)`.
     ///
-    /// `InvalidData` if a number in it begins with a needless 80 or the last one doesn't end (X.690, 8.19.2), and
-    /// `OutOfMemory` if an allocation fails.
+    /// `InvalidData` if it is empty, a number in it begins with a needless 80 or the last one doesn't end (X.690,
+    /// 8.19.2), and `OutOfMemory` if an allocation fails.
     pub fn from_bytes(alloc: Global, content: &[u8]) -> Result<ObjectIdentifier>
         ensures ok { IfOk result (λ it. ⟦<ObjectIdentifier as Contents>⟧.content it ≡ content.now) }
         ensures err { IfErr result (λ e. (e ≡ Asn1DerError.OutOfMemory)

@@ -4,7 +4,7 @@ use std::alloc::{AllocError, AllocFailed};
 use thiserror::Error;
 
 /// Why arcs or a text aren't an object identifier, or not a relative one. It prints as the reason.
-#[derive(Debug, Clone, Copy, PartialEq, Eq, Error)]
+#[derive(Debug, Clone, Copy, PartialEq, Eq, PartialOrd, Ord, Hash, Error)]
 pub enum OidError {
     /// There are too few arcs: an object identifier has at least two, and a relative one at least one.
     #[error("too few arcs")]

@@ -15,7 +15,8 @@ use std::fmt;
 /// it is in the fewest bytes, and the last one is complete.
 ///
 /// It prints as its arcs with points between them, as `8571.3.2`. An arc above `u64::MAX` prints as `(above 64 bits)`.
-#[derive(Debug, Drop, PartialEq, Eq, Hash)]
+/// Its order is that of the bytes of its content.
+#[derive(Drop, PartialEq, Eq, PartialOrd, Ord, Hash)]
 pub struct RelativeOid {
     pub(crate) content: Vec<u8>,
     ghost canonical: { is_relative_oid content.items ≡ true },

@@ -20,16 +20,16 @@ use picky_der_core::misc::{ReadExt, WriteExt};
 use picky_der_core::{Asn1DerError, Result};
 use picky_der_de::{Begins, Deserialize, Deserializer};
 use picky_der_ser::{Serialize, Serializer};
-use std::alloc::Global;
+use std::alloc::{AllocError, Global};
 use std::fmt;
 use std::marker::PhantomData;
 
 /// A restricted character string (X.690, 8.23), kept as its content: characters of the set `S`, each in the same number
 /// of bytes.
 ///
-/// It prints as its text if the set is one of Unicode.
+/// It prints as its text if the set is one of Unicode. Its order is that of the numbers of its characters.
 #[derive(Drop)]
-#[derive_where(Debug, PartialEq, Eq, Hash)]
+#[derive_where(PartialEq, Eq, PartialOrd, Ord, Hash)]
 pub struct RestrictedString<S: CharacterSet> {
     content: Vec<u8>,
     #[derive_where(skip)]
@@ -106,16 +106,36 @@ impl<S: CharacterSet> RestrictedString<S> {
     {
         self.len() == 0
     }
+}
 
-    /// Returns a copy, on the same allocator. `OutOfMemory` if the allocation fails.
-    pub fn clone(&self) -> Result<RestrictedString<S>>
-        ensures same { IfOk result (λ copy. copy.content.items ≡ self.now.content.items) }
-        ensures memory { IfErr result (λ e. e ≡ Asn1DerError.OutOfMemory) }
-    {
+impl<S: CharacterSet> Clone for RestrictedString<S> {
+    ghost is_clone = { λ x y. y.content.items ≡ x.content.items };
+
+    fn clone(&self) -> std::result::Result<RestrictedString<S>, AllocError> {
         Ok(RestrictedString {
             content: self.content.clone()?,
             set: PhantomData,
         })
+    }
+}
+
+/// It prints between quotes. A character that isn't printable in ASCII, a quote and a backslash print as their number
+/// in hexadecimal, as `\u{e4}`.
+impl<S: CharacterSet> fmt::Debug for RestrictedString<S> {
+    fn fmt<W: fmt::Write>(&self, f: &mut fmt::Formatter<W>) -> fmt::Result {
+        f.write_char('"')?;
+        let width = S::WIDTH;
+        let mut rest = self.content.as_slice();
+        while let Some((code, after)) = split_character(width, rest) {
+            match char::from_u32(code) {
+                Some(shown) if matches!(shown, ' ' | '!' | '#'..='[' | ']'..='~') => {
+                    f.write_char(shown)?
+                }
+                _ => write!(f, "\\u{{{code:x}}}")?,
+            }
+            rest = after;
+        }
+        f.write_char('"')
     }
 }
 
@@ -220,7 +240,8 @@ impl<S: CharacterSet> Serialize for RestrictedString<S> {
 impl<S: CharacterSet> Deserialize for RestrictedString<S> {
     ghost shape = { contents_shape S.TAG };
 
-    ghost facts = { ruled (content_rule S.TAG (is_string_content S.WIDTH S.is_character)) (bytes_facts S.TAG (λ it. it.content.items)) };
+    ghost facts = { ruled (content_rule S.TAG (is_string_content S.WIDTH S.is_character))
+        (bytes_facts S.TAG (λ it. it.content.items)) };
 
     ghost proved = { Prim.assumption };
 

@@ -28,7 +28,7 @@ pub trait TagOrdered: List + Deserialize {
 ///
 /// `TAG` is a whole identifier byte, with the same rules and errors as in `ImplicitList`. If the members of an input
 /// are in another order, the first one out of order is refused by its tag.
-#[derive(Debug, Drop, PartialEq, Eq)]
+#[derive(Debug, Clone, Drop, PartialEq, Eq, PartialOrd, Ord, Hash)]
 pub struct ImplicitSet<T, const TAG: u8>(pub T);
 
 /// A SET of different members under its own tag 31.

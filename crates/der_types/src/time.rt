@@ -22,7 +22,7 @@ use picky_der_ser::{Serialize, Serializer};
 
 /// A time of a certificate (RFC 5280, 4.1.2.5), as a CHOICE: a second of the years 1950 to 9999. Each has one form, by
 /// its year. Its order is that of time.
-#[derive(Debug, Clone, Copy, PartialEq, Eq, PartialOrd, Ord, Hash)]
+#[derive(Clone, Copy, PartialEq, Eq, PartialOrd, Ord, Hash)]
 pub enum Time {
     /// A UTCTime: up to 2049.
     Utc(UtcTime),

@@ -12,7 +12,7 @@ use picky_der_ser::Serializer;
 
 /// A UTCTime (X.690, 8.25, 11.8) as DER and RFC 5280 (4.1.2.5.1) have it: `YYMMDDHHMMSSZ`, a second of the years 1950
 /// to 2049. Its order is that of time.
-#[derive(Debug, Clone, Copy, PartialEq, Eq, PartialOrd, Ord, Hash)]
+#[derive(Clone, Copy, PartialEq, Eq, PartialOrd, Ord, Hash)]
 pub struct UtcTime {
     pub(crate) at: DateTime,
     ghost first: { 1950 ≤ at.year },

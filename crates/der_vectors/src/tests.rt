@@ -15,6 +15,7 @@ mod errors;
 mod jiff_times;
 mod key_algorithms;
 mod larger_types;
+mod later_elements;
 mod later_members;
 mod lengths;
 mod pieces;

@@ -2,7 +2,7 @@
 -- The types as terms. Above each is its name in its module, and above each member the member's text.
 use Rattle.der_types.specs.ContentForms.{IA5String}
 use Rattle.der_types.specs.Notation.{Notation, BOOLEAN, UTF8String, optional, required}
-use Rattle.der_types.specs.NotationForms.{AUTOMATIC, CONTEXT, FALSE, IMPLICIT, INTEGER-from-to, Mode, SEQUENCE, SEQUENCE-OF, added, default, later-members, later-members-automatic, ◌⨾◌}
+use Rattle.der_types.specs.NotationForms.{AUTOMATIC, CONTEXT, FALSE, IMPLICIT, INTEGER-from-to, Mode, SEQUENCE, SEQUENCE-OF, added, default, later-elements, later-elements-automatic, ◌⨾◌}
 
 -- Parcels DEFINITIONS IMPLICIT TAGS
 abbrev TAGS : Mode
@@ -19,7 +19,7 @@ Lease1 = SEQUENCE (
     optional (CONTEXT 2 AUTOMATIC (INTEGER-from-to 0 255)) ⨾
     -- furnished BOOLEAN DEFAULT FALSE
     default FALSE (CONTEXT 3 AUTOMATIC BOOLEAN) ⨾
-    later-members-automatic)
+    later-elements-automatic)
 
 -- Lease-2 of Leases
 abbrev pub Lease2 : Notation
@@ -38,14 +38,14 @@ Lease2 = SEQUENCE (
     added (required (CONTEXT 5 AUTOMATIC BOOLEAN) ⨾
     -- shed UTF8String OPTIONAL
     optional (CONTEXT 6 AUTOMATIC UTF8String) ⨾
-    later-members-automatic)))
+    later-elements-automatic)))
 
 -- Room of Leases
 abbrev pub Room : Notation
 Room = SEQUENCE (
     -- name UTF8String
     required (CONTEXT 0 AUTOMATIC UTF8String) ⨾
-    later-members-automatic)
+    later-elements-automatic)
 
 -- Lease-3 of Leases
 abbrev pub Lease3 : Notation
@@ -70,7 +70,7 @@ Lease3 = SEQUENCE (
     added (required (CONTEXT 8 AUTOMATIC (INTEGER-from-to 0 255)) ⨾
     -- rooms SEQUENCE OF Room
     required (CONTEXT 9 AUTOMATIC (SEQUENCE-OF Room)) ⨾
-    later-members-automatic))))
+    later-elements-automatic))))
 
 -- Parcel-1 of Parcels
 abbrev pub Parcel1 : Notation
@@ -81,7 +81,7 @@ Parcel1 = SEQUENCE (
     required BOOLEAN ⨾
     -- note UTF8String OPTIONAL
     optional UTF8String ⨾
-    later-members)
+    later-elements)
 
 -- Parcel-2 of Parcels
 abbrev pub Parcel2 : Notation
@@ -98,4 +98,4 @@ Parcel2 = SEQUENCE (
     optional (CONTEXT 0 TAGS (SEQUENCE-OF (INTEGER-from-to 0 255))) ⨾
     -- returned BOOLEAN
     added (required BOOLEAN ⨾
-    later-members)))
+    later-elements)))

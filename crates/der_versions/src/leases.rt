@@ -9,6 +9,7 @@ ghost use Rattle.der_types.specs.ExactAdded.{fields_values};
 ghost use Rattle.der_types.specs.ExactMembers.{struct_values};
 ghost use Rattle.der_types.specs.SampleTrees.{exact_example};
 
+use der_elements::LaterElementsFrom;
 use der_types::{Exact, ExactMembers, Notated, NotatedMembers};
 use picky_asn1_der::asn1::{
     ImplicitContextTag0, ImplicitContextTag1, ImplicitContextTag2, ImplicitContextTag3,
@@ -19,9 +20,8 @@ use picky_asn1_der::de::{Begins, Faithful, FaithfulMembers, Inhabited};
 use picky_asn1_der::misc::{ReadExt, WriteExt};
 use picky_asn1_der::ser::{Defaulted, DefaultedRef, False, Optional, OptionalRef};
 use picky_asn1_der::{
-    Added, AddedMembers, Deserialize, DeserializeMembers, Deserializer, LaterMembersFrom, List,
-    Result, Serialize, SerializeMembers, Serializer, Struct, deserialize_members_as,
-    deserialize_struct_as,
+    Added, AddedMembers, Deserialize, DeserializeMembers, Deserializer, List, Result, Serialize,
+    SerializeMembers, Serializer, Struct, deserialize_members_as, deserialize_struct_as,
 };
 
 /// `Lease-1` of Leases, as a SEQUENCE.
@@ -36,7 +36,7 @@ pub struct Lease1 {
     /// `BOOLEAN DEFAULT FALSE`.
     pub furnished: ImplicitContextTag3<bool>,
     /// The members of later versions, in their order. `...`.
-    pub later_members: LaterMembersFrom<4>,
+    pub later_members: LaterElementsFrom<4>,
 }
 
 type Lease1Parts = (
@@ -44,7 +44,7 @@ type Lease1Parts = (
     ImplicitContextTag1<String>,
     Optional<ImplicitContextTag2<u8>>,
     Defaulted<ImplicitContextTag3<bool>, False>,
-    LaterMembersFrom<4>,
+    LaterElementsFrom<4>,
 );
 
 impl Struct for Lease1 {
@@ -338,13 +338,13 @@ pub struct Lease2Additions2 {
     /// `UTF8String OPTIONAL`.
     pub shed: Option<ImplicitContextTag6<String>>,
     /// The members of later versions, in their order. `...`.
-    pub later_members: LaterMembersFrom<7>,
+    pub later_members: LaterElementsFrom<7>,
 }
 
 type Lease2Additions2Parts = (
     ImplicitContextTag5<bool>,
     Optional<ImplicitContextTag6<String>>,
-    LaterMembersFrom<7>,
+    LaterElementsFrom<7>,
 );
 
 impl Struct for Lease2Additions2 {
@@ -706,13 +706,13 @@ pub struct Lease3Additions3 {
     /// `SEQUENCE OF Room`.
     pub rooms: ImplicitList<Vec<Room>, 0xA9>,
     /// The members of later versions, in their order. `...`.
-    pub later_members: LaterMembersFrom<10>,
+    pub later_members: LaterElementsFrom<10>,
 }
 
 type Lease3Additions3Parts = (
     ImplicitContextTag8<u8>,
     ImplicitList<Vec<Room>, 0xA9>,
-    LaterMembersFrom<10>,
+    LaterElementsFrom<10>,
 );
 
 impl Struct for Lease3Additions3 {
@@ -788,10 +788,10 @@ pub struct Room {
     /// `UTF8String`.
     pub name: ImplicitContextTag0<String>,
     /// The members of later versions, in their order. `...`.
-    pub later_members: LaterMembersFrom<1>,
+    pub later_members: LaterElementsFrom<1>,
 }
 
-type RoomParts = (ImplicitContextTag0<String>, LaterMembersFrom<1>);
+type RoomParts = (ImplicitContextTag0<String>, LaterElementsFrom<1>);
 
 impl Struct for Room {
     type Members = RoomParts;

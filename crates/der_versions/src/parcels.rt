@@ -9,14 +9,15 @@ ghost use Rattle.der_types.specs.ExactAdded.{fields_values};
 ghost use Rattle.der_types.specs.ExactMembers.{struct_values};
 ghost use Rattle.der_types.specs.SampleTrees.{exact_example};
 
+use der_elements::LaterElements;
 use der_types::{Exact, ExactMembers, Ia5String, Notated, NotatedMembers};
 use picky_asn1_der::asn1::{ImplicitList0, Tag};
 use picky_asn1_der::de::{Begins, Faithful, FaithfulMembers, Inhabited};
 use picky_asn1_der::misc::{ReadExt, WriteExt};
 use picky_asn1_der::ser::{Optional, OptionalRef};
 use picky_asn1_der::{
-    Added, AddedMembers, Deserialize, DeserializeMembers, Deserializer, LaterMembers, List, NoneOf,
-    OneOf, Result, Serialize, SerializeMembers, Serializer, Struct, deserialize_members_as,
+    Added, AddedMembers, Deserialize, DeserializeMembers, Deserializer, List, NoneOf, OneOf,
+    Result, Serialize, SerializeMembers, Serializer, Struct, deserialize_members_as,
     deserialize_struct_as,
 };
 
@@ -30,14 +31,14 @@ pub struct Parcel1 {
     /// `UTF8String OPTIONAL`.
     pub note: Option<String>,
     /// The members of later versions, in their order. `...`.
-    pub later_members: LaterMembers<OneOf<String, NoneOf>>,
+    pub later_members: LaterElements<OneOf<String, NoneOf>>,
 }
 
 type Parcel1Parts = (
     u32,
     bool,
     Optional<String>,
-    LaterMembers<OneOf<String, NoneOf>>,
+    LaterElements<OneOf<String, NoneOf>>,
 );
 
 impl Struct for Parcel1 {
@@ -297,10 +298,10 @@ pub struct Parcel2Additions2 {
     /// `BOOLEAN`.
     pub returned: bool,
     /// The members of later versions, in their order. `...`.
-    pub later_members: LaterMembers<NoneOf>,
+    pub later_members: LaterElements<NoneOf>,
 }
 
-type Parcel2Additions2Parts = (bool, LaterMembers<NoneOf>);
+type Parcel2Additions2Parts = (bool, LaterElements<NoneOf>);
 
 impl Struct for Parcel2Additions2 {
     type Members = Parcel2Additions2Parts;

@@ -12,6 +12,7 @@ ghost use Rattle.der_types.specs.ExactChoices.{choice_values};
 ghost use Rattle.der_types.specs.ExactMembers.{struct_values};
 ghost use Rattle.der_types.specs.SampleTrees.{exact_example};
 
+use der_elements::AnyElement;
 use der_types::{
     Exact, ExactAlternatives, ExactMembers, Notated, NotatedAlternatives, NotatedMembers,
     ObjectIdentifier, WithSize,
@@ -23,8 +24,8 @@ use picky_asn1_der::de::{
 };
 use picky_asn1_der::misc::{ReadExt, WriteExt};
 use picky_asn1_der::{
-    Alternatives, Asn1RawDer, Choice, Deserialize, DeserializeMembers, Deserializer, List, NoneOf,
-    OneOf, Result, Serialize, SerializeMembers, Serializer, Struct, deserialize_struct_as,
+    Alternatives, Choice, Deserialize, DeserializeMembers, Deserializer, List, NoneOf, OneOf,
+    Result, Serialize, SerializeMembers, Serializer, Struct, deserialize_struct_as,
 };
 
 /// A distinguished name (RFC 5280, 4.1.2.4). `Name` of PKIX1Explicit88, as a CHOICE.
@@ -204,4 +205,4 @@ impl Inhabited for AttributeTypeAndValue {
 pub type AttributeType = ObjectIdentifier;
 
 /// An element of any type. `AttributeValue` of PKIX1Explicit88: `ANY`.
-pub type AttributeValue = Asn1RawDer;
+pub type AttributeValue = AnyElement;

@@ -22,6 +22,7 @@ ghost use Rattle.der_x509.specs.Enumerations.{is_default_version_v1, is_version,
 ghost use Rattle.der_x509.specs.Enumerations.{version_v1_by_tree};
 
 use crate::{Extensions, Name};
+use der_elements::AnyElement;
 use der_types::{
     BitString, Contents, Exact, ExactAlternatives, ExactContents, ExactDefault, ExactMembers,
     GeneralizedTime, Integer, Notated, NotatedAlternatives, NotatedDefault, NotatedMembers,
@@ -38,8 +39,8 @@ use picky_asn1_der::de::{
 use picky_asn1_der::misc::{ReadExt, WriteExt};
 use picky_asn1_der::ser::{DefaultOf, Defaulted, DefaultedRef, Optional, OptionalRef};
 use picky_asn1_der::{
-    Alternatives, Asn1RawDer, Choice, Deserialize, DeserializeMembers, Deserializer, List, NoneOf,
-    OneOf, Result, Serialize, SerializeMembers, Serializer, Struct, deserialize_struct_as,
+    Alternatives, Choice, Deserialize, DeserializeMembers, Deserializer, List, NoneOf, OneOf,
+    Result, Serialize, SerializeMembers, Serializer, Struct, deserialize_struct_as,
 };
 
 /// A certificate (RFC 5280, 4.1). `Certificate` of PKIX1Explicit88, as a SEQUENCE.
@@ -761,10 +762,10 @@ pub struct AlgorithmIdentifier {
     /// Which algorithm it is. `OBJECT IDENTIFIER`.
     pub algorithm: ObjectIdentifier,
     /// The parameters, as one element of any type. `ANY DEFINED BY algorithm OPTIONAL`.
-    pub parameters: Option<Asn1RawDer>,
+    pub parameters: Option<AnyElement>,
 }
 
-type AlgorithmIdentifierParts = (ObjectIdentifier, Optional<Asn1RawDer>, ());
+type AlgorithmIdentifierParts = (ObjectIdentifier, Optional<AnyElement>, ());
 
 impl Struct for AlgorithmIdentifier {
     type Members = AlgorithmIdentifierParts;

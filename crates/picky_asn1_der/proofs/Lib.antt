@@ -1,6 +1,6 @@
 mod AddedReads
-mod LaterReads
-mod LaterWrites
+pub mod LaterReads
+pub mod LaterWrites
 pub mod RawTags
 mod ListContents
 mod RoundTrips

@@ -13,7 +13,8 @@ abbrev pub in_both_forms : List ℕ → List ℕ
 in_both_forms [] = []
 in_both_forms (b ∷ bs) = b ∷ (other_form b ∷ in_both_forms bs)
 
--- ---- automatic tags: context tags whose numbers ascend from member to member (X.680, 25.7)
+-- ---- automatic tags: context tags whose numbers ascend from member to member (X.680, 25.7), where the extension marker
+-- is at the end. After known members behind it, numbers of later ones would come before theirs.
 
 -- the bytes of the context tags below this number
 abbrev pub numbered_below : ℕ → List ℕ

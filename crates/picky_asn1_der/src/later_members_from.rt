@@ -19,9 +19,10 @@ use std::alloc::Global;
 /// The members that are left after the members of a struct, as elements: the members of a later version of an
 /// extensible SEQUENCE (X.680, 25.1) whose tags are automatic, in their order. They are the last member of the struct.
 ///
-/// Automatic tags are context tags whose numbers ascend from 0 on in the order of the text (25.7), and later versions
-/// number their members after all others. So `N` is the number of members that are known. The first element has a
-/// context tag with the number `N` or a greater one, and each other a greater number than the one before it.
+/// The extension marker is at the end of the type: no known member comes after it. Automatic tags are context tags
+/// whose numbers ascend from 0 on in the order of the text then (25.7), and later versions number their members after
+/// all others. So `N` is the number of members that are known. The first element has a context tag with the number `N`
+/// or a greater one, and each other a greater number than the one before it.
 #[derive(Debug, Drop, PartialEq, Eq)]
 pub struct LaterMembersFrom<const N: u8> {
     /// The elements, each with its header.

@@ -28,7 +28,7 @@ use Rattle.picky_der_de.proofs.MemberReads.{order_after, no_members_in_order, no
 use Rattle.picky_der_de.proofs.MemberReads.{list_refused, list_unopened, list_reads, none_left}
 use Rattle.picky_der_core.specs.Reading.{IsAtFront}
 use Rattle.picky_der_ser.specs.Meaning.{list_meaning, array_meaning}
-use Rattle.picky_der_de.specs.ArrayLaws.{times, array_of, array_meaning-list, array_meaning-readable}
+use Rattle.picky_der_de.specs.ArrayLaws.{times, array_of, array_meaning-readable}
 
 -- ---- one member more after others
 

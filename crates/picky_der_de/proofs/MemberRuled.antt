@@ -1,26 +1,22 @@
 -- Members of lists are refused by their rules.
-use Rattle.std.proofs.Common.{◌≡◌, ℕ, ◌+◌, ◌<◌, ◌≤◌, Bool, true, false, List, [], ◌∷◌, ◌++◌, length, map, Option, Some}
+use Rattle.std.proofs.Common.{◌≡◌, ℕ, ◌+◌, ◌<◌, Bool, true, false, List, [], ◌∷◌, ◌++◌, length, map, Option, Some}
 use Rattle.std.proofs.Common.{None}
 use Rattle.std.proofs.Common.{IfSome, IfNone, refl, sym, ◌∙◌, ap, subst, arith, append_assoc, length-append, true≢false}
 use Rattle.std.proofs.Common.{append-nil}
-use Rattle.std.specs.Prelude.{IsTrue, option_map}
+use Rattle.std.specs.Prelude.{option_map}
 use Rattle.picky_der_core.specs.Element.{IsPrefix}
 use Rattle.picky_der_core.specs.declared.error.Asn1DerError.{Asn1DerError}
 use Rattle.picky_der_core.specs.declared.error.Asn1DerError.TheVariants.{InvalidData, OutOfMemory}
 use Rattle.picky_der_core.specs.Failure.{IsAnswer}
 use Rattle.picky_der_core.specs.Tree.{ListKind, Tree, Trees, trees}
-use Rattle.picky_der_core.specs.Encoding.{der, encodings, list_tag}
-use Rattle.picky_der_core.specs.EncodingLaws.{length-der}
+use Rattle.picky_der_core.specs.Encoding.{der, list_tag}
 use Rattle.picky_der_core.specs.Readable.{IsInOrder}
-use Rattle.picky_der_core.specs.Reading.{written_at}
-use Rattle.picky_der_core.specs.Shape.{Shape, IsFirst}
+use Rattle.picky_der_core.specs.Shape.{Shape}
 use Rattle.picky_der_de.specs.State.{OpenSets, State}
-use Rattle.picky_der_de.specs.Steps.{Consumed, Fails, IsJudged, failed_with, is_hard, place_of}
+use Rattle.picky_der_de.specs.Steps.{Consumed, IsJudged, is_hard}
 use Rattle.picky_der_de.specs.Order.{is_out_of_order, with_last, AreInOrder, without_order, RefusesTest, out_of_order}
 use Rattle.picky_der_de.specs.Order.{without_memory, is_less_than}
-use Rattle.picky_der_de.specs.Refusing.{FailsAs}
-use Rattle.picky_der_de.specs.Reading.{Reads}
-use Rattle.picky_der_de.specs.LookAhead.{Peeks, Identifies, IdentifiesIn, RefusesIdentifier, identifier_refusal}
+use Rattle.picky_der_de.specs.LookAhead.{Peeks, Identifies, RefusesIdentifier, identifier_refusal}
 use Rattle.picky_der_de.specs.LookAhead.{identifier_refusal_in}
 use Rattle.picky_der_de.specs.Ends.{EnclosingEnd, RefusesClose, OpensList, RefusesList}
 use Rattle.picky_der_ser.specs.Sequences.{IsListTag, list_kind}
@@ -31,7 +27,7 @@ use Rattle.picky_der_de.specs.Layouts.{no_tag, no_member, RefusesDefault, as_opt
 use Rattle.picky_der_de.specs.LayoutLaws.{IsThere}
 use Rattle.picky_der_de.specs.RefusesBy.{Spot, Rule, spot_of, RefusesBy}
 use Rattle.picky_der_de.specs.PlainRules.{by_bytes}
-use Rattle.picky_der_de.specs.Rules.{IsNext, spot_before, soft_spot, AreNext, each_rule, at_member, after_member}
+use Rattle.picky_der_de.specs.Rules.{IsNext, spot_before, AreNext, each_rule, at_member, after_member}
 use Rattle.picky_der_de.specs.Rules.{RefusesEachBy, list_of_rule, field_rule, always_rule, at_field, after_field}
 use Rattle.picky_der_de.specs.Rules.{perhaps_rule, cut, there, is_default, after_there, at_end, absent, layout_rule}
 use Rattle.picky_der_de.specs.Rules.{missing, refused, next_byte_refusal, fields_rule, LeadsTo, RefusesBefore}
@@ -209,14 +205,15 @@ module _ {W : Type 0} (meaning : W → Tree) (left_out : W → Bool) (s : Shape)
 
   -- what follows a member that was read
   follows_by : (R : Rule) {b c d : State} {e : Asn1DerError} (w : W) → ReadsMember s b c (meaning w)
-      → ((bs rest left : List ℕ) → IsNext meaning s (spot_of b) bs c.until_end rest
+      → ((bs rest left : List ℕ) (there : IsNext meaning s (spot_of b) bs c.until_end rest) → there.value ≡ w
       → others (spot_before (is_hard b.end) c.until_end) rest e left → R (spot_of b) bs e left)
       → RefusesBy others c d e → RefusesBy R b d e
+  unfolding next_of member_is_next
   follows_by R {b} {c} {d} {e} w r lead by j bs left k l =
       let t = consumes_member r in
       let p = front_consumed b.input c.input (der (meaning w)) bs t.input k in
       let q = by (judged_after_any_order t j) p.0 left p.1 l in
-      lead bs p.0 left (member_is_next w r k p.1)
+      lead bs p.0 left (member_is_next w r k p.1) refl
       (subst (λ at. others at p.0 e left) (after_spot b c t (member_not_implicit r)) q)
 
   -- a member was read whose order isn't tested
@@ -245,7 +242,7 @@ module _ {W : Type 0} (meaning : W → Tree) (left_out : W → Bool) (s : Shape)
   always_next : {b c d : State} {e : Asn1DerError} (w : W) → ReadsMember s b c (meaning w) → RefusesBy others c d e
       → RefusesBy (always_rule meaning s member others) b d e
   always_next {c = c} w r by =
-      follows_by (always_rule meaning s member others) w r (λ bs rest left n h. after_field c.until_end rest n h) by
+      follows_by (always_rule meaning s member others) w r (λ bs rest left n is h. after_field c.until_end rest n h) by
 
   -- ---- one that may be missing
 
@@ -276,14 +273,15 @@ module _ {W : Type 0} (meaning : W → Tree) (left_out : W → Bool) (s : Shape)
       is_default mid.until_end (member_is_next w r k (sym (ap (λ (z : State). z.input) failed.1) ∙ l)) out error
 
   perhaps_next : {b c d : State} {e : Asn1DerError} (o : Option W) → b.implicit_tag ≡ None
-      → IfSome o (λ w. ReadsMember s b c (meaning w)) → IfNone o (Lacks s b c) → RefusesBy others c d e
+      → IfSome o (λ w. left_out w ≡ false) → IfSome o (λ w. ReadsMember s b c (meaning w)) → IfNone o (Lacks s b c)
+      → RefusesBy others c d e
       → RefusesBy (perhaps_rule meaning left_out s member others) b d e
-  perhaps_next {c = c} (Some w) whole r l by =
+  perhaps_next {c = c} (Some w) whole written r l by =
       follows_by (perhaps_rule meaning left_out s member others) w r
-      (λ bs rest left n h. after_there c.until_end rest n h) by
-  perhaps_next {b} {c} {d} {e} None whole r (no_more n) by = λ j bs left k l.
+      (λ bs rest left n is h. after_there c.until_end rest n (ap left_out is ∙ written) h) by
+  perhaps_next {b} {c} {d} {e} None whole written r (no_more n) by = λ j bs left k l.
       at_end n.reached (subst (λ z. RefusesBy others z d e) n.same by j bs left k l)
-  perhaps_next None whole r (begins_otherwise tag i other) by =
+  perhaps_next None whole written r (begins_otherwise tag i other) by =
       let p = as_look whole i in
       looked_by others (perhaps_rule meaning left_out s member others) p
       (λ bs rest left is h. absent p.ahead tag rest is other h) by
@@ -300,11 +298,12 @@ module _ {W : Type 0} (meaning : W → Tree) (left_out : W → Bool) (s : Shape)
     layout_head_by perhaps h = perhaps_head meaning left_out s member others none whole h
 
     pub layout_next_by : {c d : State} {e : Asn1DerError} (presence : Presence) (o : Option W) → IsThere presence o
-        → IfSome o (λ w. ReadsMember s b c (meaning w)) → IfNone o (Lacks s b c) → RefusesBy others c d e
-        → RefusesBy (layout_rule presence meaning left_out s member others) b d e
-    layout_next_by always None t r l by = absurd t
-    layout_next_by always (Some w) t r l by = always_next meaning left_out s member others w r by
-    layout_next_by perhaps o t r l by = perhaps_next meaning left_out s member others o whole r l by
+        → IfSome o (λ w. left_out w ≡ false) → IfSome o (λ w. ReadsMember s b c (meaning w)) → IfNone o (Lacks s b c)
+        → RefusesBy others c d e → RefusesBy (layout_rule presence meaning left_out s member others) b d e
+    layout_next_by always None t written r l by = absurd t
+    layout_next_by always (Some w) t written r l by = always_next meaning left_out s member others w r by
+    layout_next_by perhaps o t written r l by =
+        perhaps_next meaning left_out s member others o whole written r l by
 
 -- nor is an order tested after it
 pub still_none : {W : Type 0} (meaning : W → Tree) (s : Shape) (b c : State) → b.sets.last ≡ None

@@ -161,7 +161,7 @@ pub data perhaps_rule {V : Type 0} (meaning : V → Tree) (left_out : V → Bool
       → perhaps_rule meaning left_out s member others at bs e left
   is_default : (after : ℕ) (there : IsNext meaning s at bs after left) → IsTrue (left_out there.value)
       → e ≡ InvalidData → perhaps_rule meaning left_out s member others at bs e left
-  after_there : (after : ℕ) (rest : List ℕ) → IsNext meaning s at bs after rest
+  after_there : (after : ℕ) (rest : List ℕ) (there : IsNext meaning s at bs after rest) → left_out there.value ≡ false
       → others (spot_before at.hard after) rest e left → perhaps_rule meaning left_out s member others at bs e left
   at_end : at.ahead ≡ 0 → others at bs e left → perhaps_rule meaning left_out s member others at bs e left
   absent : 0 < at.ahead → (b : ℕ) (rest : List ℕ) → bs ≡ b ∷ rest → (IsFirst s b → ⊥) → others at bs e left

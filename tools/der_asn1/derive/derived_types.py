@@ -22,7 +22,7 @@ _REFUSED = {"f32": "no number of ASN.1", "f64": "no number of ASN.1", "str": "no
 _TYPE_NOTES = ("skip", "set", "added", "integer", "notated", "exact", "faithful", "test")
 _FIELD_NOTES = ("element", "default")
 # the types of a last field that has no member of its own, but further ones
-_LAST = ("Added", "LaterMembers", "LaterMembersFrom")
+_LAST = ("Added", "LaterElements", "LaterElementsFrom", "LaterMembers", "LaterMembersFrom")
 
 
 @dataclass

@@ -1,18 +1,25 @@
 """The file of constructors: for each struct `new`, a `with_` for each member that `new` leaves out, and an `_or_default` for numbers.
+For each choice there is one of each alternative under tags.
 
 Each has a clause that says what all members of its value are, so that the check proves it by computing.
 """
 from dataclasses import dataclass
-from typing import Mapping, Optional
+from typing import Mapping, Optional, Union
 
-from ..meaning.declarations import EnumDeclaration, Field, StructDeclaration
-from ..meaning.inside import NUMBER, Types, constraints, excluded, without_tags
+from ..meaning.declarations import ChoiceDeclaration, EnumDeclaration, Field, StructDeclaration
+from ..meaning.inside import NUMBER, Tagged, Types, constraints, excluded, without_tags
+from ..meaning.named import plain_type
+from ..meaning.rust_types import RustType
+from ..meaning.wording import snake
 from ..parse.tree import Presence
 from .imports import PRELUDE, Uses
 from .layout import GHOST_WIDTH, STEP, STRUCT_LITERAL_WIDTH, WIDTH, comment, type_lines
 
 _TWO, _THREE = STEP * 2, STEP * 3
 _FIXED = {"True": "true", "False": "false"}
+# the types that have constructors
+Made = Union[StructDeclaration, ChoiceDeclaration]
+
 
 @dataclass(frozen=True)
 class Value:
@@ -56,22 +63,31 @@ class Function:
     uses: Uses
 
 
-def constructor_file(structs: list[StructDeclaration], homes: Mapping[str, str], types: Types) -> list[str]:
+def is_made(declared: object) -> bool:
+    """Whether a type has constructors."""
+    if isinstance(declared, ChoiceDeclaration):
+        return any(without_tags(it.type).tags for it in declared.variants)
+    return isinstance(declared, StructDeclaration)
+
+
+def constructor_file(made: list[Made], homes: Mapping[str, str], types: Types) -> list[str]:
     """The lines of the file, after its first one."""
     uses, body = Uses(), []
-    for it in structs:
+    for it in made:
         functions = functions_of(it, types)
         for function in functions:
             uses.add(function.uses)
         uses.names.add(it.name)
         inner = [line for number, function in enumerate(functions) for line in (*([""] if number else []), *function.lines)]
         body += ["", f"impl {it.name} {{", *inner, "}"]
-    lines = ["//! Constructors of structs, and numbers that have a default."]
+    lines = ["//! Constructors of structs and choices, and numbers that have a default."]
     return [*lines, *uses.term_lines(), "", *uses.rust_lines(dict(homes), set()), *body]
 
 
-def functions_of(declared: StructDeclaration, types: Types) -> list[Function]:
-    """The functions of a struct."""
+def functions_of(declared: Made, types: Types) -> list[Function]:
+    """The functions of a type."""
+    if isinstance(declared, ChoiceDeclaration):
+        return [alternative_function(declared, it) for it in declared.variants if without_tags(it.type).tags]
     found = [new_function(declared, types)]
     for it in declared.fields:
         if left_out(it, types):
@@ -130,35 +146,68 @@ def with_function(declared: StructDeclaration, it: Field) -> Function:
     return Function(lines, Uses({*tagged.tags, *tagged.inner.names()}, terms={PRELUDE: {"◌≡◌"}}))
 
 
+def alternative_function(declared: ChoiceDeclaration, it: Field) -> Function:
+    """An alternative, whose parameter is without its tags."""
+    tagged, name = without_tags(it.type), snake(it.name)
+    lines = comment(STEP, "///", f"Returns the alternative `{it.name}` with this value.")
+    lines += head(name, [(name, tagged.inner)], declared.name)
+    before, after = f"{_TWO}ensures {{ result", f"≡ {declared.name}.{it.name} ({tagged.term(name)}) }}"
+    lines += [f"{before} {after}"] if len(f"{before} {after}") <= GHOST_WIDTH else [before, f"{_THREE}{after}"]
+    lines += body([f"{_TWO}{declared.name}::{it.name}({tagged.value(name)})"])
+    return Function(lines, Uses({*tagged.tags, *tagged.inner.names()}, terms={PRELUDE: {"◌≡◌"}}))
+
+
 def default_function(it: Field, types: Types) -> Optional[Function]:
-    """The number of a member of which `None` is the default, if it is a number of a type of Rust."""
+    """The number of a member of which `None` is the default, if it is a number of a type of Rust, or else of a plain INTEGER."""
     tagged = without_tags(it.type, types)
     around, number = constraints(tagged.inner, types)
+    if around and number.name == "Integer":
+        return plain_default_function(it, tagged, around)
     if not around or not NUMBER.fullmatch(number.name):
         return None
     default = number_value(excluded(around[0]), number.name[0] == "i")
     inside = ".0" * len(tagged.tags)
+    wanted = "result" if number.name[0] == "i" else "pos result"
     lines = comment(STEP, "///", f"Returns the number of `{it.name}`, which is {default.text} if it is absent.")
     lines += head(f"{it.name}_or_default", ["&self"], number.name)
     lines += [
         f"{_TWO}ensures default {{ self.now.{it.name} ≡ None → result ≡ {default.term} }}",
-        *some_clause(it.name, f"⟦<{tagged.inner} as WholeNumber>⟧.number it{inside}", "result" if number.name[0] == "i" else "pos result"),
-        f"{STEP}{{",
-        f"{_TWO}match &self.{it.name} {{",
-        f"{_THREE}Some({it.name}) => *{it.name}{inside}{'.get()' * len(around)},",
-        f"{_THREE}None => {default.text},",
-        f"{_TWO}}}",
-        f"{STEP}}}",
+        *some_clause("some", it.name, f"⟦<{tagged.inner} as WholeNumber>⟧.number it{inside}", f"≡ {wanted}) }}"),
+        *default_body(it.name, f"*{it.name}{inside}{'.get()' * len(around)}", default.text),
     ]
     terms = {"◌≡◌", "IfSome", *default.terms, *([] if number.name[0] == "i" else ["pos"])}
     return Function(lines, Uses({"WholeNumber", *tagged.inner.names()}, terms={PRELUDE: terms}))
 
 
-def some_clause(name: str, number: str, wanted: str) -> list[str]:
-    """The clause of a number that is there, which is what a term of an integer says."""
-    before, after = f"{_TWO}ensures some {{ IfSome self.now.{name} (λ it. {number}", f"≡ {wanted}) }}"
-    line = f"{before} {after}"
-    return [line] if len(line) <= GHOST_WIDTH else [before, f"{_THREE}{after}"]
+def plain_default_function(it: Field, tagged: Tagged, around: list[RustType]) -> Function:
+    """The same of a plain INTEGER, as far as its number is one of 64 bits, or of 128 if the default has more."""
+    number = excluded(around[0])
+    rust, default = plain_type([number]), number_value(number, True)
+    inside = ".0" * len(tagged.tags)
+    there = f"⟦<{tagged.inner} as WholeNumber>⟧.number it{inside}"
+    about = f"Returns the number of `{it.name}`, which is {default.text} if it is absent, or `None` if an `{rust}` can't be it."
+    lines = comment(STEP, "///", about)
+    lines += head(f"{it.name}_or_default", ["&self"], f"Option<{rust}>")
+    lines += [
+        f"{_TWO}ensures default {{ self.now.{it.name} ≡ None → result ≡ Some ({default.term}) }}",
+        *some_clause("some", it.name, "IfSome result", f"(λ number. {there} ≡ number)) }}"),
+        *some_clause("beyond", it.name, "IfNone result", f"(fits_signed {rust[1:]} ({there}) ≡ false)) }}"),
+        *default_body(it.name, f"{it.name}{inside}{'.get()' * len(around)}.to_int()", f"Some({default.text})"),
+    ]
+    terms = {PRELUDE: {"◌≡◌", "IfNone", "IfSome", "None", "Some", "false", *default.terms}, "Rattle.picky_der_core.specs.Integer": {"fits_signed"}}
+    return Function(lines, Uses({"WholeNumber", *tagged.inner.names()}, terms=terms))
+
+
+def some_clause(label: str, name: str, before: str, after: str) -> list[str]:
+    """A clause of a member that is there, on two lines if one is too long."""
+    first = f"{_TWO}ensures {label} {{ IfSome self.now.{name} (λ it. {before}"
+    line = f"{first} {after}"
+    return [line] if len(line) <= GHOST_WIDTH else [first, f"{_THREE}{after}"]
+
+
+def default_body(name: str, there: str, absent: str) -> list[str]:
+    """The body that returns one of these, as the member is there or absent."""
+    return body([f"{_TWO}match &self.{name} {{", f"{_THREE}Some({name}) => {there},", f"{_THREE}None => {absent},", f"{_TWO}}}"])
 
 
 def head(name: str, parameters: list, result: str) -> list[str]:

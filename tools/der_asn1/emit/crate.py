@@ -5,13 +5,13 @@ from typing import Iterable
 
 from ..meaning.causes import Allowed, Cause
 from ..meaning.declarations import AliasDeclaration, ChoiceDeclaration, Declaration, Declarations, EnumDeclaration, ListedDeclaration
-from ..meaning.declarations import SetDeclaration, StructDeclaration, UnionDeclaration
+from ..meaning.declarations import SetDeclaration, UnionDeclaration
 from ..meaning.library_table import LIBRARY_NAMES
 from ..meaning.named import Constant, Names
 from ..meaning.terms import names_of
 from ..parse import tree
 from .choice import answers_path, serialize_answers
-from .constructors import constructor_file
+from .constructors import Made, constructor_file, is_made
 from .enum import TERMS_FILE, terms_file
 from .folder import NOTE
 from .imports import MOST_GROUPED
@@ -40,6 +40,7 @@ class Crate:
     root exports. `own_terms` are those of `specs`. `causes` are why types aren't those of the notation, each with how many contain it.
     `constants` are the values that aren't object identifiers, `names` the names of bits, numbers and items, and `constructed` says for which
     types there are constructors.
+    `derives` are the traits that all types derive, besides those that each has.
     """
 
     name: str
@@ -54,6 +55,7 @@ class Crate:
     constants: list[Constant] = field(default_factory=list)
     names: list[Names] = field(default_factory=list)
     constructed: Allowed = field(default_factory=Allowed)
+    derives: list[str] = field(default_factory=list)
 
     def files(self) -> dict[str, str]:
         """The text of each file, by its path in the crate."""
@@ -65,16 +67,16 @@ class Crate:
             found["src/values.rt"] = self.file("//!", value_file(self.values, self.constants), modules)
         if self.names:
             found["src/named.rt"] = self.file("//!", named_file(self.names), {it.module for it in self.names})
-        structs = self.with_constructors()
-        if structs:
-            lines = constructor_file(structs, self.homes(), self.types)
-            found["src/constructors.rt"] = self.file("//!", lines, {it.module for it in structs})
+        made = self.with_constructors()
+        if made:
+            lines = constructor_file(made, self.homes(), self.types)
+            found["src/constructors.rt"] = self.file("//!", lines, {it.module for it in made})
         return dict(sorted(found.items()))
 
-    def with_constructors(self) -> list[StructDeclaration]:
-        """The structs that have constructors, in the order of the files."""
+    def with_constructors(self) -> list[Made]:
+        """The types that have constructors, in the order of the files."""
         types = [it for found in self.types_by_stem().values() for it in found]
-        return [it for it in types if isinstance(it, StructDeclaration) and self.constructed.has_name(it.root)]
+        return [it for it in types if is_made(it) and self.constructed.has_name(it.root)]
 
     def type_files(self) -> dict[str, str]:
         """The files of types, and the proofs of choices."""
@@ -124,7 +126,7 @@ class Crate:
     def context(self) -> Context:
         """What the files of types depend on."""
         fields = {part.name for it in self.types.values() if not isinstance(it, (AliasDeclaration, SetDeclaration)) for part in it.parts()}
-        return Context(self.name, self.homes(), PrivateNames([*self.homes(), *LIBRARY_NAMES, *fields]), self.types)
+        return Context(self.name, self.homes(), PrivateNames([*self.homes(), *LIBRARY_NAMES, *fields]), self.types, tuple(self.derives))
 
     def homes(self) -> dict[str, str]:
         """The crate of each type, by its name, and of the defaults of enumerations: `crate` for this one."""

@@ -121,7 +121,7 @@ def order(home: str, names: list[str]) -> tuple[int, object]:
     """Where the import of a module comes. A single type of the root comes before the modules of the crate, and several after them."""
     if home.partition("::")[0] in ("super", "crate"):
         return 0, (home.startswith("crate"), home)
-    if home not in _ORDER or home == "der_types":
+    if home not in _ORDER or home in ("der_elements", "der_types"):
         return (1 if home < _ROOT_PATH else 4), home
     is_single_type = home == _ROOT_PATH and len(names) == 1 and names[0][0].isupper()
     return (2, home) if is_single_type else (3, _ORDER.index(home))

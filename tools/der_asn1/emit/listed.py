@@ -15,7 +15,7 @@ from .values import value_lines
 LISTED_FILE = "Listed"
 _TWO = STEP * 2
 _TRUTH, _RAW = "tree_truth", "raw_bytes"
-_PRELUDE_ORDER = ["ℕ", "Bool", "false", "not", "◌||◌", "nat_eq", "List", "[]", "◌∷◌"]
+_PRELUDE_ORDER = ["ℕ", "Bool", "false", "not", "◌||◌", "nat_eq", "nat_le", "List", "[]", "◌∷◌", "length"]
 _TERMS_WIDTH = 120
 
 
@@ -131,8 +131,9 @@ def function(declared: ListedDeclaration) -> list[str]:
     given = declared.type if is_boolean(declared) else f"&{declared.type}"
     now = PART if is_boolean(declared) else f"{PART}.now"
     clause = f"{declared.function} {access_of(declared).clause.replace(PART, now, 1)}"
+    what = "another value" if declared.contents.is_other else "a listed value"
     return [
-        f"// Whether it is {'another value' if declared.contents.is_other else 'a listed value'}.",
+        f"// Whether it is {what if declared.most is None else 'one of so few bits'}.",
         *head("", f"fn {declared.function}", [f"{PART}: {given}"], "bool"),
         f"{STEP}ensures {{ result ≡ {clause} }}",
         "{",
@@ -145,6 +146,8 @@ def test(declared: ListedDeclaration) -> list[str]:
     """The test in code."""
     if is_boolean(declared):
         return [f"{STEP}{PART}" if is_true(declared) else f"{STEP}!{PART}"]
+    if declared.most is not None:
+        return [f"{STEP}{PART}.len() <= {declared.most}"]
     if is_element(declared):
         (known_bytes,) = constants(declared)
         return [
@@ -191,6 +194,8 @@ def listed_terms(types: list[ListedDeclaration]) -> list[str]:
     lines = ["-- The contents of listed values, which their contracts cite.", f"use {PRELUDE}.{{{', '.join(names)}}}"]
     if "pointwise" in used:
         lines.append("use Rattle.std.specs.Cmp.Lexicographic.{pointwise}")
+    if "bits_of" in used:
+        lines.append("use Rattle.der_types.specs.BitString.{bits_of}")
     if "begins_outside" in used:
         lines.append("use Rattle.picky_der_core.specs.Shape.{begins_outside}")
     lines += ["use Rattle.picky_der_core.specs.Primitive.{Primitive}"] if truth else []
@@ -209,6 +214,8 @@ def terms_of(declared: ListedDeclaration) -> list[str]:
     lines = [*comment("", "--", f"{declared.source} of {declared.module}: {declared.notation}"), f"abbrev pub {name} : {kind} → Bool"]
     if is_boolean(declared):
         return [*lines, f"{name} b = {'b' if is_true(declared) else 'not b'}"]
+    if declared.most is not None:
+        return [*lines, f"{name} s = nat_le (length (bits_of s)) {declared.most}"]
     if is_element(declared):
         parts, before, after = [f"begins_outside ({' ∷ '.join([*(f'0x{byte:02X}' for byte in contents(declared)[0]), '[]'])}) s"], "", ""
         whole = f"{name} s = {parts[0]}"

@@ -140,6 +140,8 @@ class _Printer:
         word, given = term.word, term.arguments
         if word in ("one-of", "encoded"):
             return "ANY (CONSTRAINED BY {})"
+        if word == "any-element":
+            return "ANY"
         if word in ("wider", "narrower"):
             return f"{self.type(given[0])} (CONSTRAINED BY {{}})"
         if word in _CLASSES:

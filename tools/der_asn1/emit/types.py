@@ -9,6 +9,7 @@ from .added import added_lines, added_uses
 from .character_set import set_lines, set_uses
 from .choice import choice_lines, choice_uses
 from .comments import difference_note, sentence
+from .derives import with_derives
 from .enum import TERMS_FILE, enum_lines, enum_uses
 from .faithful import faithful_default_impl, faithful_default_uses, faithful_impl, faithful_uses, inhabited_impl, inhabited_uses
 from .imports import Uses
@@ -25,12 +26,14 @@ ONLY = "types"
 
 @dataclass(frozen=True)
 class Context:
-    """What the lines of a file depend on: the crate, the crates of types that are named, the names of what is private, and the crate's types."""
+    """What the lines of a file depend on: the crate, the crates of types that are named, the names of what is private, the crate's types, and
+    the traits that all types derive, too."""
 
     crate: str
     homes: dict[str, str]
     names: PrivateNames
     types: dict[str, Declaration] = field(default_factory=dict)
+    derives: tuple[str, ...] = ()
 
 
 def stems_of(types: list[Declaration], groups: dict[str, list[str]], taken: frozenset[str]) -> dict[str, str]:
@@ -55,7 +58,7 @@ def types_file(types: list[Declaration], stem: str, context: Context) -> list[st
     uses, body = Uses(), []
     for it in types:
         uses.add(uses_of(it, context))
-        body += ["", *lines_of(it, stem, context)]
+        body += ["", *with_derives(lines_of(it, stem, context), context.derives)]
         for more, lines in promises(it, stem, context):
             uses.add(more)
             body += ["", *lines]

@@ -225,13 +225,14 @@ class TestedDeclaration(NewtypeDeclaration):
 
 @dataclass
 class ListedDeclaration(TestedDeclaration):
-    """A struct round those values of another type that have listed contents, or others."""
+    """A struct round those values of another type that have listed contents, or others. `most` is the most bits that one with names has."""
 
     contents: Contents = ANY_CONTENT
+    most: Optional[int] = None
 
     def parts(self) -> object:
         """The type inside, and which contents its values have."""
-        return self.type, self.contents
+        return self.type, self.contents, self.most
 
 
 @dataclass
@@ -263,9 +264,18 @@ class Declarations:
     def __init__(self, others: Optional[OtherCrates] = None) -> None:
         self.by_name, self.by_place, self.keys = {}, {}, {}
         self.renamed = {}  # the name that was wanted, by the one that a type has in its place
+        self.assigned: dict[str, set[tuple]] = {}  # the assignments that each name is of, without regard to case: no part or instance has it
         self.others, self.elsewhere = others or OtherCrates(), {}  # the path of a type of another crate, by its name here
         for path in self.others.used:
             self.keys[self.others.shown(path).lower()] = path
+
+    def assign(self, name: str, plain: tuple) -> None:
+        """Keeps the name of an assignment for it."""
+        self.assigned.setdefault(camel(name).lower(), set()).add(plain)
+
+    def is_others(self, name: str, key: tuple) -> bool:
+        """Whether a name is that of assignments, and what has this key is none of them."""
+        return key[0] not in self.assigned.get(name.lower(), {key[0]})
 
     def fresh(self, wanted: str, key: tuple, module: str) -> str:
         """A name for what has this key and is of this module: the one that is wanted, with a number after it if another type has that."""
@@ -284,7 +294,7 @@ class Declarations:
     def numbered(self, first: str, key: tuple) -> str:
         """This name, or with a number after it if what has another key is called so."""
         name, number, between = first, 1, "No" if first[-1].isdigit() else ""
-        while self.keys.setdefault(name.lower(), key) != key:
+        while self.is_others(name, key) or self.keys.setdefault(name.lower(), key) != key:
             number += 1
             name = f"{first}{between}{number}"
         return name

@@ -8,7 +8,7 @@ from ..parse.cursor import shown, split
 from ..parse.source import NotationError
 from ..parse.tokens import Kind, Token
 from ..parse.types import TypeParser
-from .members import ResolvedMember, is_extensible, members_of
+from .members import ResolvedMember, is_automatic, is_extensible, members_of
 from .scopes import Program, Scope
 from .subtypes import ScopedConstraint
 
@@ -144,9 +144,16 @@ def _structure(
             continue
         part = _part(it, said)
         left.append(replace(part, presence=tree.Presence.REQUIRED, group=None) if presence == "PRESENT" else part)
-    if is_extensible(type_, scope):
+    if is_extensible(type_, scope) and not (is_partial and _keeps_additions(type_, scope, said)):
         return None
     return replace(type_, members=left)
+
+
+def _keeps_additions(type_: tree.StructureType, scope: Scope, said: dict[str, Specification]) -> bool:
+    """Whether what is said of members leaves their tags, and so those of the members of later versions, as they are."""
+    of_root = {it.name for it in type_.members if isinstance(it, tree.Member) and it.group is None}
+    kept = [it.presence in ("", "OPTIONAL") or it.presence == "PRESENT" and name in of_root for name, it in said.items()]
+    return all(kept) and not is_automatic(type_, scope)
 
 
 def _part(it: ResolvedMember, said: dict[str, Specification]) -> tree.Member:

@@ -40,7 +40,7 @@ class Core(Enum):
     LIST = auto()  # with `List`
     SET = auto()  # Asn1Set
     CHOICE = auto()
-    ELEMENT = auto()  # Asn1RawDer: any element
+    ELEMENT = auto()  # AnyElement or Asn1RawDer: any element
     EXPLICIT = auto()
     APPLICATION = auto()
     IMPLICIT = auto()
@@ -96,8 +96,13 @@ def without_values(tag: int) -> Rust:
 
 
 def any_element() -> Rust:
-    """Any element, as it is."""
-    return Rust(of("Asn1RawDer"), Core.ELEMENT, ANY_FIRST, is_open=True, term=Term("ANY"))
+    """Any element, as it is: nothing in it is looked at."""
+    return Rust(of("Asn1RawDer"), Core.ELEMENT, ANY_FIRST, is_open=True, term=Term("any-element"))
+
+
+def well_formed_element() -> Rust:
+    """Any element that has elements in it at every depth, as each value of an open type is."""
+    return Rust(of("AnyElement"), Core.ELEMENT, ANY_FIRST, is_open=True, term=Term("ANY"))
 
 
 def context_tag(mode: str, inner: RustType, number: int) -> RustType:

@@ -11,7 +11,7 @@ from ..parse.built_in import ROWS
 from .features import Feature, Note
 from .library import Core
 
-_ROOT, _ASN1, _TYPES = "picky_asn1_der", "picky_asn1_der::asn1", "der_types"
+_ROOT, _ASN1, _TYPES, _ELEMENTS = "picky_asn1_der", "picky_asn1_der::asn1", "der_types", "der_elements"
 
 
 @dataclass(frozen=True)
@@ -67,6 +67,7 @@ UNIVERSAL_TAGS = {it.name: it.tag for it in TYPES}
 _NAMES = {
     _TYPES: """Ascii Asn1Set AtLeast AtMost CharacterSet Constrained Contents Encoded Exact ExactAlternatives ExactContents ExactDefault ExactMembers InRange Minus NamedBits Notated NotatedAlternatives NotatedDefault NotatedMembers NotatedSet OtherThan Outside Plus
         ImplicitPrimitive ImplicitSet RestrictedString TagOrdered Unicode WholeNumber Width WithSize deserialize_constrained_as deserialize_contents_as""",
+    _ELEMENTS: "AnyElement LaterElements LaterElementsFrom",
     "picky_asn1_der::application_tag": "ApplicationTag",
     _ASN1: """Asn1SequenceOf Asn1SetOf BitStringAsn1Container ExplicitContextTag ImplicitContextTag OctetStringAsn1Container ImplicitList
         TaggedBytes Tag""",
@@ -90,11 +91,11 @@ LIBRARY_NAMES = frozenset(_HOMES)
 # the other terms of der_types, by the file of its specs that has them
 _TERMS = {
     "ContentForms": "BIT-STRING-named",
-    "Notation": "Alternatives INTEGER-named ENUMERATED any-content content-under end none optional required",
+    "Notation": "Alternatives INTEGER-named ENUMERATED any-content any-element content-under end none optional required",
     "NotationForms": """ANY APPLICATION AUTOMATIC BIT-STRING-CONTAINING beyond-depth CHOICE CONTEXT EXPLICIT FALSE FROM IMPLICIT INTEGER-from-minus-to
         INTEGER-from-to INTEGER-in MAX Mode OCTET-STRING-CONTAINING PRIVATE SEQUENCE SEQUENCE-OF SET SET-OF SIZE TRUE UNIVERSAL added added-as-optional
-        default default-as-optional default-of wider from-on from-to later-alternatives-refused later-members later-members-automatic
-        later-members-refused minus number up-to ◌⨾◌ ◌∣◌""",
+        default default-as-optional default-of wider from-on from-to later-alternatives-refused later-elements
+        later-elements-automatic later-members later-members-automatic later-members-refused minus number up-to ◌⨾◌ ◌∣◌""",
 }
 _OWN_TERMS = {
     "ContentForms": [it.term for it in TYPES if it.is_checked],

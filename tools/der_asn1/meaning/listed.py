@@ -1,6 +1,6 @@
 """Single values as constraints (X.680, 51.2): a struct round those values of another type that have listed contents, or others."""
 from dataclasses import dataclass, replace
-from typing import TYPE_CHECKING
+from typing import TYPE_CHECKING, Optional
 
 from ..parse import tree
 from .contents import ANY_CONTENT, Contents
@@ -32,12 +32,15 @@ class Access:
 
 
 _BOOLEAN = Access(PART, PART)
+_CONTENT = Access(f"{PART}.content()", f"{PART}.content.items")
 _STRING = Access(f"{PART}.as_bytes()", f"{PART}.content.items")
 _ACCESSES = {
     "bool": _BOOLEAN,
     "Asn1RawDer": Access(f"{PART}.0.first()", f"{PART}.0.items"),
     "Encoded": Access(f"{PART}.encoding().0.as_slice()", f"{PART}.encoding.0.items"),
-    "ObjectIdentifier": Access(f"{PART}.content()", f"{PART}.content.items"),
+    "ObjectIdentifier": _CONTENT,
+    "BitString": _CONTENT,
+    "NamedBits": _CONTENT,
     "ByteBuf": Access(f"{PART}.0.as_slice()", f"{PART}.0.items"),
     "TaggedBytes": Access(f"{PART}.0.as_slice()", f"{PART}.0.items"),
     "String": Access(f"{PART}.as_bytes()", f"(string_bytes {PART})"),
@@ -82,11 +85,24 @@ def _fits(content: bytes, limits: Limits, rust: Rust) -> bool:
     return limits.size == NATURAL or any(low <= size <= high for low, high in limits.size.pairs)
 
 
-def declared_list(meanings: "Meanings", meaning: Meaning, type_: tree.Type, scope: Scope, hint: Hint, contents: Contents) -> Meaning:
-    """The type of the values with these contents, of a type that can have them."""
+def most_bits(meanings: "Meanings", meaning: Meaning, type_: tree.Type, scope: Scope, hint: Hint, most: int) -> Meaning:
+    """The type of bits with names of which none above this number of bits is one (X.680, 22.7; X.690, 11.2.2)."""
+    return declared_list(meanings, meaning, type_, scope, hint, ANY_CONTENT, most)
+
+
+def declared_list(
+    meanings: "Meanings",
+    meaning: Meaning,
+    type_: tree.Type,
+    scope: Scope,
+    hint: Hint,
+    contents: Contents,
+    most: Optional[int] = None,
+) -> Meaning:
+    """The type of the values with these contents, of a type that can have them, or of as many bits at most."""
     rust = meaning.rust
     found = meaning.noting(Note.WITHOUT_TERM)
-    declared = ListedDeclaration("", type_.place, scope.module.name, hint.text, type=rust.type, part=PART, contents=contents)
+    declared = ListedDeclaration("", type_.place, scope.module.name, hint.text, type=rust.type, part=PART, contents=contents, most=most)
     declared.notation, declared.ghost, declared.by_reference = type_.text, GHOST, rust.core is not Core.BOOL
     name = declare(meanings, declared, type_, scope, hint, found, "values")
     declared.function = f"is_{snake(name)}"

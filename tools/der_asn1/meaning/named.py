@@ -43,7 +43,10 @@ class Names:
 
 @dataclass(frozen=True)
 class Constant:
-    """A value that has a name: a number, a text, octets, TRUE or FALSE. `value` is it in Rust, and `notation` its type in the module."""
+    """A value that has a name: a number, a text, octets, TRUE or FALSE. `notation` is its type in the module.
+
+    `value` is the text or the octets, or else the value in Rust.
+    """
 
     name: str
     source: str
@@ -202,13 +205,13 @@ def constant_of(program: Program, assignment: tree.ValueAssignment, scope: Scope
 
 
 def simple_constant(name: str, value: tree.Value) -> Optional[tuple[str, Union[str, list[int]]]]:
-    """A value of a type of this name as a constant: its type and itself in Rust."""
+    """A value of a type of this name as a constant: its type, and itself as Constant has it."""
     if name == "BOOLEAN" and isinstance(value, tree.BooleanValue):
         return "bool", "true" if value.truth else "false"
     if name == "OCTET STRING" and isinstance(value, tree.BitsValue):
         return "&[u8]", octets(value)
     if _TEXTS.fullmatch(name) and isinstance(value, tree.TextValue):
-        return "&str", quoted(_LINE_END.sub("", value.text))
+        return "&str", _LINE_END.sub("", value.text)
     return None
 
 
@@ -217,8 +220,3 @@ def octets(value: tree.BitsValue) -> list[int]:
     bits = "".join(f"{int(it, 16):0{value.width}b}" for it in value.digits)
     bits += "0" * (-len(bits) % 8)
     return [int(bits[it : it + 8], 2) for it in range(0, len(bits), 8)]
-
-
-def quoted(text: str) -> str:
-    """A text as Rust has it."""
-    return '"' + "".join(f"\\{it}" if it in '\\"' else it if it.isprintable() else f"\\u{{{ord(it):X}}}" for it in text) + '"'

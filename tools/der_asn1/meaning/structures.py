@@ -9,7 +9,7 @@ from .contents import Contents, integer_content
 from .declarations import AddedDeclaration, ChoiceDeclaration, Declaration, EnumDeclaration, Field, Hint, Item, StructDeclaration
 from .features import Feature, Level, Note
 from .intervals import Intervals
-from .library import ANY_FIRST, DEFAULT_SIGNED, DEFAULT_UNSIGNED, MOST_MEMBERS, ONE_BYTE, Core, Rust, any_element, are_bounds, parts_type, tagged_bytes, written
+from .library import ANY_FIRST, DEFAULT_SIGNED, DEFAULT_UNSIGNED, MOST_MEMBERS, ONE_BYTE, Core, Rust, any_element, are_bounds, parts_type, tagged_bytes, well_formed_element, written
 from .library_table import UNIVERSAL_TAGS
 from .meaning import Meaning, lacks
 from .members import ResolvedMember, is_automatic, is_extensible, members_of
@@ -26,6 +26,8 @@ if TYPE_CHECKING:
 # the words of a term after the last member of an extensible type
 _OF_CHOICE = "X.680, 29.3"
 LATER, LATER_AUTOMATIC, NO_LATER = "later-members", "later-members-automatic", "later-members-refused"
+# the words where those members have elements in them at every depth
+_WELL_FORMED = {LATER: "later-elements", LATER_AUTOMATIC: "later-elements-automatic"}
 
 
 @dataclass(frozen=True)
@@ -80,7 +82,7 @@ def structure(meanings: "Meanings", type_: tree.StructureType, scope: Scope, hin
         meanings.program.problems.add(error.problem)
         return Meaning(tagged_bytes(first), Level.RAW).lacking(Feature.UNDEFINED)
     if not parts and last_word(type_, scope, parts) != LATER_AUTOMATIC:
-        return empty(type_, scope, first)
+        return empty(type_, scope, first, meanings.raw_any)
     if any(it.meaning.rust is None for it in parts):
         return _raw(tagged_bytes(first), parts)
     written = parts = settled(parts, type_.form, is_extensible(type_, scope), lambda it: of_part(hint, it))
@@ -99,7 +101,7 @@ def structure(meanings: "Meanings", type_: tree.StructureType, scope: Scope, hin
     defaults = {it.name: default_of(meanings, it, hint.part(it.name), it is parts[-1] and not is_open) for it in parts}
     parts, written = [[replace(it, default=defaults[it.name]) for it in found] for found in (parts, written)]
     found = declared_struct(meanings, type_, scope, hint, parts)
-    return found.called(structure_term(type_, written, end, (found.rust.inner or found.rust).text))
+    return found.called(structure_term(type_, written, end, (found.rust.inner or found.rust).text, meanings.raw_any))
 
 
 def included(meanings: "Meanings", type_: tree.StructureType, scope: Scope, hint: Hint) -> list[Part]:
@@ -131,7 +133,7 @@ def declared_struct(meanings: "Meanings", type_: tree.StructureType, scope: Scop
         found = found.lacking(Feature.EXTENSION)
     levels, later = levels_of(parts, end), None
     if end in (LATER, LATER_AUTOMATIC):
-        later = later_field(parts, fields, levels[-1], end)
+        later = later_field(parts, fields, levels[-1], end, meanings.raw_any)
     for number, level in reversed([*enumerate(levels)][1:]):
         added = AddedDeclaration("", type_.place, scope.module.name, hint.text, later=later)
         added.fields = with_unique_names(fields[level.start : level.stop], later)
@@ -144,13 +146,14 @@ def declared_struct(meanings: "Meanings", type_: tree.StructureType, scope: Scop
     return found.as_(Rust(of("Asn1Set", record.type), Core.SET, frozenset((UNIVERSAL_TAGS["SET"],)), record) if is_set else record)
 
 
-def structure_term(type_: tree.StructureType, parts: list[Part], end: str, name: str) -> Term:
+def structure_term(type_: tree.StructureType, parts: list[Part], end: str, name: str, raw_any: bool) -> Term:
     """The term of a SEQUENCE or SET, its members in the order of the text, with the name of its struct."""
+    last = end if raw_any else _WELL_FORMED.get(end, end)
     items = [TermItem(item_text(it), presence_word(it, end), it.default.term or it.meaning.rust.term) for it in parts]
     for level in levels_of(parts, end)[1:]:
         items[level.start] = replace(items[level.start], presence=f"added ({items[level.start].presence}")
-        end += ")"
-    return Term(type_.form.value, items=tuple(items), end=end, name=name)
+        last += ")"
+    return Term(type_.form.value, items=tuple(items), end=last, name=name)
 
 
 def last_word(type_: tree.StructureType, scope: Scope, parts: list[Part]) -> str:
@@ -187,14 +190,15 @@ def levels_of(parts: list[Part], end: str) -> list[range]:
     return [range(start, stop) for start, stop in zip(starts, [*starts[1:], len(parts)])]
 
 
-def later_field(parts: list[Part], fields: list[Field], level: range, end: str) -> Field:
+def later_field(parts: list[Part], fields: list[Field], level: range, end: str, raw_any: bool) -> Field:
     """The field of the members of later versions, after the members of this level.
 
     Its type has the number of all members if the tags are automatic, and else the types of the members directly before that may be absent.
     """
-    type_ = of("LaterMembersFrom", str(len(parts)))
+    name = "LaterMembers" if raw_any else "LaterElements"
+    type_ = of(f"{name}From", str(len(parts)))
     if end == LATER:
-        type_ = of("LaterMembers", parts_type([it.type for it in fields[last_required(parts, level) : level.stop]]))
+        type_ = of(name, parts_type([it.type for it in fields[last_required(parts, level) : level.stop]]))
     return Field("later_members", type_, notation="...", comment="The members of later versions, in their order.")
 
 
@@ -282,15 +286,17 @@ def unique(fields: list[Union[Field, Item]]) -> list[Union[Field, Item]]:
     return fields
 
 
-def empty(type_: tree.StructureType, scope: Scope, first: int) -> Meaning:
+def empty(type_: tree.StructureType, scope: Scope, first: int, raw_any: bool) -> Meaning:
     """A SEQUENCE or SET without members, which is a list of none, or of any that later versions have."""
     name = "Vec" if type_.form is tree.Form.SEQUENCE else "Asn1SetOf"
     firsts, form = frozenset((first,)), type_.form.value
+    element = any_element() if raw_any else well_formed_element()
     if is_extensible(type_, scope) and type_.form is tree.Form.SEQUENCE:
-        return Meaning(Rust(of(name, of("Asn1RawDer")), Core.LIST, firsts, term=Term(f"{form} {LATER}")))
+        term = Term(f"{form} {LATER if raw_any else _WELL_FORMED[LATER]}")
+        return Meaning(Rust(of(name, element.type), Core.LIST, firsts, term=term))
     if is_extensible(type_, scope):
-        term = Term(f"{form}-OF", Term("ANY"))
-        return Meaning(Rust(of(name, of("Asn1RawDer")), Core.LIST, firsts, term=term)).lacking(Feature.EXTENSION)
+        term = Term(f"{form}-OF", element.term)
+        return Meaning(Rust(of(name, element.type), Core.LIST, firsts, term=term)).lacking(Feature.EXTENSION)
     return Meaning(Rust(of("WithSize", of(name, UNIT), "0", "0"), Core.LIST, firsts, bounded=True, term=Term(f"{form} end")))
 
 

@@ -16,9 +16,9 @@ from .declarations import AliasDeclaration, Declaration, Declarations, Hint, New
 from .defaults import other_values
 from .extensible import choice
 from .features import Feature, Level, Note
-from .library import MAX_TAG, Core, Rust, any_element, tagged_bytes, without_values
+from .library import MAX_TAG, Core, Rust, any_element, tagged_bytes, well_formed_element, without_values
 from .library_table import BY_NAME, UNIVERSAL_TAGS, LibraryType
-from .listed import declared_list, listed
+from .listed import declared_list, listed, most_bits
 from .inner import inner_types
 from .intervals import NATURAL
 from .meaning import Meaning, lacks
@@ -126,13 +126,19 @@ class Meanings:
         distinct: Iterable[str] = (),
         recursion: Recursion = NONE,
         optional_defaults: bool = False,
+        raw_any: bool = False,
     ) -> None:
         self.program, self.recursion = program, recursion
         self.optional_defaults = optional_defaults  # whether a default that the library has no type for is as if the member were OPTIONAL
+        self.raw_any = raw_any  # whether nothing in a value of an open type is looked at
         self.level: Optional[recursive.Level] = None  # where the type is that is being worked out
         self.edges: dict[tuple, set[tuple]] = {}  # which assignments each names
         self.distinct = frozenset(distinct)  # the names of types that are structs of their own, in place of names of others
         self.declarations = declarations or Declarations()
+        for module in program.modules:
+            for it in module.assignments:
+                if isinstance(it, tree.TypeAssignment) and not it.parameters:
+                    self.declarations.assign(it.name, (*program.scope_of(module).key, it.name))
         self.known, self.busy = {}, []
         self.checks = Checks(program)
         self.first_uses: dict[tuple[str, str, str], Where] = {}  # where each name is imported or used first that leads nowhere
@@ -231,8 +237,8 @@ class Meanings:
         return Meaning(any_element()).lacking(feature)
 
     def any_type(self) -> Meaning:
-        """An open type, which is any element."""
-        return Meaning(any_element()).noting(Note.OPEN)
+        """An open type, which is any element: one with elements in it, unless nothing in it is to be looked at."""
+        return Meaning(any_element() if self.raw_any else well_formed_element()).noting(Note.OPEN)
 
     # ---- types
 
@@ -321,11 +327,15 @@ class Meanings:
         if contents and contents.constraint.type is not None:
             return self.checked(self.container(contents, "BitStringAsn1Container", firsts, hint), type_, scope, constraints)
         if not type_.named:
-            return self.checked(Meaning(library_type(BY_NAME["BIT STRING"])), type_, scope, constraints)
+            plain, limits = in_words(Meaning(library_type(BY_NAME["BIT STRING"])), constraints), self.limits(constraints, type_, scope)
+            return bounded(*listed(self, plain, type_, scope, hint, limits))
         meaning = Meaning(Rust(of("NamedBits"), Core.CONTENTS, firsts, term=Term("BIT-STRING-named")))
         limits = self.limits(constraints, type_, scope)
         if limits.size.pairs and limits.size.high != float("inf"):
-            meaning = meaning.lacking(Feature.NAMED_BITS_SIZE)
+            is_both = not limits.contents.is_all()
+            meaning = meaning.lacking(Feature.NAMED_BITS_SIZE) if is_both else most_bits(self, meaning, type_, scope, hint, int(limits.size.high))
+            limits = replace(limits, size=NATURAL)
+        meaning, limits = listed(self, meaning, type_, scope, hint, limits)
         return meaning.noting(Note.CONSTRAINT) if limits.other or not limits.contents.is_all() else meaning
 
     def of_octets(self, type_: tree.SimpleType, scope: Scope, hint: Hint, constraints: tuple[ScopedConstraint, ...]) -> Meaning:

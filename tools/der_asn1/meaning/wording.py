@@ -3,7 +3,8 @@ import re
 
 from .library_table import LIBRARY_NAMES
 
-_WORD = re.compile(r"[A-Z]+(?![a-z])[0-9]*|[A-Z]?[a-z][a-z0-9]*|[A-Z][0-9]*|[0-9]+")
+# an abbreviation in the plural or with a version is one word, as in `PDUs` and `SNMPv3Message`
+_WORD = re.compile(r"[A-Z]{2,}s(?![a-z])|[A-Z]{2,}v[0-9]+|[A-Z]+(?![a-z])[0-9]*|[A-Z]?[a-z][a-z0-9]*|[A-Z][0-9]*|[0-9]+")
 
 # words that no member can be called, of Rust and of the language of proofs
 KEYWORDS = frozenset(
@@ -35,8 +36,8 @@ def joined(name: str) -> str:
 
 
 def camel(name: str) -> str:
-    """The name of a type."""
-    found = joined(name)
+    """The name of a type. One of capital letters alone, as `LDAPDN`, stays as it is."""
+    found = name if name.isalpha() and name.isupper() else joined(name)
     return f"Asn{found}" if found in TAKEN or not found[:1].isalpha() else found
 
 

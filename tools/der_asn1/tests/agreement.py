@@ -10,11 +10,13 @@ from typing import Optional
 
 from ..emit.printed import Terms, printed
 from ..meaning.character_sets import characters_of
+from ..meaning.inner import inner_types
 from ..meaning.members import is_extensible, members_of, selected
 from ..meaning.objects import BUILT_IN_CLASSES
 from ..meaning.scopes import BUILT_IN_ANY, Found, Program, Scope, target_of
 from ..meaning.subtypes import Reader, ScopedConstraint, only_contents
 from ..meaning.tagging import default_mode, effective_mode, fixed_field_type
+from ..meaning.types import ASSOCIATED
 from ..meaning.values import enumerated_numbers, integer_of, value_of
 from ..parse import tree
 from ..parse.modules import read_text
@@ -45,6 +47,9 @@ class Side:
         if isinstance(self.type, tree.SelectionType):
             found = selected(self.program, self.type, self.scope)
             return found and Side(self.program, found.member.type, found.scope, self.all())
+        if isinstance(self.type, tree.SimpleType) and self.type.name == "EXTERNAL" and not self.type.tags:
+            found = ASSOCIATED.find("External", ASSOCIATED.scope_of(ASSOCIATED.modules[0]))
+            return Side(ASSOCIATED, found.assignment.type, found.scope, self.all())
         if isinstance(self.type, tree.FieldType) and fixed_field_type(self.program, self.type, self.scope):
             return Side(self.program, *fixed_field_type(self.program, self.type, self.scope), self.all())
         target = target_of(self.program, self.type, self.scope) if isinstance(self.type, tree.ReferenceType) and not self.type.tags else None
@@ -53,6 +58,11 @@ class Side:
     def untagged(self) -> "Side":
         """It without its outermost tag."""
         return replace(self, type=replace(self.type, tags=self.type.tags[1:]))
+
+    def left(self) -> "Side":
+        """What WITH COMPONENTS leaves of it (X.680, 51.8), if that is one type."""
+        found = inner_types(self.program, self.type, self.scope, self.all())
+        return replace(self, type=found.types[0], constraints=found.others) if found and len(found.types) == 1 else self
 
     def is_wide(self) -> bool:
         """Whether a printed type says that its values differ."""
@@ -105,7 +115,7 @@ class Agreement:
             return self.compare(mine.opened(), other)
         if mine.type.tags or other.type.tags:
             return f"a tag is there on one side alone: `{mine.type.text}`, `{other.type.text}`"
-        return self.kinds(mine, other)
+        return self.kinds(mine, other.left())
 
     @staticmethod
     def is_kept(mine: Side) -> bool:

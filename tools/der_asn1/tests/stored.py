@@ -10,7 +10,7 @@ GOLDEN = Path(__file__).resolve().parent / "golden"
 _HEADING = re.compile(r"^==> (.*) <==\n", re.MULTILINE)
 
 # more options of a module
-_OPTIONS = {"filter": ["--depth", "3"], "options": ["--constructors"]}
+_OPTIONS = {"filter": ["--depth", "3"], "ldap": ["--depth", "3"], "options": ["--constructors"]}
 # the modules that are over the crate of another one, which comes before them in the order of names
 _OVER = {"stamp": ("Request", "request")}
 
@@ -20,13 +20,18 @@ def golden_names() -> list[str]:
     return sorted(it.stem for it in GOLDEN.glob("*.asn1"))
 
 
+def options_of(name: str) -> list[str]:
+    """More options of a module."""
+    return _OPTIONS.get(name, [])
+
+
 def golden_options(name: str, folder: str) -> list[str]:
     """The words of the command that writes the crate of a module to this folder."""
     words = ["--strict", "--out", os.path.join(folder, name)]
     if name in _OVER:
         module, crate = _OVER[name]
         words += ["--crate", f"{module}={crate}", "--import", str(GOLDEN / f"{crate}.asn1")]
-    return [*words, *_OPTIONS.get(name, []), str(GOLDEN / f"{name}.asn1")]
+    return [*words, *options_of(name), str(GOLDEN / f"{name}.asn1")]
 
 
 def files_below(folder: str) -> dict[str, str]:

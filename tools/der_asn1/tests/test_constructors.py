@@ -47,7 +47,7 @@ class New(unittest.TestCase):
             self.assertIn(f"          {wanted}\n", text)
         for wanted in ("a: ExplicitContextTag(7),", "b: ExplicitContextTag(-3),", "c: ExplicitContextTag(E::Y),", "d: None,"):
             self.assertIn(f"            {wanted}\n", text)
-        self.assertIn("ghost use Rattle.std.specs.Prelude.{negsuc, pos, ◌≡◌};\n", text)
+        self.assertIn("ghost use Rattle.std.specs.Prelude.{IfNone, IfSome, None, Some, false, negsuc, pos, ◌≡◌};\n", text)
         self.assertIn("use crate::{A, E};\n", text)
 
     def test_a_default_under_the_tag_of_a_name(self):
@@ -58,7 +58,7 @@ class New(unittest.TestCase):
 
     def test_members_of_later_versions(self):
         text = file_of("A ::= SEQUENCE { a NULL, ... }", "A")
-        self.assertIn("    pub fn new(a: (), later_members: LaterMembers<NoneOf>) -> A\n", text)
+        self.assertIn("    pub fn new(a: (), later_members: LaterElements<NoneOf>) -> A\n", text)
 
     def test_long_parameters(self):
         members = ", ".join(f"member-number-{it} OCTET STRING (SIZE (1..4))" for it in range(3))
@@ -95,12 +95,34 @@ class OrDefault(unittest.TestCase):
         self.assertIn(f"        ensures some {{ IfSome self.now.a (λ it. {number}\n            ≡ result) }}\n", text)
         self.assertIn("            Some(a) => *a.0.get().get().get(),\n            None => -1,\n", text)
 
-    def test_any_integer_has_none(self):
-        self.assertNotIn("or_default", file_of("A ::= SEQUENCE { a INTEGER DEFAULT 5 }", "A"))
+    def test_any_integer(self):
+        text = file_of("A ::= SEQUENCE { a [0] INTEGER DEFAULT -5 }", "A")
+        number = "⟦<Outside<Integer, Minus<5>, Minus<5>> as WholeNumber>⟧.number it.0"
+        for wanted in (
+            "    pub fn a_or_default(&self) -> Option<i64>\n        ensures default { self.now.a ≡ None → result ≡ Some (negsuc 4) }\n",
+            f"        ensures some {{ IfSome self.now.a (λ it. IfSome result\n            (λ number. {number} ≡ number)) }}\n",
+            f"        ensures beyond {{ IfSome self.now.a (λ it. IfNone result\n            (fits_signed 64 ({number}) ≡ false)) }}\n",
+            "            Some(a) => a.0.get().to_int(),\n            None => Some(-5),\n",
+            "ghost use Rattle.picky_der_core.specs.Integer.{fits_signed};\n",
+        ):
+            self.assertIn(wanted, text)
+        self.assertIn("a_or_default(&self) -> Option<i128>\n", file_of(f"A ::= SEQUENCE {{ a INTEGER DEFAULT {2**63} }}", "A"))
 
     def test_numbers(self):
         self.assertEqual(["5", "pos 5", "negsuc 4"], [number_value(*it).term for it in ((5, False), (5, True), (-5, True))])
         self.assertEqual([7, -7, 7], [excluded(it) for it in (of("OtherThan", of("u8"), "7"), *(of("Outside", of("i8"), of(sign, "7"), of(sign, "7")) for sign in ("Minus", "Plus")))])
+
+
+class Alternatives(unittest.TestCase):
+    def test_those_under_tags(self):
+        text = file_of("A ::= CHOICE { dns-name [0] NULL, d BOOLEAN, if [1] EXPLICIT SEQUENCE OF NULL }", "A")
+        self.assertIn("    /// Returns the alternative `DnsName` with this value.\n    pub fn dns_name(dns_name: ()) -> A\n", text)
+        self.assertIn("        ensures { result ≡ A.DnsName (record { 0 = dns_name }) }\n    {\n        A::DnsName(ExplicitContextTag(dns_name))\n    }\n", text)
+        self.assertIn("    pub fn if_(if_: Vec<()>) -> A\n", text)
+        self.assertNotIn("fn d(", text)
+
+    def test_none_is_under_a_tag(self):
+        self.assertEqual("", file_of("A ::= CHOICE { a NULL, b BOOLEAN }", "A"))
 
 
 class Tags(unittest.TestCase):

@@ -73,6 +73,17 @@ class OwnFiles(unittest.TestCase):
         status, printed = self.run_tool("--distinct", "Lamp")
         self.assertEqual((1, True), (status, "`Lamp` isn't the name of another type" in printed))
 
+    def test_more_traits(self):
+        self.assertEqual(0, self.run_tool("--distinct", "Flags", "--derive", "Clone,Ord", "--derive", "PartialOrd")[0])
+        derive = "#[derive(Debug, Clone, Drop, PartialEq, Eq, PartialOrd, Ord)]\n"
+        self.assertIn(f"{derive}pub struct Flags(", self.text("src/types.rt"))
+        self.assertIn(f"{derive}pub struct Lamp {{", self.text("src/types.rt"))
+
+    def test_traits_that_cannot_be(self):
+        for words, wanted in (("Default", "`Default` can't be derived for all types"), ("Ord", "`Ord` needs `PartialOrd`")):
+            status, printed = self.run_tool("--derive", words)
+            self.assertEqual((1, True), (status, wanted in printed))
+
     def test_they_are_in_the_root(self):
         self.assertEqual(0, self.run_tool("--own", "lights=Light,Lights", "--own", "laws", "--own-terms", "Lights")[0])
         root = self.text("src/lib.rt")

@@ -93,7 +93,7 @@ class AsDerived(unittest.TestCase):
             content EncapsulatedContentInfo, certificates [0] IMPLICIT SET OF ANY OPTIONAL,
             revocation-lists [1] IMPLICIT SET OF ANY OPTIONAL, signer-infos SET OF SignerInfo }
             AlgorithmIdentifier ::= SEQUENCE { a NULL } EncapsulatedContentInfo ::= SEQUENCE { a NULL } SignerInfo ::= SEQUENCE { a NULL }"""
-        self.check(body, "SignedData", "signed_data")
+        self.check(body, "SignedData", "signed_data", [("AnyElement", "Asn1RawDer")])
 
     def test_twenty_members(self):
         body = """Vessel ::= SEQUENCE { name UTF8String, number INTEGER (0..4294967295), call-sign [0] UTF8String OPTIONAL,
@@ -241,9 +241,10 @@ class Defaults(unittest.TestCase):
 class Imports(unittest.TestCase):
     def test_of_a_struct(self):
         text = crate_of("A ::= SEQUENCE { a B, b [10] INTEGER OPTIONAL, c [2] ANY OPTIONAL } B ::= SEQUENCE { a NULL }", "A").files()["src/types.rt"]
-        found = text[text.index("use der_types") : text.index("use picky_asn1_der::{")]
+        found = text[text.index("use der_elements") : text.index("use picky_asn1_der::{")]
         self.assertEqual(
             [
+                "use der_elements::AnyElement;",
                 "use der_types::{Exact, ExactMembers, Integer, Notated, NotatedMembers};",
                 "use picky_asn1_der::asn1::{ExplicitContextTag2, ExplicitContextTag10, Tag};",
                 "use picky_asn1_der::de::{Begins, Faithful, FaithfulMembers, Inhabited};",
@@ -252,6 +253,17 @@ class Imports(unittest.TestCase):
             ],
             found.strip().split("\n"),
         )
+
+    def test_of_a_value_at_which_nothing_is_looked(self):
+        body = "M DEFINITIONS ::= BEGIN A ::= SEQUENCE { a ANY, ... } B ::= SEQUENCE { ... } END"
+        modules = read_text(body, "m.asn1", Problems())
+        files = command.crate_of("it", modules, [], [], Problems(), how=command.How(raw_any=True)).files()
+        self.assertIn("    pub a: Asn1RawDer,\n", files["src/types.rt"])
+        self.assertIn("    pub later_members: LaterMembers<NoneOf>,\n", files["src/types.rt"])
+        self.assertIn("pub type B = Vec<Asn1RawDer>;\n", files["src/types.rt"])
+        self.assertIn("    required any-element ⨾\n    later-members)", files["specs/Notation.antt"])
+        self.assertIn("B = SEQUENCE later-members\n", files["specs/Notation.antt"])
+        self.assertNotIn("der_elements", "".join(files.values()))
 
     def test_of_two_types(self):
         """A file imports what both use once, and what only one uses, and nothing of its own."""
@@ -281,10 +293,10 @@ class Comments(unittest.TestCase):
         self.assertIn("    /// `BOOLEAN DEFAULT TRUE`.\n", text)
 
     def test_a_default_that_isnt_one(self):
-        text = crate_of("A ::= SEQUENCE { a BIT STRING DEFAULT '1'B, b NULL }", "A").files()["src/types.rt"]
+        text = crate_of("A ::= SEQUENCE { a SET OF NULL DEFAULT {}, b NULL }", "A").files()["src/types.rt"]
         wanted = "as a SEQUENCE.\n///\n/// Its values differ from the notation's. The crate lacks: DEFAULT of bits, strings,"
         self.assertIn(wanted, text)
-        self.assertIn("/// `BIT STRING DEFAULT '1'B`. A default that is written out is read, too.\n    pub a: Option<BitString>,\n", text)
+        self.assertIn("/// `SET OF NULL DEFAULT { }`. A default that is written out is read, too.\n    pub a: Option<Asn1SetOf<()>>,\n", text)
 
     def test_a_default_of_which_the_other_values_are_a_type(self):
         body = """A ::= SEQUENCE { a [0] IMPLICIT OBJECT IDENTIFIER DEFAULT { 1 2 3 }, b [1] B DEFAULT { c TRUE }, d UTF8String DEFAULT "en" }
@@ -340,6 +352,12 @@ class Names(unittest.TestCase):
             One C ::= { ... }"""
         self.assertEqual(["A", "B"], sorted(crate_of(body, "B").types))
 
+    def test_the_name_of_the_module_wins(self):
+        """Neither an instance nor a part takes the name of an assignment."""
+        crate = crate_of("Box { T } ::= SEQUENCE { t T } BoxBoolean ::= Box { BOOLEAN } A ::= SEQUENCE { b Box { BOOLEAN }, c SEQUENCE { d NULL } } AC ::= NULL", "A", "AC", "BoxBoolean")
+        self.assertEqual(["A", "AC", "AC2", "BoxBoolean", "BoxBoolean2"], sorted(crate.types))
+        self.assertEqual(["BoxBoolean2", "()"], [str(crate.types[it].type) for it in ("BoxBoolean", "AC")])
+
     def test_instances_have_the_names_of_their_types(self):
         body = "A { T } ::= SEQUENCE { it T } B ::= SEQUENCE { a A { INTEGER }, b A { Own } } Own ::= SEQUENCE { a NULL }"
         self.assertEqual(["AInteger", "AOwn", "B", "Own"], sorted(crate_of(body, "B").types))
@@ -359,7 +377,7 @@ class Names(unittest.TestCase):
 
 
     def test_abbreviations(self):
-        pairs = [("dNSName", "DnsName"), ("iPAddress", "IpAddress"), ("cA", "Ca"), ("rfc822Name", "Rfc822Name"), ("TBSCertificate", "TbsCertificate")]
+        pairs = [("dNSName", "DnsName"), ("iPAddress", "IpAddress"), ("cA", "Ca"), ("rfc822Name", "Rfc822Name"), ("TBSCertificate", "TbsCertificate"), ("PDUs", "Pdus"), ("SNMPv3Message", "Snmpv3Message")]
         self.assertEqual([it for _, it in pairs], [joined(it) for it, _ in pairs])
         self.assertEqual(["dns_name", "crl_sign", "x_axis", "e_type"], [snake(it) for it in ("dNSName", "cRLSign", "xAxis", "e-TYPE")])
 
@@ -371,7 +389,7 @@ class Golden(unittest.TestCase):
 
     def test_each(self):
         names = golden_names()
-        self.assertEqual(15, len(names))
+        self.assertEqual(20, len(names))
         with tempfile.TemporaryDirectory() as there:
             for it in names:
                 with self.subTest(it):

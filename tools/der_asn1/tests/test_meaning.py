@@ -128,6 +128,7 @@ EXACT = [
     ("SEQUENCE { a INTEGER { v1(-5) } DEFAULT v1 }", "T"),
     ("SEQUENCE { a INTEGER (-2147483648..2147483647) DEFAULT 256 }", "T"),
     ("SEQUENCE { a [0] INTEGER (0..MAX) DEFAULT 0 }", "T"),
+    ("SEQUENCE { a NULL OPTIONAL, ... } (WITH COMPONENTS { ..., a PRESENT })", "T"),
 ]
 
 # a type that needs a type of a crate's own for it to be exact
@@ -147,9 +148,13 @@ OWN = [
     ("OCTET STRING ('0102'H | ''H)", Note.WITHOUT_TERM),
     ('PrintableString ("ab") (SIZE (3))', Note.CONSTRAINT),
     ("CHOICE { a NULL, ... }", Note.WITHOUT_TERM),
+    ("BIT STRING { a(0) } (SIZE (1..9))", Note.WITHOUT_TERM),
+    ("BIT STRING ('101'B | ''B)", Note.WITHOUT_TERM),
+    ("SEQUENCE { a BIT STRING { x(0) } DEFAULT {}, b NULL }", Note.WITHOUT_TERM),
     ("OCTET STRING (CONTAINING INTEGER) (SIZE (3))", Note.CONSTRAINT),
     ("SEQUENCE { a NULL } (WITH COMPONENTS { a ABSENT })", Note.CONSTRAINT),
-    ("SEQUENCE { a NULL OPTIONAL, ... } (WITH COMPONENTS { ..., a PRESENT })", Note.CONSTRAINT),
+    ("SEQUENCE { a NULL OPTIONAL, ... } (WITH COMPONENTS { ..., a ABSENT })", Note.CONSTRAINT),
+    ("SEQUENCE { a NULL OPTIONAL, ... } (WITH COMPONENTS { a PRESENT })", Note.CONSTRAINT),
     ("SEQUENCE { a NULL OPTIONAL, b BOOLEAN OPTIONAL } (WITH COMPONENTS { a PRESENT } | WITH COMPONENTS { b PRESENT })", Note.WITHOUT_TERM),
     ("[APPLICATION 1] IMPLICIT BOOLEAN", Note.WITHOUT_TERM),
     (f"[APPLICATION 1] IMPLICIT INTEGER (0..{2**128 - 1})", Note.CONSTRAINT),
@@ -171,9 +176,8 @@ MISSING = [
     ("SET { ... }", Level.WIDER, Feature.EXTENSION),
     ("CHOICE { a CHOICE { b NULL, ... }, c [0] NULL }", Level.WIDER, Feature.EXTENSION),
     (f"SEQUENCE {{ a INTEGER DEFAULT {2**64} }}", Level.WIDER, Feature.DEFAULT_INTEGER),
-    ("SEQUENCE { a BIT STRING { x(0) } DEFAULT {}, b NULL }", Level.WIDER, Feature.DEFAULT_OTHER),
+    ("SEQUENCE { a SET OF NULL DEFAULT {}, b NULL }", Level.WIDER, Feature.DEFAULT_OTHER),
     ("OCTET STRING (CONTAINING INTEGER ENCODED BY { 2 1 1 })", Level.WIDER, Feature.ENCODING),
-    ("BIT STRING { a(0) } (SIZE (1..9))", Level.WIDER, Feature.NAMED_BITS_SIZE),
     ("INTEGER (0..missing)", Level.WIDER, Feature.UNKNOWN_BOUND),
     ("CHARACTER STRING", Level.RAW, Feature.RARE),
     ("SEQUENCE { a CHARACTER STRING }", Level.PARTLY_RAW, Feature.RARE),
@@ -197,8 +201,8 @@ class Tables(unittest.TestCase):
     def test_exact_types(self):
         for notation, text in EXACT:
             with self.subTest(notation):
-                one = given(f"T ::= {notation}")
-                assignment, module = one.assignment("T")
+                one = given(f"Made ::= {notation}")
+                assignment, module = one.assignment("Made")
                 found = one.meanings.of_type(assignment.type, one.program.scope_of(module), Hint("T"))
                 self.assertEqual((text, Level.EXACT, frozenset()), (found.rust.text, found.level, found.features))
                 self.assertEqual([], one.problems.found)
@@ -304,9 +308,9 @@ class Parts(unittest.TestCase):
         body = "T ::= SEQUENCE { a NULL OPTIONAL, b INTEGER, ... }\nU ::= SEQUENCE { a NULL, b INTEGER (0..255) OPTIONAL, ..., c BOOLEAN }\nV ::= SEQUENCE { ... }"
         one = given(body)
         types = [str(one.meanings.declarations.by_name[one.meaning(it).rust.text].later.type) for it in "TU"]
-        self.assertEqual(["LaterMembers<NoneOf>", "Added<UAdditions>"], types)
-        self.assertEqual("LaterMembers<NoneOf>", str(one.meanings.declarations.by_name["UAdditions"].later.type))
-        self.assertEqual((Level.EXACT, "Vec<Asn1RawDer>"), (one.meaning("V").level, str(one.meanings.declarations.by_name["V"].type)))
+        self.assertEqual(["LaterElements<NoneOf>", "Added<UAdditions>"], types)
+        self.assertEqual("LaterElements<NoneOf>", str(one.meanings.declarations.by_name["UAdditions"].later.type))
+        self.assertEqual((Level.EXACT, "Vec<AnyElement>"), (one.meaning("V").level, str(one.meanings.declarations.by_name["V"].type)))
 
     def test_implied_extensibility(self):
         one = given("T ::= SEQUENCE { a NULL }\nU ::= CHOICE { a NULL }", "AUTOMATIC TAGS EXTENSIBILITY IMPLIED")

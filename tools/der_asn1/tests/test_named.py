@@ -7,8 +7,9 @@ import unittest
 from pathlib import Path
 
 from .. import command
-from ..emit.values import constant_lines, value_file, values_of
-from ..meaning.named import constant_name, constants_of, names_of, octets, quoted
+from ..emit.named import named_file
+from ..emit.values import constant_lines, quoted, value_file, values_of
+from ..meaning.named import constant_name, constants_of, names_of, octets
 from ..parse import tree
 from . import given, module_text
 
@@ -67,12 +68,22 @@ class NamesOfTypes(unittest.TestCase):
         self.assertEqual({"a": [("A_DEFAULT", "i64", 5), ("B_DEFAULT", "u16", 300), ("C_DEFAULT", "i16", -1)]}, names(body, "A"))
 
 
+    def test_their_law(self):
+        one = given("A ::= INTEGER { low(-5), type(1) } B ::= INTEGER { z(3) } (0..255)")
+        for it in "AB":
+            one.meaning(it)
+        lines = named_file(names_of(one.program, one.meanings.declarations.by_name))
+        self.assertEqual("ghost use Rattle.std.specs.Prelude.{negsuc, pos, ◌≡◌};", lines[1])
+        for wanted in ("low { LOW ≡ negsuc 4 }", "type_ { TYPE ≡ pos 1 }", "z { Z ≡ 3 }"):
+            self.assertIn(f"        ensures {wanted}", lines)
+
+
 class Values(unittest.TestCase):
     def test_each_kind(self):
         body = """n INTEGER ::= 7 m Size ::= n Size ::= INTEGER (0..9) far INTEGER ::= 99999999999999999999 is-on BOOLEAN ::= TRUE
             title UTF8String ::= "a ""b"" \\" key OCTET STRING ::= '00FF'H bits OCTET STRING ::= '10000000 1'B"""
         wanted = {"N": ("i64", "7"), "M": ("i64", "7"), "FAR": ("i128", "99999999999999999999"), "IS_ON": ("bool", "true")}
-        wanted |= {"TITLE": ("&str", '"a \\"b\\" \\\\"'), "KEY": ("&[u8]", [0, 0xFF]), "BITS": ("&[u8]", [0x80, 0x80])}
+        wanted |= {"TITLE": ("&str", 'a "b" \\'), "KEY": ("&[u8]", [0, 0xFF]), "BITS": ("&[u8]", [0x80, 0x80])}
         self.assertEqual(wanted, constants(body))
 
     def test_what_is_no_constant(self):
@@ -82,7 +93,7 @@ class Values(unittest.TestCase):
         self.assertEqual({}, constants("a-b INTEGER ::= 7", taken=["A_B"]))
 
     def test_a_text_over_two_lines(self):
-        self.assertEqual(("&str", '"onetwo"'), constants('a UTF8String ::= "one  \n   two"')["A"])
+        self.assertEqual(("&str", "onetwo"), constants('a UTF8String ::= "one  \n   two"')["A"])
 
     def test_octets_and_texts(self):
         self.assertEqual([0x5A, 0xB0], octets(tree.BitsValue(None, "5AB", 4)))
@@ -91,9 +102,18 @@ class Values(unittest.TestCase):
     def test_their_file(self):
         one = given("n INTEGER ::= 7")
         found = constants_of(one.program, one.program.modules, ())
-        self.assertEqual(["//! Values.", "", "/// `n`, `INTEGER`.", "pub const N: i64 = 7;"], value_file([], found))
+        wanted = ["//! Values.", "ghost use Rattle.std.specs.Prelude.{◌≡◌, pos};", "", "/// `n`, `INTEGER`.", "pub const N: i64 = 7;", ""]
+        wanted += ["/// Which values the other constants are: a text by the bytes of its UTF-8.", "pub fn constants()", "    ensures n { N ≡ pos 7 }", "{}"]
+        self.assertEqual(wanted, value_file([], found))
         text = constants_of(given(f'n UTF8String ::= "{"x" * 90}"').program, given(f'n UTF8String ::= "{"x" * 90}"').program.modules, ())[0]
         self.assertEqual(["pub const N: &str =", f'    "{"x" * 90}";'], constant_lines(text))
+
+    def test_the_law_of_each_kind(self):
+        one = given('n INTEGER ::= -7 a BOOLEAN ::= TRUE b UTF8String ::= "é" c OCTET STRING ::= \'00FF\'H type OCTET STRING ::= \'\'H')
+        lines = value_file([], constants_of(one.program, one.program.modules, ()))
+        self.assertEqual("ghost use Rattle.std.specs.Prelude.{◌≡◌, [], ◌∷◌, negsuc, true};", lines[1])
+        wanted = ["n { N ≡ negsuc 6 }", "a { A ≡ true }", "b { B.now ≡ 195 ∷ 169 ∷ [] }", "c { C.now ≡ 0 ∷ 255 ∷ [] }", "type_ { TYPE.now ≡ [] }"]
+        self.assertEqual([f"    ensures {it}" for it in wanted], lines[-6:-1])
 
     def test_their_file_with_object_identifiers(self):
         one = given("a OBJECT IDENTIFIER ::= { 2 5 4 } n INTEGER ::= 7")
@@ -121,6 +141,7 @@ class Files(unittest.TestCase):
             command.main(["--out", str(crate), path])
             lines = (crate / "src/named.rt").read_text(encoding="utf-8").split("\n")
         wanted = """//! Names of bits, numbers and items, as `named::a::X`.
+ghost use Rattle.std.specs.Prelude.{◌≡◌};
 
 /// The bits of `A` of M.
 pub mod a {
@@ -129,6 +150,12 @@ pub mod a {
 
     /// `y`.
     pub const Y: usize = 1;
+
+    /// Which numbers these are.
+    pub fn numbers()
+        ensures x { X ≡ 0 }
+        ensures y { Y ≡ 1 }
+    {}
 }
 """
         self.assertEqual(wanted.split("\n"), lines[2:])

@@ -58,6 +58,11 @@ class Terms(unittest.TestCase):
         one = given("T ::= [1] IMPLICIT S (WITH COMPONENTS { a ABSENT })\nS ::= SET { a NULL }")
         self.assertEqual("ImplicitSet<SMembers, 0xA1>", str(one.meanings.declarations.by_name[one.meaning("T").rust.text].type))
 
+    def test_constraints_of_members_of_an_extensible_type(self):
+        body = "S (WITH COMPONENTS { ..., a PRESENT, b (SIZE (1..MAX)) })\nS ::= SEQUENCE { a NULL OPTIONAL, b SET OF NULL, ... }"
+        later = "SEQUENCE (required NULL ⨾ required (SIZE 1 MAX (SET-OF NULL)) ⨾ later-elements)"
+        self.check([(body, later)])
+
     def test_a_tag_over_a_string_of_which_the_library_has_only_bytes(self):
         pairs = [("[0] CHARACTER STRING", "CONTEXT 0 TAGS-M (wider (any-content 0x3D))")]
         self.check([*pairs, ("[APPLICATION 3] CHARACTER STRING", "APPLICATION 3 TAGS-M (wider (any-content 0x3D))")], "IMPLICIT TAGS")
@@ -71,8 +76,8 @@ class Terms(unittest.TestCase):
         wanted = "SEQUENCE (required NULL ⨾ optional BOOLEAN ⨾ default TRUE (CONTEXT 0 TAGS-M BOOLEAN) ⨾ end)"
         self.check([("SEQUENCE { a NULL, b BOOLEAN OPTIONAL, c [0] BOOLEAN DEFAULT TRUE }", wanted)])
         self.check([("SEQUENCE { a INTEGER DEFAULT -1 }", "SEQUENCE (default-of (minus 1) INTEGER ⨾ end)")])
-        wanted = "wider (SEQUENCE (default-as-optional BIT-STRING ⨾ required NULL ⨾ end))"
-        self.check([("SEQUENCE { a BIT STRING DEFAULT '1'B, b NULL }", wanted), ("SEQUENCE {}", "SEQUENCE end")])
+        wanted = "wider (SEQUENCE (default-as-optional (SET-OF NULL) ⨾ required NULL ⨾ end))"
+        self.check([("SEQUENCE { a SET OF NULL DEFAULT {}, b NULL }", wanted), ("SEQUENCE {}", "SEQUENCE end")])
         self.check([("SEQUENCE { a NULL DEFAULT NULL }", "SEQUENCE (default-as-optional (narrower (encoded NULL)) ⨾ end)")])
         self.check([("SEQUENCE { a [0] INTEGER DEFAULT 7 }", "SEQUENCE (default-of (number 7) (CONTEXT 0 TAGS-M INTEGER) ⨾ end)")])
 
@@ -90,23 +95,23 @@ class Terms(unittest.TestCase):
         self.check([("SET { a [1] NULL, b [0] NULL, c NULL }", "SET (required (CONTEXT 1 TAGS-M NULL) ⨾ required (CONTEXT 0 TAGS-M NULL) ⨾ required NULL ⨾ end)")])
 
     def test_extensions(self):
-        self.check([("SEQUENCE { a NULL, ... }", "SEQUENCE (required NULL ⨾ later-members)"), ("SEQUENCE { ... }", "SEQUENCE later-members")])
-        added = "SEQUENCE (required NULL ⨾ added (required BOOLEAN ⨾ later-members))"
+        self.check([("SEQUENCE { a NULL, ... }", "SEQUENCE (required NULL ⨾ later-elements)"), ("SEQUENCE { ... }", "SEQUENCE later-elements")])
+        added = "SEQUENCE (required NULL ⨾ added (required BOOLEAN ⨾ later-elements))"
         self.check([("SEQUENCE { a NULL, ..., b BOOLEAN }", added), ("SEQUENCE { a NULL, ..., [[ b BOOLEAN ]] }", added)])
         for text, wanted in (
-            ("..., b BOOLEAN OPTIONAL, c NULL", "optional BOOLEAN ⨾ added (required NULL ⨾ later-members)"),
-            ("..., b BOOLEAN, c NULL", "added (required BOOLEAN ⨾ added (required NULL ⨾ later-members))"),
-            ("..., [[ b BOOLEAN OPTIONAL, c NULL ]], d NULL OPTIONAL", "added (optional BOOLEAN ⨾ required NULL ⨾ optional NULL ⨾ later-members)"),
+            ("..., b BOOLEAN OPTIONAL, c NULL", "optional BOOLEAN ⨾ added (required NULL ⨾ later-elements)"),
+            ("..., b BOOLEAN, c NULL", "added (required BOOLEAN ⨾ added (required NULL ⨾ later-elements))"),
+            ("..., [[ b BOOLEAN OPTIONAL, c NULL ]], d NULL OPTIONAL", "added (optional BOOLEAN ⨾ required NULL ⨾ optional NULL ⨾ later-elements)"),
         ):
             self.check([(f"SEQUENCE {{ a NULL, {text} }}", f"SEQUENCE (required NULL ⨾ {wanted})")])
         wanted = "wider (SEQUENCE (required NULL ⨾ added-as-optional BOOLEAN ⨾ required INTEGER ⨾ later-members-refused))"
         self.check([("SEQUENCE { a NULL, ..., b BOOLEAN, ..., c INTEGER }", wanted)])
         self.check([("SEQUENCE { a NULL, b ANY OPTIONAL, ... }", "wider (SEQUENCE (required NULL ⨾ optional ANY ⨾ later-members-refused))")])
         self.check([("SET { a NULL, ... }", "wider (SET (required NULL ⨾ later-members-refused))")])
-        self.check([("CHOICE { a NULL, ... }", "one-of (NULL ∣ narrower ANY ∣ none)")])
+        self.check([("CHOICE { a NULL, ... }", "one-of (NULL ∣ narrower any-element ∣ none)")])
 
     def test_what_is_kept_as_bytes(self):
-        self.check([("CHARACTER STRING", "wider (any-content 0x3D)"), ("SEQUENCE { a T2 }", "SEQUENCE (required (wider ANY) ⨾ end)")])
+        self.check([("CHARACTER STRING", "wider (any-content 0x3D)"), ("SEQUENCE { a T2 }", "SEQUENCE (required (wider any-element) ⨾ end)")])
 
     def test_strings_that_contain_a_value(self):
         self.check([("OCTET STRING (CONTAINING NULL)", "OCTET-STRING-CONTAINING NULL")])

@@ -2,7 +2,7 @@
 
 use crate::messages::trials::{Task, result_as};
 use der_pkcs12::{
-    AuthenticatedSafe, CertBag, KeyBag, MacData, Pfx, Pkcs8ShroudedKeyBag, Pkcs12PbeParams,
+    AuthenticatedSafe, CertBag, KeyBag, MacData, PFX, Pkcs8ShroudedKeyBag, Pkcs12PbeParams,
     SafeBag, SafeContents, SecretBag,
 };
 use std::alloc::{AllocError, Global};
@@ -19,7 +19,7 @@ pub(crate) fn result_of(
         "CertBag" => result_as::<CertBag>(alloc, task, bytes),
         "KeyBag" => result_as::<KeyBag>(alloc, task, bytes),
         "MacData" => result_as::<MacData>(alloc, task, bytes),
-        "Pfx" => result_as::<Pfx>(alloc, task, bytes),
+        "PFX" => result_as::<PFX>(alloc, task, bytes),
         "Pkcs12PbeParams" => result_as::<Pkcs12PbeParams>(alloc, task, bytes),
         "Pkcs8ShroudedKeyBag" => result_as::<Pkcs8ShroudedKeyBag>(alloc, task, bytes),
         "SafeBag" => result_as::<SafeBag>(alloc, task, bytes),

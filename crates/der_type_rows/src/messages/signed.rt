@@ -81,7 +81,7 @@ fn bytes_of<T: Drop>(
 fn of_message(alloc: Global, bytes: &[u8]) -> DerResult<Vec<u8>> {
     let message: ContentInfo = from_der(alloc, bytes)?;
     if message.content_type.is(values::ID_SIGNED_DATA) {
-        return of_signed_data(alloc, &message.content.0.0);
+        return of_signed_data(alloc, message.content.0.as_bytes());
     }
     Ok(Vec::new(alloc))
 }

@@ -20,13 +20,15 @@ use picky_der_core::asn1::Tag;
 use picky_der_core::misc::{ReadExt, WriteExt};
 use picky_der_de::{Begins, Deserialize, Deserializer, Faithful};
 use picky_der_ser::{Serialize, Serializer};
+use std::alloc::AllocError;
+use std::fmt;
 use std::marker::PhantomData;
 
 /// A number of `A` or above. It is encoded as the number.
 ///
 /// `INTEGER (0..MAX)` is `AtLeast<Integer, Plus<0>>`, where MAX says that there is no bound (X.680, 51.4).
 #[derive(Drop)]
-#[derive_where(Debug, PartialEq, Eq; T)]
+#[derive_where(PartialEq, Eq, PartialOrd, Ord, Hash; T)]
 pub struct AtLeast<T: WholeNumber, A: Bound> {
     value: T,
     #[derive_where(skip)]
@@ -67,6 +69,37 @@ impl<T: WholeNumber, A: Bound> AtLeast<T, A> {
     {
         let AtLeast { value, least: _ } = self;
         value
+    }
+}
+
+/// It has a copy of the number. A copy that the bounds don't allow, which no type of this library makes, counts as a failed
+/// allocation.
+impl<T: WholeNumber + Clone, A: Bound> Clone for AtLeast<T, A> {
+    ghost is_clone = { λ x y. T.is_clone x.value y.value };
+
+    fn clone(&self) -> std::result::Result<AtLeast<T, A>, AllocError> {
+        match Self::new(self.value.clone()?) {
+            Some(copy) => Ok(copy),
+            None => Err(AllocError),
+        }
+    }
+}
+
+/// It prints as the number.
+impl<T: WholeNumber + fmt::Debug, A: Bound> fmt::Debug for AtLeast<T, A> {
+    ghost debug_output = { λ it. T.debug_output it.value };
+
+    fn fmt<W: fmt::Write>(&self, f: &mut fmt::Formatter<W>) -> fmt::Result {
+        self.value.fmt(f)
+    }
+}
+
+/// It prints as the number.
+impl<T: WholeNumber + fmt::Display, A: Bound> fmt::Display for AtLeast<T, A> {
+    ghost output = { λ it. T.output it.value };
+
+    fn fmt<W: fmt::Write>(&self, f: &mut fmt::Formatter<W>) -> fmt::Result {
+        self.value.fmt(f)
     }
 }
 

@@ -20,13 +20,15 @@ use picky_der_core::asn1::Tag;
 use picky_der_core::misc::{ReadExt, WriteExt};
 use picky_der_de::{Begins, Deserialize, Deserializer, Faithful};
 use picky_der_ser::{Serialize, Serializer};
+use std::alloc::AllocError;
+use std::fmt;
 use std::marker::PhantomData;
 
 /// A number of `B` or below. It is encoded as the number.
 ///
 /// `INTEGER (MIN..-1)` is `AtMost<Integer, Minus<1>>`, where MIN says that there is no bound (X.680, 51.4).
 #[derive(Drop)]
-#[derive_where(Debug, PartialEq, Eq; T)]
+#[derive_where(PartialEq, Eq, PartialOrd, Ord, Hash; T)]
 pub struct AtMost<T: WholeNumber, B: Bound> {
     value: T,
     #[derive_where(skip)]
@@ -67,6 +69,37 @@ impl<T: WholeNumber, B: Bound> AtMost<T, B> {
     {
         let AtMost { value, most: _ } = self;
         value
+    }
+}
+
+/// It has a copy of the number. A copy that the bounds don't allow, which no type of this library makes, counts as a failed
+/// allocation.
+impl<T: WholeNumber + Clone, B: Bound> Clone for AtMost<T, B> {
+    ghost is_clone = { λ x y. T.is_clone x.value y.value };
+
+    fn clone(&self) -> std::result::Result<AtMost<T, B>, AllocError> {
+        match Self::new(self.value.clone()?) {
+            Some(copy) => Ok(copy),
+            None => Err(AllocError),
+        }
+    }
+}
+
+/// It prints as the number.
+impl<T: WholeNumber + fmt::Debug, B: Bound> fmt::Debug for AtMost<T, B> {
+    ghost debug_output = { λ it. T.debug_output it.value };
+
+    fn fmt<W: fmt::Write>(&self, f: &mut fmt::Formatter<W>) -> fmt::Result {
+        self.value.fmt(f)
+    }
+}
+
+/// It prints as the number.
+impl<T: WholeNumber + fmt::Display, B: Bound> fmt::Display for AtMost<T, B> {
+    ghost output = { λ it. T.output it.value };
+
+    fn fmt<W: fmt::Write>(&self, f: &mut fmt::Formatter<W>) -> fmt::Result {
+        self.value.fmt(f)
     }
 }
 

@@ -18,19 +18,27 @@ ghost use Rattle.der_types.specs.MadeValues.{vec_of};
 use crate::{
     Contents, Enumerated, Exact, ExactContents, Integer, Notated, deserialize_contents_as,
 };
+use picky_der_core::Result;
 use picky_der_core::asn1::Tag;
 use picky_der_core::misc::{ReadExt, WriteExt};
-use picky_der_core::{Asn1DerError, Result};
 use picky_der_de::{Begins, Deserialize, Deserializer, Faithful, Inhabited};
 use picky_der_ser::{Serialize, Serializer};
+use std::alloc::AllocError;
+use std::fmt;
 
-impl Enumerated {
-    /// Returns a copy, on the same allocator. `OutOfMemory` if the allocation fails.
-    pub fn clone(&self) -> Result<Enumerated>
-        ensures same { IfOk result (λ copy. copy.0.content.items ≡ self.now.0.content.items) }
-        ensures memory { IfErr result (λ e. e ≡ Asn1DerError.OutOfMemory) }
-    {
+impl Clone for Enumerated {
+    ghost is_clone = { λ x y. y.0.content.items ≡ x.0.content.items };
+
+    fn clone(&self) -> std::result::Result<Enumerated, AllocError> {
         Ok(Enumerated(self.0.clone()?))
+    }
+}
+
+impl fmt::Debug for Enumerated {
+    ghost debug_output = { ⟦<Self as fmt::Display>⟧.output };
+
+    fn fmt<W: fmt::Write>(&self, f: &mut fmt::Formatter<W>) -> fmt::Result {
+        fmt::Display::fmt(self, f)
     }
 }
 

@@ -16,20 +16,28 @@ ghost use Rattle.der_types.specs.MadeValues.{vec_of};
 
 use crate::time_contents::is_generalized_time;
 use crate::{Contents, Exact, ExactContents, GeneralizedTime, Notated, deserialize_contents_as};
+use picky_der_core::Result;
 use picky_der_core::asn1::Tag;
 use picky_der_core::misc::{ReadExt, WriteExt};
-use picky_der_core::{Asn1DerError, Result};
 use picky_der_de::{Begins, Deserialize, Deserializer, Faithful, Inhabited};
 use picky_der_ser::{Serialize, Serializer};
+use std::alloc::AllocError;
+use std::fmt;
 
-impl GeneralizedTime {
-    /// Returns a copy, on the same allocator. `OutOfMemory` if the allocation fails.
-    pub fn clone(&self) -> Result<GeneralizedTime>
-        ensures same { IfOk result (λ copy. copy.content.items ≡ self.now.content.items) }
-        ensures memory { IfErr result (λ e. e ≡ Asn1DerError.OutOfMemory) }
-    {
+impl Clone for GeneralizedTime {
+    ghost is_clone = { λ x y. y.content.items ≡ x.content.items };
+
+    fn clone(&self) -> std::result::Result<GeneralizedTime, AllocError> {
         let content = self.content.clone()?;
         Ok(GeneralizedTime { content })
+    }
+}
+
+impl fmt::Debug for GeneralizedTime {
+    ghost debug_output = { ⟦<Self as fmt::Display>⟧.output };
+
+    fn fmt<W: fmt::Write>(&self, f: &mut fmt::Formatter<W>) -> fmt::Result {
+        fmt::Display::fmt(self, f)
     }
 }
 

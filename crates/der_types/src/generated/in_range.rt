@@ -18,10 +18,12 @@ use picky_der_core::asn1::Tag;
 use picky_der_core::misc::{ReadExt, WriteExt};
 use picky_der_de::{Begins, Deserialize, Deserializer, Faithful};
 use picky_der_ser::{Serialize, Serializer};
+use std::alloc::AllocError;
+use std::fmt;
 
 /// A number from `MIN` to `MAX`, as in `INTEGER (MIN..MAX)` (X.680, 51.4). It is encoded as the number. For a range that begins below zero
 /// use `AtMost<AtLeast<T, Minus<60>>, Plus<60>>`.
-#[derive(Debug, Drop, PartialEq, Eq)]
+#[derive(Drop, PartialEq, Eq, PartialOrd, Ord, Hash)]
 pub struct InRange<T: WholeNumber, const MIN: u64, const MAX: u64> {
     value: T,
     ghost allowed: { is_between (pos MIN) (pos MAX) (T.number value) ≡ true },
@@ -57,6 +59,39 @@ impl<T: WholeNumber, const MIN: u64, const MAX: u64> InRange<T, MIN, MAX> {
     {
         let InRange { value } = self;
         value
+    }
+}
+
+/// It has a copy of the number. A copy that the bounds don't allow, which no type of this library makes, counts as a failed
+/// allocation.
+impl<T: WholeNumber + Clone, const MIN: u64, const MAX: u64> Clone for InRange<T, MIN, MAX> {
+    ghost is_clone = { λ x y. T.is_clone x.value y.value };
+
+    fn clone(&self) -> std::result::Result<InRange<T, MIN, MAX>, AllocError> {
+        match Self::new(self.value.clone()?) {
+            Some(copy) => Ok(copy),
+            None => Err(AllocError),
+        }
+    }
+}
+
+/// It prints as the number.
+impl<T: WholeNumber + fmt::Debug, const MIN: u64, const MAX: u64> fmt::Debug
+    for InRange<T, MIN, MAX> {
+    ghost debug_output = { λ it. T.debug_output it.value };
+
+    fn fmt<W: fmt::Write>(&self, f: &mut fmt::Formatter<W>) -> fmt::Result {
+        self.value.fmt(f)
+    }
+}
+
+/// It prints as the number.
+impl<T: WholeNumber + fmt::Display, const MIN: u64, const MAX: u64> fmt::Display
+    for InRange<T, MIN, MAX> {
+    ghost output = { λ it. T.output it.value };
+
+    fn fmt<W: fmt::Write>(&self, f: &mut fmt::Formatter<W>) -> fmt::Result {
+        self.value.fmt(f)
     }
 }
 

@@ -18,22 +18,29 @@ ghost use Rattle.der_types.specs.MadeValues.{small_vec_of};
 use crate::object_identifier::INLINE;
 use crate::subidentifiers::is_subidentifiers;
 use crate::{Contents, Exact, ExactContents, Notated, ObjectIdentifier, deserialize_contents_as};
+use picky_der_core::Result;
 use picky_der_core::asn1::Tag;
 use picky_der_core::misc::{ReadExt, WriteExt};
-use picky_der_core::{Asn1DerError, Result};
 use picky_der_de::{Begins, Deserialize, Deserializer, Faithful, Inhabited};
 use picky_der_ser::{Serialize, Serializer};
 use smallvec::SmallVec;
-use std::alloc::Global;
+use std::alloc::{AllocError, Global};
+use std::fmt;
 
-impl ObjectIdentifier {
-    /// Returns a copy, on the same allocator. `OutOfMemory` if the allocation fails.
-    pub fn clone(&self) -> Result<ObjectIdentifier>
-        ensures same { IfOk result (λ copy. ⟦<ObjectIdentifier as Contents>⟧.content copy ≡ ⟦<ObjectIdentifier as Contents>⟧.content self.now) }
-        ensures memory { IfErr result (λ e. e ≡ Asn1DerError.OutOfMemory) }
-    {
+impl Clone for ObjectIdentifier {
+    ghost is_clone = { λ x y. ⟦<ObjectIdentifier as Contents>⟧.content y ≡ ⟦<ObjectIdentifier as Contents>⟧.content x };
+
+    fn clone(&self) -> std::result::Result<ObjectIdentifier, AllocError> {
         let content = self.content.clone()?;
         Ok(ObjectIdentifier { content })
+    }
+}
+
+impl fmt::Debug for ObjectIdentifier {
+    ghost debug_output = { ⟦<Self as fmt::Display>⟧.output };
+
+    fn fmt<W: fmt::Write>(&self, f: &mut fmt::Formatter<W>) -> fmt::Result {
+        fmt::Display::fmt(self, f)
     }
 }
 

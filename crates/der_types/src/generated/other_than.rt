@@ -18,12 +18,14 @@ use picky_der_core::asn1::Tag;
 use picky_der_core::misc::{ReadExt, WriteExt};
 use picky_der_de::{Begins, Deserialize, Deserializer, Faithful};
 use picky_der_ser::{Serialize, Serializer};
+use std::alloc::AllocError;
+use std::fmt;
 
 /// A number other than `N`. It is encoded as the number.
 ///
 /// For a member `version INTEGER DEFAULT 0` use `Option<OtherThan<Integer, 0>>`. `None` is the default, which is never written (X.690,
 /// 11.5).
-#[derive(Debug, Drop, PartialEq, Eq)]
+#[derive(Drop, PartialEq, Eq, PartialOrd, Ord, Hash)]
 pub struct OtherThan<T: WholeNumber, const N: u64> {
     value: T,
     ghost allowed: { is_between (pos N) (pos N) (T.number value) ≡ false },
@@ -59,6 +61,37 @@ impl<T: WholeNumber, const N: u64> OtherThan<T, N> {
     {
         let OtherThan { value } = self;
         value
+    }
+}
+
+/// It has a copy of the number. A copy that the bounds don't allow, which no type of this library makes, counts as a failed
+/// allocation.
+impl<T: WholeNumber + Clone, const N: u64> Clone for OtherThan<T, N> {
+    ghost is_clone = { λ x y. T.is_clone x.value y.value };
+
+    fn clone(&self) -> std::result::Result<OtherThan<T, N>, AllocError> {
+        match Self::new(self.value.clone()?) {
+            Some(copy) => Ok(copy),
+            None => Err(AllocError),
+        }
+    }
+}
+
+/// It prints as the number.
+impl<T: WholeNumber + fmt::Debug, const N: u64> fmt::Debug for OtherThan<T, N> {
+    ghost debug_output = { λ it. T.debug_output it.value };
+
+    fn fmt<W: fmt::Write>(&self, f: &mut fmt::Formatter<W>) -> fmt::Result {
+        self.value.fmt(f)
+    }
+}
+
+/// It prints as the number.
+impl<T: WholeNumber + fmt::Display, const N: u64> fmt::Display for OtherThan<T, N> {
+    ghost output = { λ it. T.output it.value };
+
+    fn fmt<W: fmt::Write>(&self, f: &mut fmt::Formatter<W>) -> fmt::Result {
+        self.value.fmt(f)
     }
 }
 

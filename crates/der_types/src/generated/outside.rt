@@ -20,6 +20,8 @@ use picky_der_core::asn1::Tag;
 use picky_der_core::misc::{ReadExt, WriteExt};
 use picky_der_de::{Begins, Deserialize, Deserializer, Faithful};
 use picky_der_ser::{Serialize, Serializer};
+use std::alloc::AllocError;
+use std::fmt;
 use std::marker::PhantomData;
 
 /// A number below `A` or above `B`. It is encoded as the number.
@@ -27,7 +29,7 @@ use std::marker::PhantomData;
 /// `INTEGER (64 | 128)` is `Outside<InRange<u8, 64, 128>, Plus<65>, Plus<127>>`: the numbers of the range around all intervals, without the
 /// numbers between them (X.680, 50).
 #[derive(Drop)]
-#[derive_where(Debug, PartialEq, Eq; T)]
+#[derive_where(PartialEq, Eq, PartialOrd, Ord, Hash; T)]
 pub struct Outside<T: WholeNumber, A: Bound, B: Bound> {
     value: T,
     #[derive_where(skip)]
@@ -75,6 +77,37 @@ impl<T: WholeNumber, A: Bound, B: Bound> Outside<T, A, B> {
             most: _,
         } = self;
         value
+    }
+}
+
+/// It has a copy of the number. A copy that the bounds don't allow, which no type of this library makes, counts as a failed
+/// allocation.
+impl<T: WholeNumber + Clone, A: Bound, B: Bound> Clone for Outside<T, A, B> {
+    ghost is_clone = { λ x y. T.is_clone x.value y.value };
+
+    fn clone(&self) -> std::result::Result<Outside<T, A, B>, AllocError> {
+        match Self::new(self.value.clone()?) {
+            Some(copy) => Ok(copy),
+            None => Err(AllocError),
+        }
+    }
+}
+
+/// It prints as the number.
+impl<T: WholeNumber + fmt::Debug, A: Bound, B: Bound> fmt::Debug for Outside<T, A, B> {
+    ghost debug_output = { λ it. T.debug_output it.value };
+
+    fn fmt<W: fmt::Write>(&self, f: &mut fmt::Formatter<W>) -> fmt::Result {
+        self.value.fmt(f)
+    }
+}
+
+/// It prints as the number.
+impl<T: WholeNumber + fmt::Display, A: Bound, B: Bound> fmt::Display for Outside<T, A, B> {
+    ghost output = { λ it. T.output it.value };
+
+    fn fmt<W: fmt::Write>(&self, f: &mut fmt::Formatter<W>) -> fmt::Result {
+        self.value.fmt(f)
     }
 }
 

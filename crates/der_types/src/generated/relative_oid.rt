@@ -17,20 +17,28 @@ ghost use Rattle.der_types.specs.MadeValues.{vec_of};
 
 use crate::subidentifiers::is_subidentifiers;
 use crate::{Contents, Exact, ExactContents, Notated, RelativeOid, deserialize_contents_as};
+use picky_der_core::Result;
 use picky_der_core::asn1::Tag;
 use picky_der_core::misc::{ReadExt, WriteExt};
-use picky_der_core::{Asn1DerError, Result};
 use picky_der_de::{Begins, Deserialize, Deserializer, Faithful, Inhabited};
 use picky_der_ser::{Serialize, Serializer};
+use std::alloc::AllocError;
+use std::fmt;
 
-impl RelativeOid {
-    /// Returns a copy, on the same allocator. `OutOfMemory` if the allocation fails.
-    pub fn clone(&self) -> Result<RelativeOid>
-        ensures same { IfOk result (λ copy. copy.content.items ≡ self.now.content.items) }
-        ensures memory { IfErr result (λ e. e ≡ Asn1DerError.OutOfMemory) }
-    {
+impl Clone for RelativeOid {
+    ghost is_clone = { λ x y. y.content.items ≡ x.content.items };
+
+    fn clone(&self) -> std::result::Result<RelativeOid, AllocError> {
         let content = self.content.clone()?;
         Ok(RelativeOid { content })
+    }
+}
+
+impl fmt::Debug for RelativeOid {
+    ghost debug_output = { ⟦<Self as fmt::Display>⟧.output };
+
+    fn fmt<W: fmt::Write>(&self, f: &mut fmt::Formatter<W>) -> fmt::Result {
+        fmt::Display::fmt(self, f)
     }
 }
 

@@ -18,9 +18,11 @@ use picky_der_core::asn1::Tag;
 use picky_der_core::misc::{ReadExt, WriteExt};
 use picky_der_de::{Begins, Deserialize, Deserializer, Faithful};
 use picky_der_ser::{List, Serialize, Serializer};
+use std::alloc::AllocError;
+use std::fmt;
 
 /// A value whose size is from `MIN` to `MAX`, as in `SIZE (MIN..MAX)` (X.680, 51.5). It is encoded as the value.
-#[derive(Debug, Drop, PartialEq, Eq)]
+#[derive(Drop, PartialEq, Eq, PartialOrd, Ord, Hash)]
 pub struct WithSize<T: Size, const MIN: usize, const MAX: usize> {
     value: T,
     ghost allowed: { is_size MIN MAX (T.size value) ≡ true },
@@ -57,6 +59,39 @@ impl<T: Size, const MIN: usize, const MAX: usize> WithSize<T, MIN, MAX> {
     {
         let WithSize { value } = self;
         value
+    }
+}
+
+/// It has a copy of the value. A copy that the bounds don't allow, which no type of this library makes, counts as a failed
+/// allocation.
+impl<T: Size + Clone, const MIN: usize, const MAX: usize> Clone for WithSize<T, MIN, MAX> {
+    ghost is_clone = { λ x y. T.is_clone x.value y.value };
+
+    fn clone(&self) -> std::result::Result<WithSize<T, MIN, MAX>, AllocError> {
+        match Self::new(self.value.clone()?) {
+            Some(copy) => Ok(copy),
+            None => Err(AllocError),
+        }
+    }
+}
+
+/// It prints as the value.
+impl<T: Size + fmt::Debug, const MIN: usize, const MAX: usize> fmt::Debug
+    for WithSize<T, MIN, MAX> {
+    ghost debug_output = { λ it. T.debug_output it.value };
+
+    fn fmt<W: fmt::Write>(&self, f: &mut fmt::Formatter<W>) -> fmt::Result {
+        self.value.fmt(f)
+    }
+}
+
+/// It prints as the value.
+impl<T: Size + fmt::Display, const MIN: usize, const MAX: usize> fmt::Display
+    for WithSize<T, MIN, MAX> {
+    ghost output = { λ it. T.output it.value };
+
+    fn fmt<W: fmt::Write>(&self, f: &mut fmt::Formatter<W>) -> fmt::Result {
+        self.value.fmt(f)
     }
 }
 

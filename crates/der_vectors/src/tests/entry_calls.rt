@@ -1,10 +1,9 @@
 //! What the entry calls return one after another, and what they leave in a slice and in a reader or writer.
 
 use crate::tests::checks::bytes;
-use der_examples::{Gust, NumberOrFlag};
+use der_examples::{Gust, NumberOrFlag, RawAlgorithm};
 use der_fixtures::{SlowReader, SlowWriter};
 use der_types::ObjectIdentifier;
-use der_x509::AttributeTypeAndValue;
 use picky_asn1_der::Asn1DerError::{InvalidData, InvalidSink, TruncatedData};
 use picky_asn1_der::asn1::{ByteBuf, Bytes, PrintableStringAsn1};
 use picky_asn1_der::misc::{PeekableReader, ReadExt, Watched};
@@ -33,11 +32,12 @@ fn a_value_reads_back_or_does_not(rt: HostRuntime) {
     same!(rt; reads_back(rt.alloc(), &cut), Ok(false));
 }
 
-// The common name of a subject, with this element as its value.
-fn common_name(rt: &(impl Abort + AllocGlobal), element: &str) -> AttributeTypeAndValue {
-    AttributeTypeAndValue {
-        type_: ObjectIdentifier::from_str(rt.alloc(), "2.5.4.3").expect(rt, "an object identifier"),
-        value: Asn1RawDer::from(bytes(rt, element)),
+// An algorithm with this element as its parameters.
+fn algorithm(rt: &(impl Abort + AllocGlobal), element: &str) -> RawAlgorithm {
+    let algorithm = ObjectIdentifier::from_str(rt.alloc(), "1.2.840.10045.2.1");
+    RawAlgorithm {
+        algorithm: algorithm.expect(rt, "an object identifier"),
+        parameters: Some(Asn1RawDer::from(bytes(rt, element))),
     }
 }
 
@@ -50,8 +50,8 @@ fn a_struct_or_a_choice_reads_back_or_does_not(rt: HostRuntime) {
     };
     same!(rt; reads_back(alloc, &gust), Ok(true));
     same!(rt; reads_back(alloc, &NumberOrFlag::Number(5)), Ok(true));
-    same!(rt; reads_back(alloc, &common_name(&rt, "0C 01 41")), Ok(true));
-    same!(rt; reads_back(alloc, &common_name(&rt, "0C 02 41")), Ok(false));
+    same!(rt; reads_back(alloc, &algorithm(&rt, "05 00")), Ok(true));
+    same!(rt; reads_back(alloc, &algorithm(&rt, "05 01")), Ok(false));
 }
 
 #[test]

@@ -5,16 +5,17 @@
 //! test names.
 
 use crate::tests::checks::{is_encoded, is_refused, text};
+use der_elements::AnyElement;
 use der_examples::{
     Bundle, Command, Marker, Named, NumberOrFlag, Point, Script, Setting, Signed, Step, Vessel,
 };
 use der_types::{BitString, ObjectIdentifier};
 use der_x509::AlgorithmIdentifier;
+use picky_asn1_der::Asn1DerError;
 use picky_asn1_der::Asn1DerError::{InvalidData, TruncatedData};
 use picky_asn1_der::asn1::{
     Asn1SetOf, ByteBuf, ExplicitContextTag, ImplicitContextTag, ImplicitList,
 };
-use picky_asn1_der::{Asn1DerError, Asn1RawDer};
 use std::process::Abort;
 
 const EVERY_MEMBER: &str =
@@ -224,9 +225,10 @@ fn signed<T: Drop>(rt: &(impl Abort + AllocGlobal), content: T, signature: &[u8]
 
 #[test]
 fn a_bundle_has_three_signed_values(rt: HostRuntime) {
+    let null = AnyElement::from_value(rt.alloc(), &());
     let sha256_with_rsa = AlgorithmIdentifier {
         algorithm: oid(&rt, "1.2.840.113549.1.1.11"),
-        parameters: Some(Asn1RawDer(list(&rt, &[0x05, 0x00]))),
+        parameters: Some(null.expect(&rt, "an element")),
     };
     let bits = BitString::from_bits(rt.alloc(), &[true, false, true, false]);
     let number = Signed {

@@ -1,4 +1,5 @@
-use Rattle.std.proofs.Common.{◌≡◌, ◌≢◌, ◌+◌, ◌-◌, length, rules, refl, sym, ap, subst, arith}
+use Rattle.std.proofs.Common.{◌≡◌, ◌≢◌, ◌+◌, ◌-◌, length, rules, refl, sym, ap, subst, arith, ◌∙◌}
+use Rattle.der_elements.specs.Elements.{by_meaning}
 use Rattle.der_signers.specs.Digest.{content_of}
 use Rattle.der_signers.specs.Outcome.{signed_data_identifier, content_bytes, IsNoSignedData}
 use Rattle.der_signers.proofs.outcome.examine_content.Goals as goal
@@ -11,12 +12,14 @@ returns-then-not-is-clause-ok c =
 pub returns-in-Ok-clause-ok : goal.returns-in-Ok-clause-ok
 returns-in-Ok-clause-ok c =
     let kind : content_of c.args.message.content_type ≡ signed_data_identifier = search rules in
+    let value : c.deref.result.now ≡ content_bytes c.args.message =
+    c.deref.ensures.value ∙ by_meaning c.args.message.content.0 c.into_raw.result.0.items c.into_raw.ensures in
     record {
       message = c.args.message;
       whole = c.requires;
       kind = kind;
       signed_data = c.in-Ok.signed_data;
-      signed = rw c.deref.ensures.value at c.in-Ok.ensures.ok;
+      signed = rw value at c.in-Ok.ensures.ok;
       is = c.in_ok-message-in-Ok.ensures.ok;
     }
 
@@ -25,10 +28,12 @@ returns-clause-ok c =
     let kind : content_of c.args.message.content_type ≡ signed_data_identifier = search rules in
     let content = content_bytes c.args.message in
     let was = c.in_ok-error-in-Err.field-0 in
+    let value : c.deref.result.now ≡ content =
+    c.deref.ensures.value ∙ by_meaning c.args.message.content.0 c.into_raw.result.0.items c.into_raw.ensures in
     let refused : IsNoSignedData content c.in-Err.refusal c.in-Err.refusal.position =
-    rw c.deref.ensures.value at c.in-Err.ensures.err in
+    rw value at c.in-Err.ensures.err in
     let position : c.saturating_sub.result + was.position ≡ (length c.args.bytes.now - length content) + was.position =
-    omega (arith, c.saturating_sub.ensures, c.len.ensures, c.deref.ensures.len, ap length c.deref.ensures.value) in
+    omega (arith, c.saturating_sub.ensures, c.len.ensures, c.deref.ensures.len, ap length value) in
     record {
       message = c.args.message;
       whole = c.requires;

@@ -16,3 +16,13 @@ returns-clause-none g c =
     no_content_as g.N.Int.fits c.args.self.now.content.items c.number_of.result
     (subst (λ bs. IfNone c.number_of.result (g.N.Int.fits (integer_value bs) ≡ false)) c.deref.ensures.value
     c.number_of.ensures.none)
+
+pub returns-clause-number : goal.returns-clause-number
+returns-clause-number g c =
+    subst (λ bs. IfSome c.number_of.result (λ n. g.N.Int.number n ≡ integer_value bs)) c.deref.ensures.value
+    c.number_of.ensures.some
+
+pub returns-clause-beyond : goal.returns-clause-beyond
+returns-clause-beyond g c =
+    subst (λ bs. IfNone c.number_of.result (g.N.Int.fits (integer_value bs) ≡ false)) c.deref.ensures.value
+    c.number_of.ensures.none

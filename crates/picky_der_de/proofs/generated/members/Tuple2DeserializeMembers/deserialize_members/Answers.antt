@@ -28,7 +28,7 @@ returns-in_err-first-clause-refused_by g c =
 pub returns-in_err-others-clause-refused_by : goal.returns-in_err-others-clause-refused_by
 returns-in_err-others-clause-refused_by g c =
     let p = err_from_is_err_and c.from_residual-in_err-others.result c.from_residual-in_err-others.ensures.1 in
-    rw (p.1, p.2) (λ none. layout_next_by g.A.DeserializeMember.item_meaning g.A.DeserializeMember.left_out g.A.DeserializeMember.shape g.A.DeserializeMember.facts.rule _ none c.requires.implicit_tag g.A.DeserializeMember.presence (g.A.DeserializeMember.item c.in_ok-first.first) ((layout_member g.A.DeserializeMember.facts g.met.A.DeserializeMember.proved).there c.in_ok-first.first) c.in_ok-first.ensures.member c.in_ok-first.ensures.none (c.in_err-others.ensures.refused_by (still_none g.A.DeserializeMember.item_meaning g.A.DeserializeMember.shape _ _ none c.requires.implicit_tag (g.A.DeserializeMember.item c.in_ok-first.first) c.in_ok-first.ensures.member c.in_ok-first.ensures.none)))
+    rw (p.1, p.2) (λ none. layout_next_by g.A.DeserializeMember.item_meaning g.A.DeserializeMember.left_out g.A.DeserializeMember.shape g.A.DeserializeMember.facts.rule _ none c.requires.implicit_tag g.A.DeserializeMember.presence (g.A.DeserializeMember.item c.in_ok-first.first) ((layout_member g.A.DeserializeMember.facts g.met.A.DeserializeMember.proved).there c.in_ok-first.first) (g.met.A.DeserializeMember.distinguished.written c.in_ok-first.first) c.in_ok-first.ensures.member c.in_ok-first.ensures.none (c.in_err-others.ensures.refused_by (still_none g.A.DeserializeMember.item_meaning g.A.DeserializeMember.shape _ _ none c.requires.implicit_tag (g.A.DeserializeMember.item c.in_ok-first.first) c.in_ok-first.ensures.member c.in_ok-first.ensures.none)))
 
 pub returns-clause-leads : goal.returns-clause-leads
-returns-clause-leads g c = λ none last e by. layout_next_by g.A.DeserializeMember.item_meaning g.A.DeserializeMember.left_out g.A.DeserializeMember.shape g.A.DeserializeMember.facts.rule _ none c.requires.implicit_tag g.A.DeserializeMember.presence (g.A.DeserializeMember.item c.in_ok-first.first) ((layout_member g.A.DeserializeMember.facts g.met.A.DeserializeMember.proved).there c.in_ok-first.first) c.in_ok-first.ensures.member c.in_ok-first.ensures.none (c.in_ok-others.ensures.leads (still_none g.A.DeserializeMember.item_meaning g.A.DeserializeMember.shape _ _ none c.requires.implicit_tag (g.A.DeserializeMember.item c.in_ok-first.first) c.in_ok-first.ensures.member c.in_ok-first.ensures.none) last e by)
+returns-clause-leads g c = λ none last e by. layout_next_by g.A.DeserializeMember.item_meaning g.A.DeserializeMember.left_out g.A.DeserializeMember.shape g.A.DeserializeMember.facts.rule _ none c.requires.implicit_tag g.A.DeserializeMember.presence (g.A.DeserializeMember.item c.in_ok-first.first) ((layout_member g.A.DeserializeMember.facts g.met.A.DeserializeMember.proved).there c.in_ok-first.first) (g.met.A.DeserializeMember.distinguished.written c.in_ok-first.first) c.in_ok-first.ensures.member c.in_ok-first.ensures.none (c.in_ok-others.ensures.leads (still_none g.A.DeserializeMember.item_meaning g.A.DeserializeMember.shape _ _ none c.requires.implicit_tag (g.A.DeserializeMember.item c.in_ok-first.first) c.in_ok-first.ensures.member c.in_ok-first.ensures.none) last e by)

@@ -1,7 +1,7 @@
 use Rattle.std.proofs.Common.{◌≡◌, ap, ◌∙◌}
 use Rattle.std.proofs.lemmas.List.Elements.{same_from_all_zip}
 use Rattle.der_types.specs.CharacterStrings.{is_string_content}
-use Rattle.der_types.proofs.restricted_string.RestrictedString.clone.Goals as goal
+use Rattle.der_types.proofs.restricted_string.RestrictedStringClone.clone.Goals as goal
 
 pub invariant_of-result : goal.invariant_of-result
 invariant_of-result g c =
@@ -12,5 +12,5 @@ invariant_of-result g c =
           ∙ c.args.self.now.canonical;
     }
 
-pub returns-clause-same : goal.returns-clause-same
-returns-clause-same g c = same_from_all_zip _ _ _ c.in_ok-clone.ensures.cases.0 (λ x y h. h)
+pub returns : goal.returns
+returns g c = record { cases = same_from_all_zip _ _ _ c.in_ok-clone.ensures.cases.0 (λ x y h. h) }

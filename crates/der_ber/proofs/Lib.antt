@@ -1,0 +1,11 @@
+pub mod LengthLemmas
+pub mod Numbers
+pub mod FrontLemmas
+pub mod Firsts
+pub mod Joined
+pub mod Splits
+pub mod Refusals
+pub mod Places
+pub mod ReadingLemmas
+pub mod Whole
+pub mod LawLemmas

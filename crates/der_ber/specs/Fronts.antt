@@ -1,0 +1,70 @@
+-- What is at the front of bytes.
+use Rattle.std.specs.Prelude.{◌≡◌, ℕ, suc, ◌+◌, ◌<◌, ◌≤◌, true, false, List, [], ◌∷◌, ◌++◌, length}
+use Rattle.der_ber.specs.declared.error.BerRule.{BerRule}
+use Rattle.der_ber.specs.declared.front.Until.{Until}
+use Rattle.der_ber.specs.declared.front.Until.TheVariants as until
+use Rattle.der_ber.specs.declared.front.Front.{Front}
+use Rattle.der_ber.specs.declared.front.Front.TheVariants as front
+use Rattle.der_ber.specs.Nodes.{Nodes, depth}
+use Rattle.der_ber.specs.LongLengths.{IsTag, IsDefinite, HasLongLengths}
+use Rattle.der_ber.specs.Broken.{Breaks}
+
+-- the elements before these bytes end here, and others are after the end
+abbrev pub IsEnd : Until → List ℕ → List ℕ → Type 0
+IsEnd until.End bytes after = (bytes ≡ []) × (after ≡ [])
+IsEnd until.EndOfContents bytes after = bytes ≡ 0x00 ∷ (0x00 ∷ after)
+
+-- The bytes begin with a constructed element of the definite form, and with so many bytes before its content. Its
+-- elements end with the content.
+pub record OpensDefinite (bytes : List ℕ) (start : ℕ) (content : List ℕ) : Type 0 where
+  pub tag : ℕ
+  pub after : List ℕ
+  pub is_tag : IsTag tag true
+  pub definite : IsDefinite tag content bytes after
+  pub is : start ≡ 1 + length definite.octets
+
+-- the same of the indefinite form, whose elements end before an end-of-contents
+pub record OpensIndefinite (bytes : List ℕ) (start : ℕ) (inside : List ℕ) : Type 0 where
+  pub tag : ℕ
+  pub is_tag : IsTag tag true
+  pub definite : bytes ≡ tag ∷ (0x80 ∷ inside)
+  pub is : start ≡ 2
+
+abbrev pub Opens : Until → List ℕ → ℕ → List ℕ → Type 0
+Opens until.End bytes start inside = OpensDefinite bytes start inside
+Opens until.EndOfContents bytes start inside = OpensIndefinite bytes start inside
+
+-- what is at the front of the bytes, where an element may have so many levels of constructed ones
+abbrev pub IsFront : ℕ → List ℕ → Front → Type 0
+IsFront room bytes (front.Primitive tag content after) = IsTag tag false × IsDefinite tag content.now bytes after.now
+IsFront room bytes (front.Definite tag content after) = (0 < room) × IsTag tag true
+    × IsDefinite tag content.now bytes after.now
+IsFront room bytes (front.Indefinite tag inside) = (0 < room) × IsTag tag true
+    × (bytes ≡ tag ∷ (0x80 ∷ inside.now))
+IsFront room bytes (front.Broken r) = Breaks room bytes r
+
+-- ---- the first element that breaks a rule
+
+-- elements before the rest of the bytes, with at most so many levels of constructed ones, and no end there
+pub record ArePassed (until : Until) (room : ℕ) (bytes passed rest : List ℕ) : Type 0 where
+  pub nodes : Nodes
+  pub elements : HasLongLengths nodes passed
+  pub levels : depth nodes ≤ room
+  pub is : bytes ≡ passed ++ rest
+  pub goes_on : (after : List ℕ) → IsEnd until rest after → ⊥
+
+-- the element at the front breaks the rule, or one in it does, which is at this index
+pub data IsBroken : ℕ → List ℕ → ℕ → BerRule → Type 0 where
+  here : (room : ℕ) (bytes : List ℕ) (r : BerRule) → Breaks room bytes r → IsBroken room bytes 0 r
+  inside : (room : ℕ) (bytes : List ℕ) (until : Until) (start : ℕ) (content passed rest : List ℕ) (at : ℕ) (r : BerRule)
+      → Opens until bytes start content → ArePassed until room content passed rest → IsBroken room rest at r
+      → IsBroken (suc room) bytes (start + (length passed + at)) r
+
+-- one of the elements up to an end does, and those before it don't
+pub record IsRefused (until : Until) (room : ℕ) (bytes : List ℕ) (position : ℕ) (r : BerRule) : Type 0 where
+  pub passed : List ℕ
+  pub rest : List ℕ
+  pub before : ArePassed until room bytes passed rest
+  pub at : ℕ
+  pub broken : IsBroken room rest at r
+  pub is : position ≡ length passed + at

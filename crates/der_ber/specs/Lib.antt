@@ -1,0 +1,9 @@
+pub mod Nodes
+pub mod Lengths
+pub mod LongLengths
+pub mod Broken
+pub mod Fronts
+pub mod Parts
+pub mod Reading
+pub mod ShortLengths
+pub mod Laws

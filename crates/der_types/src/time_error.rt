@@ -1,0 +1,11 @@
+//! Why a date and time isn't one of a form.
+
+use thiserror::Error;
+
+/// Why a date and time isn't one of a form. It prints as the reason.
+#[derive(Debug, Clone, Copy, PartialEq, Eq, PartialOrd, Ord, Hash, Error)]
+pub enum TimeError {
+    /// Times of the form don't have this year.
+    #[error("a year that the form doesn't have")]
+    OtherYear,
+}
