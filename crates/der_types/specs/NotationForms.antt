@@ -351,6 +351,8 @@ abbrev is_list : Notation → Bool
 is_list (Notation.list-of kind t) = true
 is_list (Notation.sequence ms) = true
 is_list (Notation.sized least most t) = is_list t
+is_list (Notation.listed contents t) = is_list t
+is_list (Notation.unlisted contents t) = is_list t
 is_list _ = false
 
 -- one with a header inside that stays there
@@ -362,6 +364,8 @@ has_header (Notation.at-least least t) = has_header t
 has_header (Notation.at-most most t) = has_header t
 has_header (Notation.outside least most t) = has_header t
 has_header (Notation.permitted ranges t) = has_header t
+has_header (Notation.listed contents t) = has_header t
+has_header (Notation.unlisted contents t) = has_header t
 has_header _ = false
 
 -- 31.2.7: a choice and an open type have no tag that this one could replace, so that it is explicit. Of a type with a
@@ -370,6 +374,7 @@ abbrev implicit : TagClass → ℕ → Notation → Notation
 implicit class n (Notation.choice ts) = explicit class n (Notation.choice ts)
 implicit class n Notation.any-element = explicit class n Notation.any-element
 implicit class n Notation.well-formed-element = explicit class n Notation.well-formed-element
+implicit class n (Notation.begun-otherwise bytes) = explicit class n (Notation.begun-otherwise bytes)
 implicit class n (Notation.wrapped (wrapper.Explicit m) t) = explicit class n t
 implicit class n (Notation.wrapped (wrapper.Application m) t) = explicit class n t
 implicit class n (Notation.wrapped (wrapper.Implicit m) t) = over_primitive class n t
