@@ -3,7 +3,6 @@ use Rattle.std.proofs.Common.{◌≡◌, ℕ, ◌+◌, ◌<◌, ◌≤◌, ◌^�
 use Rattle.std.proofs.Common.{ap, ◌∙◌, arith, subst, length-append, IsUtf8, encode_utf8_all}
 use Rattle.std.specs.List.{concat}
 use Rattle.std.specs.Coded.{Unit-prop}
-use Rattle.core.specs.List.{AllByRecursion-prop}
 use Rattle.std.proofs.lemmas.Str.{chars_from_encodes}
 use lib.Utf8.{scalars}
 use mathlib.Core.Bool.{Bool-set}
@@ -30,7 +29,8 @@ use Rattle.der_types.specs.Denotes.{IsShort, EachIsShort}
 -- ---- one proof at most
 
 bytes-prop : (s : List ℕ) → IsProp (AreBytes s)
-bytes-prop s = AllByRecursion-prop (λ b. b < 256) (λ b. le_prop) s
+bytes-prop [] = Unit-prop
+bytes-prop (b ∷ bs) = ×_prop le_prop (bytes-prop bs)
 
 utf8-prop : (s : List ℕ) → IsProp (IsUtf8 s)
 utf8-prop s u v =

@@ -481,7 +481,7 @@ with_content s (Notation.any-content tag) = content_sample (Notation.any-content
 with_content s (Notation.restricted-string tag) =
     content_sample (Notation.restricted-string tag) tag s
     (with (decided (is_string_content (string_width tag) (string_character tag) s)) (λ e. Some (s, refl, e)))
-with_content (0x00 ∷ []) Notation.BOOLEAN =
+with_content s Notation.BOOLEAN =
     Some (sample Notation.BOOLEAN (Tree.primitive (Primitive.boolean false)) (false, refl, tt) tt one_short)
 with_content s n = None
 
