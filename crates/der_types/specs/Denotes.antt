@@ -1,16 +1,15 @@
 -- Which trees the types of ASN.1 denote, with their contents and ranges. The clauses are clauses of X.680 unless
 -- another one is named.
-use Rattle.std.specs.Prelude.{◌≡◌, ◌≢◌, ℕ, ◌+◌, ◌-◌, ◌^◌, ◌≤◌, ◌<◌, ℤ, pos, negsuc, Bool, true, false, ◌&&◌, ◌||◌, ◌⊎◌}
-use Rattle.std.specs.Prelude.{◌==◌, if◌then◌else◌}
-use Rattle.std.specs.Prelude.{nat_eq, nat_lt, nat_le, int_le, not, List, [], ◌∷◌, length, chars, IsTrue, ⊤}
+use Rattle.std.specs.Prelude.{◌≡◌, ◌≢◌, ℕ, ◌+◌, ◌-◌, ◌^◌, ◌≤◌, ◌<◌, ℤ, pos, negsuc, Bool, true, false, ◌&&◌, ◌||◌, ◌⊎◌, ◌==◌}
+use Rattle.std.specs.Prelude.{nat_eq, nat_lt, nat_le, int_le, not, List, [], ◌∷◌, length, chars, IsTrue, ⊤, if◌then◌else◌}
 use Rattle.picky_der_core.specs.declared.asn1.tag.TagClass.TheVariants.{ContextSpecific}
 use Rattle.picky_der_core.specs.declared.asn1.wrapper.Wrapper.TheVariants as wrapper
 use Rattle.picky_der_core.specs.Tag.{class_of, number_of}
+use Rattle.picky_der_core.specs.Encoding.{der}
 use Rattle.picky_der_core.specs.Integer.{integer_content, integer_value, integer_tree, fits_signed}
 use Rattle.picky_der_core.specs.Primitive.{Primitive, primitive_content}
 use Rattle.picky_der_core.specs.Readable.{IsReadable}
-use Rattle.picky_der_core.specs.Shape.{AllOrNone, AreOthers, EachIs, FirstAndRest, FirstOrNone, IsEmpty, begins_outside}
-use Rattle.picky_der_core.specs.Shape.{contains}
+use Rattle.picky_der_core.specs.Shape.{AllOrNone, AreOthers, EachIs, FirstAndRest, FirstOrNone, IsEmpty, begins_outside, contains}
 use Rattle.picky_der_core.specs.Tree.{ListKind, Tree, Trees}
 use Rattle.std.specs.Cmp.Lexicographic.{pointwise}
 use Rattle.std.specs.List.{list_all}
@@ -114,6 +113,10 @@ abbrev pub IsWellFormedTree : Tree → Type 0
 IsWellFormedTree (Tree.raw s) = ∥ IsWellFormed s ∥₁
 IsWellFormedTree _ = ⊥
 
+-- the bytes are the encoding of a readable tree that is so
+abbrev pub IsEncodedAs : (Tree → Type 0) → List ℕ → Type 0
+IsEncodedAs P s = (t : Tree) × (s ≡ der t) × IsReadable t × P t
+
 -- A readable tree that is denoted is a value's.
 abbrev mutual
   pub Denotes : Notation → Tree → Type 0
@@ -150,6 +153,8 @@ abbrev mutual
   Denotes (Notation.listed contents t) = λ x. Denotes t x × (is_listed contents (tree_content x) ≡ true)
   Denotes (Notation.unlisted contents t) = λ x. Denotes t x × (not (is_listed contents (tree_content x)) ≡ true)
   Denotes (Notation.begun-otherwise bytes) = IsMade Tree.raw (λ s. begins_outside bytes s ≡ true)
+  Denotes (Notation.encoded t) = IsMade Tree.raw (IsEncodedAs (Denotes t))
+  Denotes (Notation.one-of ts) = IsMade Tree.raw (λ s. DenoteOneOf ts (Tree.raw s))
 
   -- a member before others, for which P holds. One that is its default isn't there (X.690, 11.5).
   pub DenoteFirst : Member → (Trees → Type 0) → Trees → Type 0
