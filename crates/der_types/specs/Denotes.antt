@@ -154,7 +154,7 @@ abbrev mutual
   Denotes (Notation.unlisted contents t) = λ x. Denotes t x × (not (is_listed contents (tree_content x)) ≡ true)
   Denotes (Notation.begun-otherwise bytes) = IsMade Tree.raw (λ s. begins_outside bytes s ≡ true)
   Denotes (Notation.encoded t) = IsMade Tree.raw (IsEncodedAs (Denotes t))
-  Denotes (Notation.one-of ts) = IsMade Tree.raw (λ s. DenoteOneOf ts (Tree.raw s))
+  Denotes (Notation.element-of ts) = IsMade Tree.raw (λ s. DenoteOneOf ts (Tree.raw s))
 
   -- a member before others, for which P holds. One that is its default isn't there (X.690, 11.5).
   pub DenoteFirst : Member → (Trees → Type 0) → Trees → Type 0

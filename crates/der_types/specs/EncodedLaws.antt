@@ -125,6 +125,7 @@ counted (Trees.more t ts) r =
 
 mutual
   unfolding tree_bytes
+
   short : (header : Bool) (t : Tree) → IsReadable t → length (tree_bytes header t) < 2 ^ 63 → IsShort t
   short header (Tree.primitive p) r h =
       below _ _ (2 ^ 63) (content_below header (primitive_tag p) (primitive_content p)) h
@@ -135,7 +136,7 @@ mutual
   short header (Tree.wrapped w t) r h =
       let present = never_absent (can_vanish w) (is_absent t) (is_absent-readable t r.2) in
       let inside = wrapped_below (can_vanish w && is_absent t) (wrapper_tag w) (wrapper_front w)
-          (tree_bytes (keeps_header w) t) present in
+      (tree_bytes (keeps_header w) t) present in
       short (keeps_header w) t r.2 (below _ _ (2 ^ 63) inside h)
   short header (Tree.raw s) r h = h
   short header (Tree.choice t) r h = short header t r h

@@ -46,8 +46,8 @@ module _ {A V : Type 0} (a : Values A) (n : Notation) (means : A → Tree) {s : 
 -- an element of one of several types, each of which is the part of a value
 module _ {V R : Type 0} (b : ChoiceValues R) (ts : Alternatives) (chosen : R → Tree) (bytes : V → List ℕ) (parts : V
     → R) (whole : (r : R) → (v : V) × (parts v ≡ r)) (same : (v : V) → Tree.raw (bytes v) ≡ chosen (parts v)) where
-  pub one_of_exact : IsExact (DenoteOneOf ts) chosen → IsExact (Denotes (Notation.one-of ts)) (λ v. Tree.raw (bytes v))
-  one_of_exact is =
+  pub element_exact : IsExact (DenoteOneOf ts) chosen → IsExact (Denotes (Notation.element-of ts)) (λ v. Tree.raw (bytes v))
+  element_exact is =
       made_exact Tree.raw (λ s. DenoteOneOf ts (Tree.raw s)) bytes
       (λ v r. subst (DenoteOneOf ts) (sym (same v)) (is.sound (parts v) (subst IsReadable (same v) r)))
       (λ s d r h.
@@ -55,10 +55,10 @@ module _ {V R : Type 0} (b : ChoiceValues R) (ts : Alternatives) (chosen : R →
       let v = whole x.0 in
       (v.0, raw_bytes (bytes v.0) s (same v.0 ∙ (ap chosen v.1 ∙ x.1))))
 
-  abbrev pub one_of_values : Values V
-  one_of_values = record {
-    notation = Notation.one-of ts;
+  abbrev pub element_values : Values V
+  element_values = record {
+    notation = Notation.element-of ts;
     meaning = λ v. Tree.raw (bytes v);
     Premise = ProvedChoice b ts chosen;
-    follows = λ o. one_of_exact (is_exact_choice b o);
+    follows = λ o. element_exact (is_exact_choice b o);
   }

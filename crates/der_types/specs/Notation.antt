@@ -62,7 +62,7 @@ mutual
     -- an element that is the encoding of a value of this type, as in an open type whose type is known (X.681, 14.2)
     encoded : Notation → Notation
     -- an element that is one of several types of elements, which all of it decides (X.682, 10.3)
-    one-of : Alternatives → Notation
+    element-of : Alternatives → Notation
 
   -- 25.1: a member that is always there, one that may be absent, and one that is absent where it means this tree
   pub data Member : Type 0 where
@@ -118,7 +118,7 @@ abbrev mutual
   shape_of (Notation.unlisted contents t) = shape_of t
   shape_of (Notation.begun-otherwise bytes) = Shape.raw
   shape_of (Notation.encoded t) = Shape.raw
-  shape_of (Notation.one-of ts) = Shape.raw
+  shape_of (Notation.element-of ts) = Shape.raw
 
   -- a member before others
   pub member_then : Member → Layout → Layout

@@ -277,6 +277,33 @@ later-alternatives-refused = Alternatives.none
 abbrev pub CHOICE : Alternatives → Notation
 CHOICE = Notation.choice
 
+-- each as an element that is its encoding
+abbrev elements-of : Alternatives → Alternatives
+elements-of Alternatives.none = Alternatives.none
+elements-of (Alternatives.alternative t ts) = Alternatives.alternative (Notation.encoded t) (elements-of ts)
+
+-- an element of one of these types, which all of it decides, as an object of a table does (X.682, 10)
+abbrev pub one-of : Alternatives → Notation
+one-of ts = Notation.element-of (elements-of ts)
+
+-- bytes in ascending order, each of them once
+abbrev with_byte : ℕ → List ℕ → List ℕ
+with_byte b [] = b ∷ []
+with_byte b (c ∷ cs) = if nat_lt b c then b ∷ c ∷ cs else (if b == c then c ∷ cs else c ∷ with_byte b cs)
+
+abbrev in_byte_order : List ℕ → List ℕ
+in_byte_order [] = []
+in_byte_order (b ∷ bs) = with_byte b (in_byte_order bs)
+
+-- alternatives, and those of later versions: elements with other tags, whether they are primitive or constructed
+abbrev and-later : List ℕ → Alternatives → Alternatives
+and-later known Alternatives.none = Notation.begun-otherwise (in_byte_order (in_both_forms known)) ∣ Alternatives.none
+and-later known (Alternatives.alternative t ts) = t ∣ and-later (known ++ firsts (shape_of t)) ts
+
+-- 29.1: an extensible one, where an alternative of a later version may be there
+abbrev pub CHOICE-extensible : Alternatives → Notation
+CHOICE-extensible ts = one-of (and-later [] ts)
+
 -- X.682, 11
 abbrev pub OCTET-STRING-CONTAINING : Notation → Notation
 OCTET-STRING-CONTAINING = Notation.wrapped wrapper.OctetContainer
@@ -376,7 +403,7 @@ implicit class n Notation.any-element = explicit class n Notation.any-element
 implicit class n Notation.well-formed-element = explicit class n Notation.well-formed-element
 implicit class n (Notation.begun-otherwise bytes) = explicit class n (Notation.begun-otherwise bytes)
 implicit class n (Notation.encoded t) = explicit class n (Notation.encoded t)
-implicit class n (Notation.one-of ts) = explicit class n (Notation.one-of ts)
+implicit class n (Notation.element-of ts) = explicit class n (Notation.element-of ts)
 implicit class n (Notation.wrapped (wrapper.Explicit m) t) = explicit class n t
 implicit class n (Notation.wrapped (wrapper.Application m) t) = explicit class n t
 implicit class n (Notation.wrapped (wrapper.Implicit m) t) = over_primitive class n t

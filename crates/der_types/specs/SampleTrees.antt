@@ -582,7 +582,7 @@ abbrev mutual
       (λ e. Some (sample (Notation.begun-otherwise bytes) (Tree.raw (0x05 ∷ 0x00 ∷ [])) (0x05 ∷ 0x00 ∷ [], refl, e)
       null_element_readable two_short))
   sample_of wish (Notation.encoded n) = None
-  sample_of wish (Notation.one-of ts) = None
+  sample_of wish (Notation.element-of ts) = None
 
   pub members_sample : (ms : Members) → Option (MembersSample ms)
   members_sample Members.end = Some (record { trees = Trees.none; denoted = tt; readable = tt; short = tt })

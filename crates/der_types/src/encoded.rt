@@ -17,9 +17,10 @@ ghost use Rattle.der_types.specs.Notation.{Notation};
 
 use crate::{Exact, Notated};
 use picky_asn1_der::Asn1RawDer;
+use picky_der_core::asn1::Tag;
 use picky_der_core::misc::{ReadExt, WriteExt};
 use picky_der_core::{Asn1DerError, Result};
-use picky_der_de::{Deserialize, Deserializer, TryVia, from_der, try_deserialize_as};
+use picky_der_de::{Begins, Deserialize, Deserializer, TryVia, from_der, try_deserialize_as};
 use picky_der_ser::{Serialize, Serializer};
 use std::alloc::AllocError;
 use std::fmt;
@@ -134,6 +135,12 @@ impl<T: Deserialize> Deserialize for Encoded<T> {
 
     fn deserialize<R: ReadExt>(deserializer: &mut Deserializer<R>) -> Result<Encoded<T>> {
         try_deserialize_as(deserializer)
+    }
+}
+
+impl<T: Deserialize> Begins for Encoded<T> {
+    fn begins_with(tag: Tag) -> bool {
+        <Asn1RawDer as Begins>::begins_with(tag)
     }
 }
 
