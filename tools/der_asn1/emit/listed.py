@@ -1,12 +1,13 @@
 """A type of listed values (X.680, 51.2): a struct round those values of another type whose content is a listed one, or none of these."""
 from ..derive.derived_types import determined
 from ..meaning.declarations import ListedDeclaration
-from ..meaning.listed import PART, access_of
+from ..meaning.listed import GHOST, PART, access_of, is_true, listed_contents, truth_content
+from ..meaning.terms import byte_list, content_list
 from ..meaning.wording import snake
 from .comments import difference_note, sentence
 from .imports import PRELUDE, Uses
-from .layout import STEP, WIDTH, comment, head, signature
-from .newtype import notated_impl
+from .layout import GHOST_WIDTH, STEP, WIDTH, comment, head, signature
+from .newtype import quoted
 from .tested import constructor, tested_impls, tested_uses
 from .union import TRIED, element_impls, element_uses, equal_impl, parts, serialize_impl
 from .values import value_lines
@@ -15,6 +16,9 @@ from .values import value_lines
 LISTED_FILE = "Listed"
 _TWO = STEP * 2
 _TRUTH, _RAW = "tree_truth", "raw_bytes"
+_EXACT = "Rattle.der_types.specs.ExactListed"
+# why a BOOLEAN is the listed one, by whether that is TRUE
+_TRUTHS = {True: "true_listed", False: "false_listed"}
 _PRELUDE_ORDER = ["ℕ", "Bool", "false", "not", "◌||◌", "nat_eq", "nat_le", "List", "[]", "◌∷◌", "length"]
 _TERMS_WIDTH = 120
 
@@ -52,18 +56,37 @@ def listed_uses(declared: ListedDeclaration, crate: str) -> Uses:
     if is_encoded(declared):
         found = element_uses(declared.type.names())
         found.add(Uses(terms={home(crate): {declared.function}, PRELUDE: {"◌≡◌", "true", "false", "IfSome", "IfNone"}}))
+        found.add(exact_uses(declared))
         return found
     found = tested_uses(declared, known(declared, crate))
     words = {"string_bytes"} if "string_bytes" in declared.test else set()
-    found.add(Uses({"Notated"}, terms={home(crate): {declared.function}, PRELUDE: {"◌≡◌", "true", "refl", *words}}))
+    found.add(Uses(terms={home(crate): {declared.function}, PRELUDE: {"◌≡◌", "true", *words}}))
+    found.add(exact_uses(declared))
     return found
+
+
+def exact_uses(declared: ListedDeclaration) -> Uses:
+    """What the implementations of `Notated` and `Exact` name."""
+    found = Uses({"Notated", "Exact"}, terms={PRELUDE: {"refl", *_operators(declared)}, _EXACT: {values_of(declared)}})
+    found.add(Uses(terms={"Rattle.der_types.specs.Notation": {"Notation"}}))
+    if is_boolean(declared):
+        found.add(Uses(terms={_EXACT: {_TRUTHS[is_true(declared)]}}))
+    if is_element(declared):
+        found.add(Uses(terms={"Rattle.der_types.specs.MadeValues": {"vec_of"}}))
+    return found
+
+
+def _operators(declared: ListedDeclaration) -> set[str]:
+    """What the contents name, if there are some."""
+    return set() if declared.most is not None else {"[]", "◌∷◌"}
 
 
 def listed_lines(declared: ListedDeclaration, crate: str) -> list[str]:
     """The items of a type of listed values."""
     own = [*definition(declared), "", *function(declared)]
     if not is_encoded(declared):
-        return [*own, "", *tested_impls(declared, known(declared, crate)), "", *notated_impl(declared)]
+        items = [tested_impls(declared, known(declared, crate)), notated_impl(declared), exact_impl(declared)]
+        return [*own, *(line for it in items for line in ["", *it])]
     code = f"{PART}.encoding()"
     items = [
         constructor(declared),
@@ -71,6 +94,8 @@ def listed_lines(declared: ListedDeclaration, crate: str) -> list[str]:
         serialize_impl(declared.name, code),
         try_via_impl(declared),
         *element_impls(declared.name),
+        notated_impl(declared),
+        exact_impl(declared),
     ]
     return [*own, *(line for it in items for line in ["", *it])]
 
@@ -95,6 +120,79 @@ def try_via_impl(declared: ListedDeclaration) -> list[str]:
     ]
 
 
+def given(declared: ListedDeclaration) -> str:
+    """What the notation lists, as a term: contents, first bytes of elements, or the greatest size."""
+    if declared.most is not None:
+        return str(declared.most)
+    if is_element(declared):
+        return f"({byte_list(b''.join(listed_contents(declared)))})"
+    return content_list([truth_content(declared)] if is_boolean(declared) else listed_contents(declared))
+
+
+def is_unlisted(declared: ListedDeclaration) -> bool:
+    """Whether the values are those with other contents. A BOOLEAN that isn't one value is the other one."""
+    return declared.contents.is_other and not is_boolean(declared)
+
+
+def notation_of(declared: ListedDeclaration) -> str:
+    """What it is in ASN.1, as a term."""
+    if is_element(declared):
+        return f"Notation.begun-otherwise {given(declared)}"
+    word = f"sized 0 {given(declared)}" if declared.most is not None else f"{'unlisted' if is_unlisted(declared) else 'listed'} {given(declared)}"
+    return f"Notation.{word} {quoted(declared, 'Notated')}.notation"
+
+
+def values_of(declared: ListedDeclaration) -> str:
+    """The word of der_types for what it says of its values."""
+    if is_element(declared):
+        return "begun_otherwise_values"
+    return "most_values" if declared.most is not None else "unlisted_values" if is_unlisted(declared) else "listed_values"
+
+
+def notated_impl(declared: ListedDeclaration) -> list[str]:
+    """The implementation of `Notated`: which values the type inside has, by their contents."""
+    return [
+        f"impl Notated for {declared.name} {{",
+        *broken_ghost("notation", notation_of(declared).split(" ")),
+        "",
+        f"{STEP}ghost denoted = {{ refl }};",
+        "}",
+    ]
+
+
+def exact_impl(declared: ListedDeclaration) -> list[str]:
+    """The implementation of `Exact`: the type inside is, and its contents decide the test."""
+    record = f"(record {{ {PART} = x; {GHOST} = p }}, refl)"
+    if is_element(declared):
+        made = f"(record {{ {PART} = record {{ 0 = vec_of s h }}; {GHOST} = p }}, refl)"
+        words = [values_of(declared), *given(declared).split(" "), f"(λ it. it.{PART}.0.items)", f"(λ it. it.{GHOST})", f"(λ s p h. {made})"]
+    else:
+        facts = [f"{quoted(declared, trait)}.{name}" for trait, name in (("Exact", "values"), ("Notated", "notation"), ("Serialize", "meaning"))]
+        same = _TRUTHS[is_true(declared)] if is_boolean(declared) else "(λ x. refl)"
+        words = [values_of(declared), *facts, f"(λ {PART}. {declared.test})", f"(λ it. it.{PART})", f"(λ it. it.{GHOST})", f"(λ x p. {record})"]
+        words += [*given(declared).split(" "), same]
+    return [
+        f"impl Exact for {declared.name} {{",
+        *broken_ghost("values", words),
+        "",
+        f"{STEP}ghost exact = {{ Prim.assumption }};",
+        "}",
+    ]
+
+
+def broken_ghost(name: str, words: list[str]) -> list[str]:
+    """A ghost item of these words, on lines that are short enough."""
+    lines, now = [], f"{STEP}ghost {name} = {{"
+    for number, it in enumerate(words):
+        more = f"{now} {it}" if now.strip() else f"{now}{it}"
+        end = len(" };") if number == len(words) - 1 else 0
+        if len(more) + end > GHOST_WIDTH and now.strip():
+            lines.append(now)
+            more = f"{_TWO}{it}"
+        now = more
+    return [*lines, f"{now} }};"]
+
+
 def definition(declared: ListedDeclaration) -> list[str]:
     """The struct with its comments, after the contents that its test names."""
     lines = []
@@ -116,7 +214,7 @@ def definition(declared: ListedDeclaration) -> list[str]:
 
 def contents(declared: ListedDeclaration) -> list[bytes]:
     """The contents that are listed, in their order. A BOOLEAN needs none, and the first bytes of elements are in one list."""
-    found = sorted(declared.contents.listed)
+    found = listed_contents(declared)
     return [] if is_boolean(declared) else [b"".join(found)] if is_element(declared) else found
 
 
@@ -175,11 +273,6 @@ def part_lines(before: str, part: str, after: str) -> list[str]:
     if len(f"{before}{part}{after}") <= WIDTH or not bracket:
         return [f"{before}{part}{after}"]
     return [f"{before}{name}(", f"{_TWO}{STEP}{argument.removesuffix(')')},", f"{_TWO}){after}"]
-
-
-def is_true(declared: ListedDeclaration) -> bool:
-    """Whether TRUE is the value of a BOOLEAN that is left."""
-    return (b"\xff" in declared.contents.listed) != declared.contents.is_other
 
 
 # ---- terms
