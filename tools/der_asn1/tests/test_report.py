@@ -60,7 +60,7 @@ class Reports(unittest.TestCase):
 
     def test_types_without_exact_are_named(self):
         found = report.without_exact(self.found)
-        self.assertEqual("4 of 6 (66.7 %) with `Exact`, and 4 of 6 (66.7 %) with `Faithful`", found[0])
+        self.assertEqual("4 of 6 (66.7 %) with `Exact` and `Faithful`", found[0])
         self.assertEqual(["M.E has none: tags with a number above 30", "M.G has none: not read"], [it.strip() for it in found[1:]])
 
     def test_types_without_a_readable_value_are_named(self):
