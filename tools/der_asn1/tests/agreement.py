@@ -220,7 +220,7 @@ class Agreement:
         if presences[0] is tree.Presence.DEFAULT:
             return self.default(mine.program, one) in ("{}", self.default(other.program, two))
         groups = [it.member.group is not None for it in (one, two)]
-        return presences[0] is tree.Presence.OPTIONAL or groups[0] == groups[1]
+        return isinstance(mine.type, tree.ChoiceType) or presences[0] is tree.Presence.OPTIONAL or groups[0] == groups[1]
 
     def default(self, program: Program, resolved) -> object:
         """A default: a truth, a number, the number of an item, or braces for none of these."""
