@@ -134,12 +134,12 @@ def is_unlisted(declared: ListedDeclaration) -> bool:
     return declared.contents.is_other and not is_boolean(declared)
 
 
-def notation_of(declared: ListedDeclaration) -> str:
-    """What it is in ASN.1, as a term."""
+def notation_of(declared: ListedDeclaration) -> list[str]:
+    """What it is in ASN.1, as the words of a term."""
     if is_element(declared):
-        return f"Notation.begun-otherwise {given(declared)}"
-    word = f"sized 0 {given(declared)}" if declared.most is not None else f"{'unlisted' if is_unlisted(declared) else 'listed'} {given(declared)}"
-    return f"Notation.{word} {quoted(declared, 'Notated')}.notation"
+        return ["Notation.begun-otherwise", given(declared)]
+    word = "sized 0" if declared.most is not None else "unlisted" if is_unlisted(declared) else "listed"
+    return [f"Notation.{word}", given(declared), f"{quoted(declared, 'Notated')}.notation"]
 
 
 def values_of(declared: ListedDeclaration) -> str:
@@ -153,7 +153,7 @@ def notated_impl(declared: ListedDeclaration) -> list[str]:
     """The implementation of `Notated`: which values the type inside has, by their contents."""
     return [
         f"impl Notated for {declared.name} {{",
-        *broken_ghost("notation", notation_of(declared).split(" ")),
+        *broken_ghost("notation", notation_of(declared)),
         "",
         f"{STEP}ghost denoted = {{ refl }};",
         "}",

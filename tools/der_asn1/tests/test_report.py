@@ -70,6 +70,18 @@ class Reports(unittest.TestCase):
         self.assertEqual("2 of 4 (50.0 %) with `Inhabited`", found[0])
         self.assertEqual(["M.A has none: no readable value is found", "M.B has none: no readable value is found"], [it.strip() for it in found[1:]])
 
+    def test_readable_values_of_listed_ones(self):
+        problems = Problems()
+        body = """A ::= OBJECT IDENTIFIER ({ 1 2 3 })
+B ::= UTF8String ("x")
+C ::= BOOLEAN (TRUE)
+D ::= CHOICE { a INTEGER, ... }
+E ::= OCTET STRING (ALL EXCEPT ''H)
+F ::= BIT STRING { a(0) } (SIZE (4))
+G ::= OBJECT IDENTIFIER (ALL EXCEPT { 1 2 })"""
+        found = report.without_inhabited(report.report_of(read_text(module_text(body), "m.asn1", problems), problems))
+        self.assertEqual(["M.B", "M.D", "M.G"], [it.split()[0] for it in found[1:]])
+
     def test_shares(self):
         self.assertEqual("1 of 4 (25.0 %)", report.share(1, 4))
         self.assertEqual("0 of 0 (0.0 %)", report.share(0, 0))
