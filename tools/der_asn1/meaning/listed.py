@@ -94,6 +94,10 @@ def listed(meanings: "Meanings", meaning: Meaning, type_: tree.Type, scope: Scop
     rust, contents = meaning.rust, limits.contents
     if contents.is_all() or rust is None or rust.own or rust.bounded or rust.text not in ACCESSED:
         return meaning, limits
+    if rust.core is Core.BOOL:
+        contents = Contents(frozenset(filter(contents.has, (FALSE_CONTENT, TRUE_CONTENT))), False)
+        if len(contents.listed) > 1:
+            return meaning, replace(limits, contents=ANY_CONTENT)
     if not contents.is_other and limits.alphabet == NATURAL:
         contents = Contents(frozenset(it for it in contents.listed if _fits(it, limits, rust)), False)
         limits = replace(limits, size=NATURAL)

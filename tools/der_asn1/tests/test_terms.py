@@ -89,7 +89,7 @@ class Terms(unittest.TestCase):
 
     def test_listed_values(self):
         pairs = [("IA5String (\"b\" | \"a\")", "listed ((0x61 ∷ []) ∷ (0x62 ∷ []) ∷ []) IA5String")]
-        pairs += [("BOOLEAN (TRUE)", "listed ((0xFF ∷ []) ∷ []) BOOLEAN"), ("BOOLEAN (ALL EXCEPT TRUE)", "listed ((0x00 ∷ []) ∷ []) BOOLEAN")]
+        pairs += [("BOOLEAN (TRUE)", "listed ((0xFF ∷ []) ∷ []) BOOLEAN"), ("BOOLEAN (ALL EXCEPT TRUE)", "listed ((0x00 ∷ []) ∷ []) BOOLEAN"), ("BOOLEAN (TRUE | FALSE)", "BOOLEAN")]
         pairs += [("OBJECT IDENTIFIER (ALL EXCEPT { 1 2 3 })", "unlisted ((0x2A ∷ 0x03 ∷ []) ∷ []) OBJECT-IDENTIFIER")]
         pairs += [("OCTET STRING ('0102'H | ''H)", "listed ([] ∷ (0x01 ∷ 0x02 ∷ []) ∷ []) OCTET-STRING")]
         pairs += [("BIT STRING ('101'B | ''B)", "listed ((0x00 ∷ []) ∷ (0x05 ∷ 0xA0 ∷ []) ∷ []) BIT-STRING")]
