@@ -126,7 +126,7 @@ def default_impl(declared: Made, types: Types) -> list[str]:
         return []
     terms = [f"{it.name} = {left_out(it, types).term}" for it in declared.fields]
     line = f"{STEP}ghost is_default = {{ λ it. it ≡ record {{ {'; '.join(terms)} }} }};"
-    broken = [f"{STEP}ghost is_default = {{ λ it. it ≡ record {{", *(f"{_TWO}{it};" for it in terms), f"{STEP}}} }};"]
+    broken = [f"{STEP}ghost is_default = {{ λ it. it ≡ record {{", *(f"{STEP}  {it};" for it in terms), f"{STEP}}} }};"]
     return [
         "",
         f"impl Default for {declared.name} {{",

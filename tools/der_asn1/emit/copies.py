@@ -76,13 +76,20 @@ def copied(part: list[Field]) -> list[str]:
     """The lines that copy these members."""
     names = [it.name for it in part]
     function, given = f"{COPIES}::{function_name(len(part))}", [f"&self.{it}" for it in names]
-    pattern = [f"{_TWO}let ({', '.join(names)}) ="]
-    if len(f"{pattern[0]} {function}(") > WIDTH:
-        pattern = [f"{_TWO}let (", *(f"{_THREE}{it}," for it in names), f"{_TWO}) ="]
-    line = f"{pattern[-1]} {function}({', '.join(given)})?;"
+    pattern = f"{_TWO}let ({', '.join(names)}) ="
+    if len(pattern) > WIDTH:
+        return [f"{_TWO}let (", *(f"{_THREE}{it}," for it in names), *call(f"{_TWO}) = ", _TWO, function, given)]
+    if len(f"{pattern} {function}(") > WIDTH:
+        return [pattern, *call(_THREE, _THREE, function, given)]
+    return call(f"{pattern} ", _TWO, function, given)
+
+
+def call(before: str, indent: str, function: str, given: list[str]) -> list[str]:
+    """The call of a function after `before`: on one line, or with an argument on each."""
+    line = f"{before}{function}({', '.join(given)})?;"
     if len(line) <= WIDTH and len(", ".join(given)) <= TUPLE_WIDTH:
-        return [*pattern[:-1], line]
-    return [*pattern[:-1], f"{pattern[-1]} {function}(", *(f"{_THREE}{it}," for it in given), f"{_TWO})?;"]
+        return [line]
+    return [f"{before}{function}(", *(f"{indent}{STEP}{it}," for it in given), f"{indent})?;"]
 
 
 def literal(declared: StructDeclaration) -> list[str]:
