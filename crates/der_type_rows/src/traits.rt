@@ -1,5 +1,5 @@
-//! Which traits the types of the library have: a generic function for each trait, and for each family of types a function
-//! that calls them for all of its types.
+//! Which traits the types of the library have: a generic function for each trait, and for each family of types a
+//! function that calls them for all of its types.
 
 use der_types::{
     Asn1Set, AtLeast, AtMost, BitString, BmpString, DateTime, Encoded, Enumerated, GeneralString,

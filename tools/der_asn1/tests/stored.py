@@ -12,6 +12,7 @@ _HEADING = re.compile(r"^==> (.*) <==\n", re.MULTILINE)
 # more options of a module
 _OPTIONS = {
     "filter": ["--depth", "3"],
+    "fleet": ["--allow-raw", "Consumption"],
     "ldap": ["--depth", "3"],
     "options": ["--constructors"],
     "parcel": ["--derive", "Clone"],
