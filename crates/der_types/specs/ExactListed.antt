@@ -1,6 +1,6 @@
 -- Types of listed values, and elements of later versions: their values are exactly those that the notation denotes.
-use Rattle.std.specs.Prelude.{◌≡◌, ℕ, ◌^◌, ◌<◌, Bool, true, false, not, List, [], ◌∷◌, length, nat_le, refl}
-use Rattle.std.proofs.Common.{◌∙◌}
+use Rattle.std.specs.Prelude.{◌≡◌, ℕ, ◌^◌, ◌<◌, Bool, true, false, not, ◌&&◌, List, [], ◌∷◌, length, nat_le, refl}
+use Rattle.std.proofs.Common.{sym, ap, ◌∙◌, arith, le-leb}
 use Rattle.picky_der_core.specs.Primitive.{boolean_content}
 use Rattle.picky_der_core.specs.Shape.{begins_outside}
 use Rattle.picky_der_core.specs.Tree.{Tree}
@@ -20,8 +20,8 @@ false_listed false = refl
 false_listed true = refl
 
 -- a size from none to a greatest one
-from_none : (most size : ℕ) → nat_le size most ≡ is_size 0 most size
-from_none most size = refl
+pub from_none : (most size : ℕ) → nat_le size most ≡ is_size 0 most size
+from_none most size = sym (ap (λ b. b && nat_le size most) (le-leb 0 size (omega arith)))
 
 -- a type around those values of another one that a test of their contents allows
 module _ {A V : Type 0} (a : Values A) (n : Notation) (means : A → Tree) (allows : A
