@@ -46,7 +46,8 @@ module _ {A V : Type 0} (a : Values A) (n : Notation) (means : A → Tree) {s : 
 -- an element of one of several types, each of which is the part of a value
 module _ {V R : Type 0} (b : ChoiceValues R) (ts : Alternatives) (chosen : R → Tree) (bytes : V → List ℕ) (parts : V
     → R) (whole : (r : R) → (v : V) × (parts v ≡ r)) (same : (v : V) → Tree.raw (bytes v) ≡ chosen (parts v)) where
-  pub element_exact : IsExact (DenoteOneOf ts) chosen → IsExact (Denotes (Notation.element-of ts)) (λ v. Tree.raw (bytes v))
+  pub element_exact : IsExact (DenoteOneOf ts) chosen
+      → IsExact (Denotes (Notation.element-of ts)) (λ v. Tree.raw (bytes v))
   element_exact is =
       made_exact Tree.raw (λ s. DenoteOneOf ts (Tree.raw s)) bytes
       (λ v r. subst (DenoteOneOf ts) (sym (same v)) (is.sound (parts v) (subst IsReadable (same v) r)))

@@ -28,13 +28,15 @@ module _ {A V : Type 0} (a : Values A) (n : Notation) (means : A → Tree) (allo
     → Bool) (part : V → A) (kept : (v : V) → allows (part v) ≡ true) (whole : (x : A) → allows x ≡ true
     → (v : V) × (part v ≡ x)) where
   -- those with a listed content
-  abbrev pub listed_values : (contents : List (List ℕ)) → ((x : A) → allows x ≡ is_listed contents (tree_content (means x))) → Values V
+  abbrev pub listed_values : (contents : List (List ℕ))
+      → ((x : A) → allows x ≡ is_listed contents (tree_content (means x))) → Values V
   listed_values contents same = values_by a n means (Notation.listed contents n) (λ v. means (part v))
       (λ is. constrained_exact (Denotes n) means is allows (λ t. is_listed contents (tree_content t)) (λ x r. same x)
       true part kept whole)
 
   -- those with another content
-  abbrev pub unlisted_values : (contents : List (List ℕ)) → ((x : A) → allows x ≡ not (is_listed contents (tree_content (means x)))) → Values V
+  abbrev pub unlisted_values : (contents : List (List ℕ))
+      → ((x : A) → allows x ≡ not (is_listed contents (tree_content (means x)))) → Values V
   unlisted_values contents same = values_by a n means (Notation.unlisted contents n) (λ v. means (part v))
       (λ is. constrained_exact (Denotes n) means is allows (λ t. not (is_listed contents (tree_content t)))
       (λ x r. same x) true part kept whole)
