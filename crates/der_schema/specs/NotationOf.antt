@@ -3,7 +3,7 @@ use Rattle.std.specs.Prelude.{ℕ, ◌+◌, ℤ, pos, negsuc, List, [], ◌∷�
 use Rattle.picky_der_core.specs.Tree.{ListKind}
 use Rattle.der_types.specs.ContentTypes.{ContentType}
 use Rattle.der_types.specs.Notation.{Notation, Members, Alternatives}
-use Rattle.der_types.specs.Notation.Member as in_notation
+use Rattle.der_types.specs.Notation as asn1
 use Rattle.der_types.specs.NotationForms.{Value, default, default-of}
 use Rattle.der_schema.specs.declared.node.Alternative.{Alternative}
 use Rattle.der_schema.specs.declared.node.DefaultValue.{DefaultValue}
@@ -33,9 +33,9 @@ value_in value.False = Value.FALSE
 value_in (value.Number n) = number_value n
 
 -- X.680, 25.1
-abbrev pub member_with : Presence → Notation → in_notation
-member_with presence.Required t = in_notation.required t
-member_with presence.Optional t = in_notation.optional t
+abbrev pub member_with : Presence → Notation → asn1.Member
+member_with presence.Required t = asn1.Member.required t
+member_with presence.Optional t = asn1.Member.optional t
 member_with (presence.Default v) t = default (value_in v) t
 member_with (presence.DefaultOf v) t = default-of (value_in v) t
 

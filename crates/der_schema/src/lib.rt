@@ -3,6 +3,7 @@
 //! `specs/NotationOf.antt` says which type a table is. Nothing is said of the names: they are what the compiler read.
 #![tactic(auto)]
 
+mod access;
 mod node;
 
 pub use node::{Alternative, DefaultValue, Item, Kind, Member, Node, Presence, Schema};
