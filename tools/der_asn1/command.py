@@ -1,7 +1,7 @@
 """The command line.
 
     der_asn1 --report [--types] [OPTION ..] MODULE.asn1 ..
-    der_asn1 --print crates/NAME/specs/Notation.antt ..
+    der_asn1 --print crates/NAME/specs/Notation.antt .. | FILE.rt ..
     der_asn1 --out crates/NAME [--type TYPE,..] [--group FILE=TYPE,..] [--crate MODULE=CRATE ..] [--distinct TYPE,..] [--own MODULE=NAME,..]
         [--own-terms NAME,..] [--constructors [TYPE,..]] [--raw-any] [--derive TRAIT,..] [--check] [--allow-raw [TYPE,..]]
         [--allow-wider [TYPE,..]] [OPTION ..] MODULE.asn1 ..
@@ -13,7 +13,7 @@
 `--report` prints how much is written without a flag, for each module how many of its types are expressed exactly, and which features of the
 library are missing for the others. `--types` adds a line for each type.
 
-`--print` prints the terms of a crate as ASN.1 again.
+`--print` prints the terms of a crate as ASN.1 again, or the table of a file that `--schemas` wrote.
 
 `--out` writes a crate of all types of the modules, or of the types after `--type` and what they need, and prints its line of `crates.txt`.
 `--check` writes nothing, and fails if a file isn't what would be written. What would be kept as bytes is an error without `--allow-raw`, and
@@ -65,6 +65,8 @@ from .meaning.types import ASSOCIATED, Meanings, recursion_in
 from .parse import tree
 from .parse.modules import read_file
 from .parse.source import NotationError, Problems, Severity
+from .schema.printed import printed_table
+from .schema.read import read_table
 from .schema.tags import NoNode
 from .schema.written import schema_text
 from .report import report_of, types_table, whole
@@ -180,12 +182,17 @@ def shown_terms(paths: list[str]) -> int:
     for path in paths:
         try:
             with open(path, encoding="utf-8") as it:
-                print(printed(read_terms(it.read())), end="")
+                print(shown(path, it.read()), end="")
         except OSError as error:
             sys.exit(f"{path}: {error.strerror}")
         except ValueError as error:
             sys.exit(f"{path}: {error}")
     return 0
+
+
+def shown(path: str, text: str) -> str:
+    """A file of terms or of a table as a module of the notation."""
+    return printed_table(read_table(text)) if path.endswith(".rt") else printed(read_terms(text))
 
 
 def written(options: argparse.Namespace, modules: list[tree.Module], imported: list[tree.Module], problems: Problems) -> int:

@@ -246,8 +246,12 @@ def interval(term: Applied) -> str:
 
 
 def characters(term: Applied) -> str:
-    """A range of characters, each as the group, plane, row and cell of its number (X.680, 41.7)."""
-    ends = [int(term.word.rstrip(",")), int(term.arguments[0].word)]
+    """A range of characters."""
+    return characters_between(int(term.word.rstrip(",")), int(term.arguments[0].word))
+
+
+def characters_between(*ends: int) -> str:
+    """A range of characters, each end as the group, plane, row and cell of its number (X.680, 41.7)."""
     return "..".join(f"{{{it >> 24}, {it >> 16 & 0xFF}, {it >> 8 & 0xFF}, {it & 0xFF}}}" for it in ends)
 
 
