@@ -4,10 +4,20 @@
 ghost use Rattle.std.specs.Prelude.{◌≡◌};
 ghost use Rattle.der_schema.specs.NotationOf.{notation_of};
 
-use der_pkix::GeneralNames;
+use der_pkix::{GeneralName, GeneralNames};
 use der_schema::{Alternative, Kind, Member, Node, Presence, Schema};
 use der_types::Notated;
 use picky_der_core::asn1::Wrapper;
+
+/// The schema of `GeneralName`.
+pub fn general_name() -> Schema
+    ensures { notation_of result.nodes.now result.root ≡ ⟦<GeneralName as Notated>⟧.notation }
+{
+    Schema {
+        nodes: &NODES,
+        root: 24,
+    }
+}
 
 /// The schema of `GeneralNames`.
 pub fn general_names() -> Schema

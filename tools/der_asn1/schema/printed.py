@@ -1,4 +1,4 @@
-"""A table as a module of the notation: each node that has a name is an assignment."""
+"""A table as a module of the notation: each node that has a name is an assignment, whose tags are written out."""
 from typing import Optional
 
 from ..emit.printed import characters_between
@@ -43,7 +43,7 @@ _MAX = 2**64 - 1
 def printed_table(table: Table) -> str:
     """The module."""
     printer = _Printer(table)
-    lines = [f"{it.name} ::= {printer.kind(it.kind)}" for it in table.nodes if it.name is not None]
+    lines = [f"{printer.type(index)} ::= {printer.kind(it.kind)}" for index, it in enumerate(table.nodes) if it.name is not None]
     return "\n".join(["Printed DEFINITIONS EXPLICIT TAGS ::= BEGIN", *lines, "END", ""])
 
 
@@ -51,12 +51,15 @@ class _Printer:
     """Prints nodes as types of the notation."""
 
     def __init__(self, table: Table) -> None:
-        self.table = table
+        self.table, self.names = table, [it.name for it in table.nodes]
 
     def type(self, index: int) -> str:
-        """A node, by its name if it has one."""
-        node = self.table.nodes[index]
-        return node.name if node.name is not None else self.kind(node.kind)
+        """A node, by its name if it has one: with a number after it if a node before has that, which is of another module."""
+        name = self.names[index]
+        if name is None:
+            return self.kind(self.table.nodes[index].kind)
+        before = self.names[:index].count(name)
+        return f"{name}-{before + 1}" if before else name
 
     def kind(self, kind: Kind) -> str:
         """What a node is."""

@@ -111,7 +111,8 @@ class Writer:
 
     def constructed(self, term: Term) -> int:
         """A SEQUENCE, a SET or a CHOICE."""
-        if term.end not in ("end", "none") and term.items is not None:
+        end = term.head.partition(" ")[2] if term.items is None else term.end
+        if end not in ("end", "none"):
             raise NoNode("a table has no node for a type with an extension marker")
         if term.head == "CHOICE":
             return self.add("Choice", tuple(Alternative(name_of(it.text), self.type(it.term)) for it in term.items))

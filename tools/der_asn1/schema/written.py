@@ -32,7 +32,7 @@ def schema_text(declarations: Declarations, names: list[str], modules: list[tree
 def table_file(table: Table, types: dict[str, int], sources: dict[str, str], homes: dict[str, str], modules: Iterable[str]) -> list[str]:
     """The lines of the file after its first one. `types` has the index of each type by its name in Rust, `sources` its name in its module, and
     `homes` its crate."""
-    nodes = [line for it in table.nodes for line in _lines(STEP, "", it, ",")]
+    nodes = node_lines(table)
     used = {it for it in _NAMES if any(f"{it} {{" in line or f"{it}::" in line for line in nodes)}
     paths = {**dict.fromkeys([*_NAMES, "Schema"], "der_schema"), "Wrapper": "picky_der_core::asn1", **homes}
     functions = [line for name in sorted(types, key=natural) for line in _function(name, types[name], sources[name])]
@@ -52,6 +52,11 @@ def table_file(table: Table, types: dict[str, int], sources: dict[str, str], hom
 
 
 _NAMES = ("Alternative", "DefaultValue", "Item", "Kind", "Member", "Node", "Presence", "Wrapper")
+
+
+def node_lines(table: Table) -> list[str]:
+    """The nodes of a table in Rust."""
+    return [line for it in table.nodes for line in _lines(STEP, "", it, ",")]
 
 
 def _function(name: str, index: int, source: str) -> list[str]:
