@@ -6,7 +6,7 @@ use crate::{Kind, Node, Schema};
 
 impl Schema {
     /// The node at an index, or `None` past the end of the table.
-    pub fn node(&self, index: u16) -> Option<Node>
+    pub fn node(self, index: u16) -> Option<Node>
         ensures { result ≡ slice_get self.nodes.now index }
     {
         self.nodes.get(usize::from(index)).copied()
@@ -15,10 +15,10 @@ impl Schema {
 
 impl Kind {
     /// The index of the one type inside: of a reference, a list, a tag or a constraint. Any other kind has `None`.
-    pub fn inner(&self) -> Option<u16>
+    pub fn inner(self) -> Option<u16>
         ensures { result ≡ inner_of self }
     {
-        match *self {
+        match self {
             Kind::Reference(node)
             | Kind::SequenceOf(node)
             | Kind::SetOf(node)
@@ -34,13 +34,16 @@ impl Kind {
         }
     }
 
-    /// What the standard calls the type (X.680), or `None` for a name of another type, a tag, a constraint and a content of any type.
-    pub fn name(&self) -> Option<&'static str>
+    /// What the standard calls the type (X.680), or `None` for a name of another type, a tag, a constraint and a
+    /// content of any type.
+    pub fn name(self) -> Option<&'static str>
         ensures { option_map (λ name. name.now) result ≡ kind_name self }
     {
-        match *self {
+        match self {
             Kind::Boolean => Some("BOOLEAN"),
-            Kind::Integer | Kind::NamedInteger(_) | Kind::Unsigned(_) | Kind::Signed(_) => Some("INTEGER"),
+            Kind::Integer | Kind::NamedInteger(_) | Kind::Unsigned(_) | Kind::Signed(_) => Some(
+                "INTEGER",
+            ),
             Kind::Enumerated(_) | Kind::ExtensibleEnumerated(_) => Some("ENUMERATED"),
             Kind::BitString | Kind::NamedBits(_) => Some("BIT STRING"),
             Kind::OctetString => Some("OCTET STRING"),

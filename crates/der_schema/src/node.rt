@@ -79,21 +79,48 @@ pub enum Kind {
     /// SET OF (28).
     SetOf(u16),
     /// A type in a tag or a string, or with a tag in place of its own (31).
-    Wrapped { wrapper: Wrapper, node: u16 },
+    Wrapped {
+        wrapper: Wrapper,
+        node: u16,
+    },
     /// The content of a type under this identifier byte in place of its own (31).
-    ContentUnder { tag: u8, node: u16 },
+    ContentUnder {
+        tag: u8,
+        node: u16,
+    },
     /// Numbers from `least` to `most` (51.4).
-    InRange { least: i128, most: i128, node: u16 },
+    InRange {
+        least: i128,
+        most: i128,
+        node: u16,
+    },
     /// Numbers from `least` on (51.4).
-    AtLeast { least: i128, node: u16 },
+    AtLeast {
+        least: i128,
+        node: u16,
+    },
     /// Numbers up to `most` (51.4).
-    AtMost { most: i128, node: u16 },
+    AtMost {
+        most: i128,
+        node: u16,
+    },
     /// Numbers that aren't from `least` to `most` (51.4).
-    Outside { least: i128, most: i128, node: u16 },
+    Outside {
+        least: i128,
+        most: i128,
+        node: u16,
+    },
     /// Of a size from `least` to `most` (51.5).
-    Sized { least: u64, most: u64, node: u16 },
+    Sized {
+        least: u64,
+        most: u64,
+        node: u16,
+    },
     /// A string of characters whose numbers are of these ranges (51.7).
-    Permitted { ranges: &'static [(u32, u32)], node: u16 },
+    Permitted {
+        ranges: &'static [(u32, u32)],
+        node: u16,
+    },
 }
 
 /// A name for a number: of an ENUMERATED or an INTEGER, or for the number of a bit.

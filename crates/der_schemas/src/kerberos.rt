@@ -52,7 +52,7 @@ static NODES: [Node; 40] = [
     },
     Node {
         name: None,
-        kind: Kind::RestrictedString(27),
+        kind: Kind::RestrictedString(0x1B),
     },
     Node {
         name: Some("KerberosString"),

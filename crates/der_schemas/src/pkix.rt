@@ -70,7 +70,7 @@ static NODES: [Node; 27] = [
     },
     Node {
         name: None,
-        kind: Kind::RestrictedString(22),
+        kind: Kind::RestrictedString(0x16),
     },
     Node {
         name: None,
