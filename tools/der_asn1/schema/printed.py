@@ -40,6 +40,27 @@ _SET = 0x31
 _MAX = 2**64 - 1
 
 
+# what the standard calls kinds that aren't of a word alone
+_NAMES = {
+    **dict.fromkeys(["NamedInteger", "Unsigned", "Signed"], "INTEGER"),
+    **dict.fromkeys(["Enumerated", "ExtensibleEnumerated"], "ENUMERATED"),
+    "NamedBits": "BIT STRING",
+    "Character": "UTF8String",
+    "LaterTime": "GeneralizedTime",
+    "Sequence": "SEQUENCE",
+    "Choice": "CHOICE",
+    "SequenceOf": "SEQUENCE OF",
+    "SetOf": "SET OF",
+}
+
+
+def kind_name(kind: Kind) -> Optional[str]:
+    """What the standard calls a kind, or None for a name, a tag, a constraint and any content."""
+    if kind.variant == "RestrictedString":
+        return _STRINGS.get(kind.fields[0])
+    return _NAMES.get(kind.variant) or _WORDS.get(kind.variant)
+
+
 def printed_table(table: Table) -> str:
     """The module."""
     printer = _Printer(table)
