@@ -1,10 +1,11 @@
 """Terms as nodes: which type of the library each is, with the names that its module gives."""
 import re
-from typing import Iterable
+from typing import Iterable, Union
 
 from ..emit.printed import Applied, parts_of, term_of
 from ..meaning.declarations import Declaration
 from ..meaning.library_table import TYPES
+from ..meaning.terms import Item as TermItem
 from ..meaning.terms import Term, default_tags
 from ..parse import tree
 from ..parse.tree import TagMode
@@ -45,7 +46,7 @@ _MAX = 2**64 - 1
 
 
 class Writer:
-    """Adds the nodes of types to a table. `modes` has the mode of tags that say none, by its name in terms."""
+    """Adds the nodes of types to a table: types by their names in Rust, of these modules."""
 
     def __init__(self, declared: dict[str, Declaration], modules: Iterable[tree.Module]) -> None:
         self.table, self.declared, self.indices = Table(), declared, {}
@@ -124,7 +125,7 @@ class Writer:
         ordered = sorted(members, key=lambda it: least_place(self.table, it.node))
         return wrapped(self.table, self.add("Sequence", tuple(ordered)), "ImplicitList", 0x31)
 
-    def member(self, item: object) -> Member:
+    def member(self, item: TermItem) -> Member:
         """A member of a SEQUENCE."""
         word, _, rest = item.presence.partition(" ")
         if word not in _PRESENCES:
@@ -137,9 +138,9 @@ def name_of(text: str) -> str:
     return text.split(None, 1)[0]
 
 
-def value_of(text: str) -> object:
+def value_of(text: str) -> Union[bool, int]:
     """The value of a default: a truth, or a number."""
-    return number_in(term_of(text.removeprefix("(").removesuffix(")"))) if text not in _TRUTHS else _TRUTHS[text]
+    return _TRUTHS[text] if text in _TRUTHS else number_in(term_of(text))
 
 
 def number_in(term: Applied) -> int:
