@@ -30,7 +30,9 @@ pub fn first_element(bytes: &[u8]) -> Option<Element<'_>>
     if tag.number() > Tag::MAX_NUMBER {
         return None;
     }
-    let (len, rest) = split_length(others)?;
+    let Some((len, rest)) = split_length(others) else {
+        return None;
+    };
     if len > rest.len() {
         return None;
     }

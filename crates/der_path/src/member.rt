@@ -45,7 +45,9 @@ pub fn member_at(bytes: &[u8], place: usize) -> Option<Member<'_>>
 fn skip(bytes: &[u8], place: usize) -> Option<&[u8]>
     ensures { MatchOption result (IsWithin bytes.now place) (λ after. IsSkipped bytes.now place after.now) }
 {
-    let element = first_element(bytes)?;
+    let Some(element) = first_element(bytes) else {
+        return None;
+    };
     let len = bytes.len() - element.after.len();
     if place < len {
         None
@@ -60,12 +62,20 @@ pub fn content_at(bytes: &[u8], place: usize) -> Option<(&[u8], usize)>
     ensures { MatchOption result ((content : List ℕ) (inner : ℕ) → IsInside bytes.now place content inner → ⊥)
         (λ pair. IsInside bytes.now place pair.0.now pair.1) }
 {
-    let element = first_element(bytes)?;
-    let content = element.content;
-    let end = bytes.len() - element.after.len();
-    let start = end - content.len();
-    if element.tag.is_constructed() && start <= place && place < end {
-        Some((content, place - start))
+    let Some(element) = first_element(bytes) else {
+        return None;
+    };
+    if !element.tag.is_constructed() {
+        return None;
+    }
+    let content_len = element.content.len();
+    let start = bytes.len() - element.after.len() - content_len;
+    if place < start {
+        return None;
+    }
+    let inner = place - start;
+    if inner < content_len {
+        Some((element.content, inner))
     } else {
         None
     }

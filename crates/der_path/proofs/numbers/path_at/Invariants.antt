@@ -2,8 +2,8 @@ use Rattle.std.proofs.Common.{length}
 use Rattle.der_path.proofs.Paths.{LeadsTo}
 use Rattle.der_path.proofs.numbers.path_at.Given as goal
 
-abbrev pub invariant-loop-around : goal.invariant-loop-around
-invariant-loop-around l = LeadsTo l.fn.bytes l.fn.place l.path.items l.around l.inner
+abbrev pub invariant-loop-member : goal.invariant-loop-member
+invariant-loop-member l = LeadsTo l.bytes l.place l.path.items l.around l.inner
 
-abbrev pub decreases-loop-around : goal.decreases-loop-around
-decreases-loop-around l = length l.around
+abbrev pub decreases-loop-member : goal.decreases-loop-member
+decreases-loop-member l = length l.around
