@@ -21,9 +21,7 @@ fn path_in(alloc: Global, row: &str) -> Result<String, AllocError> {
     if row.is_empty() || row.starts_with('#') {
         return String::from_str(alloc, row);
     }
-    let Some((place, text)) = row.split_once(' ') else {
-        return String::from_str(alloc, "no row");
-    };
+    let (place, text) = row.split_once(' ').unwrap_or((row, ""));
     let Ok(place) = place.parse::<usize>() else {
         return String::from_str(alloc, "no index");
     };
