@@ -1,4 +1,9 @@
 //! What the arguments ask for.
+ghost use Rattle.std.specs.Prelude.{◌≡◌, ◌≢◌, ◌<◌, ◌↔◌, IfOk, IfSome, IfNone, MatchOption, count_by, is_some, map};
+ghost use Rattle.std.specs.Prelude.{codes, true};
+ghost use Rattle.clap.specs.Words.{found_of, first_value};
+ghost use Rattle.der.specs.Request.{HasForm, HasFormat, AreShowOptions, IsNoOffset, IsSignersRequest, IsWanted};
+ghost use Rattle.der.specs.Request.{IsAction, IsFaulty, is_dash, standard_inputs};
 
 use clap::ArgMatches;
 use der_program_base::{Form, Format, read_input, shown};
@@ -34,7 +39,17 @@ pub fn request_of(
     name: &str,
     matches: &ArgMatches<'_>,
     words: &[&str],
-) -> io::Result<Option<Request>> {
+) -> io::Result<Option<Request>>
+    ensures action { IfOk result (λ r. IfSome r (λ request.
+        IsAction name.now (found_of matches.now) (map (λ word. word.now) words.now) request.action)) }
+    ensures form { IfOk result (λ r. IfSome r (λ request. HasForm (found_of matches.now) request.form)) }
+    ensures format { IfOk result (λ r. IfSome r (λ request. HasFormat (found_of matches.now) request.format)) }
+    ensures inputs { IfOk result (λ r. IfSome r (λ request.
+        standard_inputs name.now (found_of matches.now) (map (λ word. word.now) words.now) < 2)) }
+    ensures none { IfOk result (λ r. IfNone r
+        (standard_inputs name.now (found_of matches.now) (map (λ word. word.now) words.now) < 2
+        → IsFaulty name.now (found_of matches.now))) }
+{
     if standard_inputs(name, matches, words) > 1 {
         eprintln!(rt; "der: standard input is named more than once")?;
         return Ok(None);
@@ -51,43 +66,65 @@ pub fn request_of(
     Ok(Some(Request {
         action,
         form: form_of(matches),
-        format: if matches.get_flag("json") {
-            Format::Json
-        } else {
-            Format::Text
-        },
+        format: format_of(matches),
     }))
 }
 
-// How many of the inputs are standard input.
-fn standard_inputs(name: &str, matches: &ArgMatches<'_>, words: &[&str]) -> usize {
-    let files = words.iter().filter(|word| **word == "-").count();
-    if name == "cms" && matches.get_str("content") == Some("-") {
-        files.saturating_add(1)
-    } else {
-        files
+// How many of the inputs are standard input. Two is as good as more.
+fn standard_inputs(name: &str, matches: &ArgMatches<'_>, words: &[&str]) -> usize
+    ensures { (result < 2) ↔ (standard_inputs name.now (found_of matches.now) (map (λ word. word.now) words.now) < 2) }
+{
+    let files = dashes(words);
+    match matches.get_str("content") {
+        Some(content) if name == "cms" && content == "-" => files.saturating_add(1),
+        _ => files,
     }
 }
 
+// How many of the words are a dash.
+fn dashes(words: &[&str]) -> usize
+    ensures { result ≡ count_by is_dash (map (λ word. word.now) words.now) }
+{
+    words.iter().filter(|word| **word == "-").count()
+}
+
 /// Returns the type of messages that the first of several words names. A word alone is a file.
-pub fn wanted_type(words: &[&str]) -> Option<MessageType> {
+pub fn wanted_type(words: &[&str]) -> Option<MessageType>
+    ensures { IsWanted (map (λ word. word.now) words.now) result }
+{
     match words {
         [word, _, ..] => type_of_word(*word),
         _ => None,
     }
 }
 
-fn form_of(matches: &ArgMatches<'_>) -> Option<Form> {
-    if matches.get_flag("der") {
-        Some(Form::Der)
-    } else if matches.get_flag("pem") {
-        Some(Form::Pem)
-    } else {
-        None
+// What the files are, if a flag says it.
+fn form_of(matches: &ArgMatches<'_>) -> Option<Form>
+    ensures { HasForm (found_of matches.now) result }
+{
+    match (matches.get_flag("der"), matches.get_flag("pem")) {
+        (true, _) => Some(Form::Der),
+        (false, true) => Some(Form::Pem),
+        (false, false) => None,
     }
 }
 
-fn show_options(rt: &HostRuntime, matches: &ArgMatches<'_>) -> io::Result<Option<ShowOptions>> {
+// The format of the output.
+fn format_of(matches: &ArgMatches<'_>) -> Format
+    ensures { HasFormat (found_of matches.now) result }
+{
+    if matches.get_flag("json") {
+        Format::Json
+    } else {
+        Format::Text
+    }
+}
+
+// The options of `show`, or `None` after saying that the offset isn't one.
+fn show_options(rt: &HostRuntime, matches: &ArgMatches<'_>) -> io::Result<Option<ShowOptions>>
+    ensures { IfOk result (λ r. MatchOption r (IsNoOffset (first_value (found_of matches.now) (codes "at")))
+        (AreShowOptions (found_of matches.now))) }
+{
     let start = match matches.get_str("at") {
         None => 0,
         Some(text) => match text.parse::<usize>() {
@@ -106,16 +143,19 @@ fn show_options(rt: &HostRuntime, matches: &ArgMatches<'_>) -> io::Result<Option
     }))
 }
 
+// What `cms` is asked, or `None` after saying that the content can't be read.
 fn signers_request(
     rt: &HostRuntime,
     matches: &ArgMatches<'_>,
-) -> io::Result<Option<der_signers::Request>> {
+) -> io::Result<Option<der_signers::Request>>
+    ensures { IfOk result (λ r. MatchOption r (is_some (first_value (found_of matches.now) (codes "content")) ≡ true)
+        (IsSignersRequest (found_of matches.now))) }
+{
     let content = match matches.get_str("content") {
         None => None,
         Some(name) => match read_input(rt, name) {
             Ok(content) => Some(content),
             Err(error) => {
-                let name = shown(rt.alloc(), name)?;
                 eprintln!(rt; "der: {name}: {error}")?;
                 return Ok(None);
             }

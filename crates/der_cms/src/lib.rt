@@ -10,6 +10,7 @@ mod enveloped_data;
 mod key_agreement;
 pub mod named;
 pub mod notation;
+mod other_recipients;
 mod recipients;
 mod signed_data;
 pub mod values;
@@ -36,9 +37,11 @@ pub use key_agreement::{
     OriginatorPublicKey, RecipientEncryptedKey, RecipientEncryptedKeys, RecipientKeyIdentifier,
     UserKeyingMaterial,
 };
+pub use other_recipients::{
+    KekIdentifier, KekRecipientInfo, OtherKeyAttribute, OtherRecipientInfo, PasswordRecipientInfo,
+};
 pub use recipients::{
-    EncryptedKey, KekIdentifier, KekRecipientInfo, KeyTransRecipientInfo, OtherKeyAttribute,
-    OtherRecipientInfo, PasswordRecipientInfo, RecipientIdentifier, RecipientInfo, RecipientInfos,
+    EncryptedKey, KeyTransRecipientInfo, RecipientIdentifier, RecipientInfo, RecipientInfos,
     SubjectKeyIdentifier,
 };
 pub use signed_data::{

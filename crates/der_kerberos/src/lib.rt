@@ -4,6 +4,7 @@
 #![tactic(auto)]
 
 mod authentication;
+mod authorization_data;
 mod constructors;
 mod credentials;
 mod errors;
@@ -18,6 +19,9 @@ mod types;
 pub use authentication::{
     ApOptions, ApRep, ApRepMembers, ApReq, ApReqMembers, Authenticator, AuthenticatorMembers,
     EncApRepPart, EncApRepPartMembers,
+};
+pub use authorization_data::{
+    AdAndOr, AdIfRelevant, AdKdcIssued, AdMandatoryForKdc, AuthorizationData, AuthorizationDataItem,
 };
 pub use credentials::{
     EncKrbCredPart, EncKrbCredPartMembers, KrbCred, KrbCredInfo, KrbCredMembers,
@@ -39,8 +43,7 @@ pub use tickets::{
     EncTicketPart, EncTicketPartMembers, Ticket, TicketFlags, TicketMembers, TransitedEncoding,
 };
 pub use types::{
-    AdAndOr, AdIfRelevant, AdKdcIssued, AdMandatoryForKdc, AuthorizationData,
-    AuthorizationDataItem, Checksum, EncryptedData, EncryptionKey, HostAddress, HostAddresses,
-    Int32, KerberosFlags, KerberosString, KerberosStringCharacters, KerberosTime, Microseconds,
-    PaData, PrincipalName, Realm, UInt32,
+    Checksum, EncryptedData, EncryptionKey, HostAddress, HostAddresses, Int32, KerberosFlags,
+    KerberosString, KerberosStringCharacters, KerberosTime, Microseconds, PaData, PrincipalName,
+    Realm, UInt32,
 };

@@ -6,7 +6,7 @@ use Rattle.std.specs.List.{list_any}
 use Rattle.picky_der_core.specs.Encoding.{der}
 use Rattle.picky_der_core.specs.Readable.{IsWritable}
 use Rattle.der_types.specs.contracts.generated.object_identifier.ObjectIdentifierSerialize.TheImpl as identifier
-use Rattle.der_x509.specs.declared.pkix1_explicit88.AlgorithmIdentifier.{AlgorithmIdentifier}
+use Rattle.der_x509.specs.declared.keys.AlgorithmIdentifier.{AlgorithmIdentifier}
 use Rattle.der_cms.specs.declared.cryptographic_message_syntax2004.Attribute.{Attribute}
 use Rattle.der_cms.specs.declared.signed_data.SignedData.{SignedData}
 use Rattle.der_cms.specs.declared.signed_data.SignerInfo.{SignerInfo}

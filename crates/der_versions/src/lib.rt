@@ -3,12 +3,11 @@
 //! The types of Leases, Parcels.
 #![tactic(auto)]
 
+mod lease_3;
 mod leases;
 pub mod notation;
 mod parcels;
 
-pub use leases::{
-    Lease1, Lease2, Lease2Additions, Lease2Additions2, Lease3, Lease3Additions, Lease3Additions2,
-    Lease3Additions3, Room,
-};
+pub use lease_3::{Lease3, Lease3Additions, Lease3Additions2, Lease3Additions3};
+pub use leases::{Lease1, Lease2, Lease2Additions, Lease2Additions2, Room};
 pub use parcels::{Parcel1, Parcel2, Parcel2Additions, Parcel2Additions2};

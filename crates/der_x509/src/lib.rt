@@ -7,6 +7,7 @@ mod by_hand;
 mod certificate_list;
 mod constructors;
 mod extensions;
+mod keys;
 pub mod named;
 mod names;
 pub mod notation;
@@ -16,12 +17,13 @@ mod pkix1_implicit88;
 pub use by_hand::{Attribute, KeyUsageFlag, RelativeName};
 pub use certificate_list::{CertificateList, RevokedCertificate, TbsCertList};
 pub use extensions::{Extension, Extensions};
+pub use keys::{AlgorithmIdentifier, SubjectPublicKeyInfo};
 pub use names::{
     AttributeType, AttributeTypeAndValue, AttributeValue, Name, RdnSequence,
     RelativeDistinguishedName,
 };
 pub use pkix1_explicit88::{
-    AlgorithmIdentifier, Certificate, CertificateSerialNumber, SubjectPublicKeyInfo,
-    TbsCertificate, Time, UniqueIdentifier, Validity, Version, VersionV1,
+    Certificate, CertificateSerialNumber, TbsCertificate, Time, UniqueIdentifier, Validity,
+    Version, VersionV1,
 };
 pub use pkix1_implicit88::KeyUsage;
