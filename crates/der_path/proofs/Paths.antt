@@ -1,5 +1,6 @@
 -- What was found of a path.
-use Rattle.std.proofs.Common.{◌≡◌, ℕ, ◌-◌, ◌<◌, ◌≤◌, List, [], ◌∷◌, ◌++◌, length, sym, subst, arith, append_assoc, append-nil}
+use Rattle.std.proofs.Common.{◌≡◌, ℕ, ◌-◌, ◌<◌, ◌≤◌, List, [], ◌∷◌, ◌++◌, length, sym, subst, arith, append_assoc}
+use Rattle.std.proofs.Common.{append-nil}
 use Rattle.der_path.specs.Members.{ArePassed, IsMemberAt, IsInside}
 use Rattle.der_path.specs.Paths.{IsPath}
 use Rattle.der_path.proofs.Elements.{sizes}
