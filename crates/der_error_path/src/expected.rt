@@ -1,7 +1,7 @@
 //! What may come in a content.
 
 use crate::begins::begins;
-use der_schema::{Alternative, Kind, Member, Node, Presence};
+use der_schema::{Alternative, DefaultValue, Kind, Member, Node, Presence};
 use picky_der_core::asn1::Tag;
 
 /// What an element is in the one around it.
@@ -26,8 +26,8 @@ pub(crate) enum Expected {
     Value(u16),
     // These members.
     Members(&'static [Member]),
-    // Any number of values of this node's type.
-    Items(u16),
+    // Any number of values of this node's type, in ascending order if they are sorted.
+    Items { node: u16, are_sorted: bool },
     // Nothing.
     End,
     // Anything.
@@ -43,7 +43,7 @@ impl Expected {
                 [member, ..] => (Part::Member(member.name), Some(member.node)),
                 [] => (Part::Extra, None),
             },
-            Expected::Items(node) => (Part::Item, Some(node)),
+            Expected::Items { node, .. } => (Part::Item, Some(node)),
             Expected::End => (Part::Extra, None),
             Expected::Unknown => (Part::Unknown, None),
         }
@@ -57,7 +57,21 @@ impl Expected {
                 [_, others @ ..] => Expected::Members(others),
                 [] => Expected::End,
             },
-            Expected::Items(_) | Expected::Unknown => self,
+            Expected::Items { .. } | Expected::Unknown => self,
+        }
+    }
+
+    // The value with which an element with this tag would be absent, if it is a member that has a default.
+    pub(crate) fn default(self, nodes: &[Node], tag: Tag) -> Option<DefaultValue> {
+        let Expected::Members(members) = self else {
+            return None;
+        };
+        let [member, ..] = without_absent(nodes, members, tag) else {
+            return None;
+        };
+        match member.presence {
+            Presence::Default(value) | Presence::DefaultOf(value) => Some(value),
+            Presence::Required | Presence::Optional => None,
         }
     }
 
@@ -94,7 +108,14 @@ pub(crate) fn inside(nodes: &[Node], index: u16, tag: Tag) -> Expected {
     while let Some(node) = nodes.get(usize::from(index)) {
         let inner = match node.kind {
             Kind::Sequence(members) => return Expected::Members(members),
-            Kind::SequenceOf(item) | Kind::SetOf(item) => return Expected::Items(item),
+            Kind::SequenceOf(node) => return Expected::Items {
+                node,
+                are_sorted: false,
+            },
+            Kind::SetOf(node) => return Expected::Items {
+                node,
+                are_sorted: true,
+            },
             Kind::Wrapped { wrapper, node } if wrapper.keeps_header() => return Expected::Value(
                 node,
             ),

@@ -18,6 +18,10 @@ pub enum Mistake {
     NoElement,
     /// This member is missing at its end (X.680, 25).
     Missing(&'static str),
+    /// It has the value with which it would be absent (X.690, 11.5).
+    Default,
+    /// It is less than the one before it in a SET OF (X.690, 11.6).
+    Order,
     /// Its content isn't one of its type in DER.
     Content,
 }

@@ -45,6 +45,11 @@ impl ErrorPath {
                 "{found} that is cut short or of another length (X.690, 8.1.3, 10.1)"
             ),
             Mistake::Missing(name) => format!(in alloc; "no {name} (X.680, 25)"),
+            Mistake::Default => String::from_str(
+                alloc,
+                "a default that is written out (X.690, 11.5)",
+            ),
+            Mistake::Order => String::from_str(alloc, "less than the one before it (X.690, 11.6)"),
             Mistake::Content => {
                 let clause = clause_of(schema.nodes, step);
                 format!(in alloc; "no {expected} of DER (X.690, {clause})")

@@ -73,7 +73,8 @@ module _ (bytes : List ℕ) (tag : ℕ) (others : List ℕ) (all : bytes ≡ tag
     found content after number enough front back =
         let size : length content ≡ len = ap length front ∙ length-take-le len rest enough in
         let whole : rest ≡ content ++ after =
-        sym (take-append-drop len rest) ∙ ap (λ l. l ++ drop len rest) (sym front) ∙ ap (λ l. content ++ l) (sym back) in
+        sym (take-append-drop len rest) ∙ ap (λ l. l ++ drop len rest) (sym front)
+        ∙ ap (λ l. content ++ l) (sym back) in
         record {
           number = number;
           is = all ∙ ap (λ l. tag ∷ l) (split ∙ ap (λ n. length_octets n ++ rest) (sym size)
