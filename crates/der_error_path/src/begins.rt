@@ -1,23 +1,17 @@
 //! With which tags values of a type begin.
 
-use der_schema::{Kind, Node};
+use der_schema::{Alternative, Kind, Node};
 use picky_der_core::asn1::{Tag, Wrapper};
 
 // Whether a value of a node's type can begin with this tag. A node that doesn't come after one that it names has no
 // values.
+#[cycle(begins)]
 pub(crate) fn begins(nodes: &[Node], index: u16, tag: Tag) -> bool {
     let Some(node) = nodes.get(usize::from(index)) else {
         return false;
     };
     match node.kind {
-        Kind::Choice(alternatives) => {
-            for alternative in alternatives {
-                if alternative.node < index && begins(nodes, alternative.node, tag) {
-                    return true;
-                }
-            }
-            false
-        }
+        Kind::Choice(alternatives) => one_begins(nodes, alternatives, index, tag),
         Kind::AnyElement | Kind::WellFormedElement => true,
         kind => match tag_of(kind) {
             Some(first) => tag == first,
@@ -27,6 +21,17 @@ pub(crate) fn begins(nodes: &[Node], index: u16, tag: Tag) -> bool {
             },
         },
     }
+}
+
+// Whether a value of one of the alternatives, of those whose nodes come before this index, can begin with this tag.
+#[cycle(begins)]
+fn one_begins(nodes: &[Node], alternatives: &[Alternative], index: u16, tag: Tag) -> bool {
+    for alternative in alternatives {
+        if alternative.node < index && begins(nodes, alternative.node, tag) {
+            return true;
+        }
+    }
+    false
 }
 
 // The only tag of values of this kind (X.680, table 1). It is `None` for a CHOICE, for any element, and for a kind whose

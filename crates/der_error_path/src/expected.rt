@@ -103,8 +103,7 @@ fn without_absent(nodes: &[Node], members: &'static [Member], tag: Tag) -> &'sta
 }
 
 // What may come in the content of an element with this tag, whose type is that of the node.
-pub(crate) fn inside(nodes: &[Node], index: u16, tag: Tag) -> Expected {
-    let mut index = index;
+pub(crate) fn inside(nodes: &[Node], mut index: u16, tag: Tag) -> Expected {
     while let Some(node) = nodes.get(usize::from(index)) {
         let inner = match node.kind {
             Kind::Sequence(members) => return Expected::Members(members),

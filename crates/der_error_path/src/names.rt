@@ -17,8 +17,8 @@ pub struct Step {
     pub part: Part,
     /// The index of its type's node, if the schema has one for it.
     pub node: Option<u16>,
-    /// Its tag.
-    pub tag: Tag,
+    /// Its identifier byte (X.690, 8.1.2).
+    pub identifier: u8,
 }
 
 // The steps of a path by numbers, up to the one with the mistake, for an error at this position.
@@ -46,7 +46,7 @@ pub(crate) fn steps_of(
             index: *index,
             part,
             node,
-            tag,
+            identifier: *first,
         })?;
         if let Some(mistake) = mistake_at(nodes, part, node, tag) {
             return Ok((steps, mistake));
@@ -62,7 +62,7 @@ pub(crate) fn steps_of(
             } else {
                 &around[..0]
             };
-            if let Some(mistake) = mistake_after(nodes, here, element, before, inner) {
+            if let Some(mistake) = mistake_after(nodes, here, &element, before, inner) {
                 found = Some((steps.len(), mistake));
             }
         }
@@ -101,7 +101,7 @@ fn mistake_at(nodes: &[Node], part: Part, node: Option<u16>, tag: Tag) -> Option
 fn mistake_after(
     nodes: &[Node],
     here: Expected,
-    element: Element,
+    element: &Element,
     before: &[u8],
     inner: Expected,
 ) -> Option<Mistake> {
@@ -119,7 +119,7 @@ fn mistake_after(
     } = here
     {
         if let Some(earlier) = first_element(before) {
-            if is_less(element, earlier) {
+            if is_less(element, &earlier) {
                 return Some(Mistake::Order);
             }
         }
@@ -139,7 +139,7 @@ fn is_content_of(value: DefaultValue, content: &[u8]) -> bool {
 
 // Whether the encoding of an element is less than that of another one (X.690, 11.6): by the tag, then by the length, then
 // by the content.
-fn is_less(element: Element, other: Element) -> bool {
+fn is_less(element: &Element, other: &Element) -> bool {
     let (tag, other_tag) = (element.tag.inner(), other.tag.inner());
     if tag != other_tag {
         return tag < other_tag;

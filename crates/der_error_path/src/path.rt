@@ -56,7 +56,7 @@ pub fn path_of_error(
     ensures numbers { IfOk result (λ it. IsPath bytes.now it.place it.numbers.items) }
 {
     let ahead = path_of_byte(alloc, schema, bytes, position, position)?;
-    if ahead.mistake == Mistake::Extra || ahead.mistake == Mistake::OtherTag {
+    if matches!(ahead.mistake, Mistake::Extra | Mistake::OtherTag) {
         return Ok(ahead);
     }
     path_of_byte(alloc, schema, bytes, position.saturating_sub(1), position)

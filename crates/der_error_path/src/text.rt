@@ -34,7 +34,7 @@ impl ErrorPath {
         let Some(step) = self.steps.last() else {
             return String::from_str(alloc, "no element (X.690, 8.1.1)");
         };
-        let found = found_name(alloc, step.tag)?;
+        let found = found_name(alloc, Tag::from(step.identifier))?;
         let expected = expected_name(alloc, schema.nodes, step)?;
         match self.mistake {
             Mistake::Extra => format!(in alloc; "expected nothing, found {found} (X.680, 25)"),
@@ -110,7 +110,7 @@ fn expected_name(alloc: Global, nodes: &[Node], step: &Step) -> Result<String, A
         },
         Some(Kind::ContentUnder { tag, .. }) => tag_text(alloc, Tag::from(tag)),
         Some(kind) => String::from_str(alloc, kind.name().unwrap_or("another type")),
-        None => found_name(alloc, step.tag),
+        None => found_name(alloc, Tag::from(step.identifier)),
     }
 }
 
@@ -123,8 +123,8 @@ fn tag_in(wrapper: Wrapper) -> Option<Tag> {
 }
 
 // The kind of a node's type, without names and constraints.
-fn kind_of(nodes: &[Node], node: Option<u16>) -> Option<Kind> {
-    let mut index = node?;
+fn kind_of(nodes: &[Node], start: Option<u16>) -> Option<Kind> {
+    let mut index = start?;
     while let Some(node) = nodes.get(usize::from(index)) {
         let inner = match node.kind {
             Kind::Reference(node)

@@ -41,9 +41,8 @@ impl Kind {
     {
         match self {
             Kind::Boolean => Some("BOOLEAN"),
-            Kind::Integer | Kind::NamedInteger(_) | Kind::Unsigned(_) | Kind::Signed(_) => Some(
-                "INTEGER",
-            ),
+            Kind::Integer | Kind::NamedInteger(_) => Some("INTEGER"),
+            Kind::Unsigned(_) | Kind::Signed(_) => Some("INTEGER"),
             Kind::Enumerated(_) | Kind::ExtensibleEnumerated(_) => Some("ENUMERATED"),
             Kind::BitString | Kind::NamedBits(_) => Some("BIT STRING"),
             Kind::OctetString => Some("OCTET STRING"),
