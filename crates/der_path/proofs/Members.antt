@@ -7,7 +7,7 @@ use Rattle.picky_der_core.specs.Tag.{is_constructed}
 use Rattle.picky_der_core.specs.Element.{tlv, IsElement}
 use Rattle.der_path.specs.Elements.{BeginsWith, BeginsWithNone}
 use Rattle.der_path.specs.Members.{ArePassed, IsWithin, IsSkipped, IsMemberAt, IsInside}
-use Rattle.der_path.proofs.Elements.{sizes, one_element}
+use Rattle.der_path.proofs.Elements.{one_element}
 
 each_then : (ms : List (List ℕ)) (m : List ℕ) → AllByRecursion IsElement ms → IsElement m
     → AllByRecursion IsElement (ms ++ (m ∷ []))

@@ -1,7 +1,7 @@
 -- What was found of a path.
-use Rattle.std.proofs.Common.{◌≡◌, ℕ, ◌-◌, ◌<◌, ◌≤◌, List, [], ◌∷◌, ◌++◌, length, sym, subst, arith, append_assoc}
+use Rattle.std.proofs.Common.{ℕ, ◌-◌, ◌<◌, ◌≤◌, List, [], ◌∷◌, ◌++◌, length, sym, subst, arith, append_assoc}
 use Rattle.std.proofs.Common.{append-nil}
-use Rattle.der_path.specs.Members.{ArePassed, IsMemberAt, IsInside}
+use Rattle.der_path.specs.Members.{IsMemberAt, IsInside}
 use Rattle.der_path.specs.Paths.{IsPath}
 use Rattle.der_path.proofs.Elements.{sizes}
 use Rattle.der_path.proofs.Members.{left_length}

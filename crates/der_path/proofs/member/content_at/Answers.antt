@@ -1,5 +1,4 @@
-use Rattle.std.proofs.Common.{◌≡◌, false, arith}
-use Rattle.picky_der_core.specs.Tag.{is_constructed}
+use Rattle.std.proofs.Common.{arith}
 use Rattle.der_path.proofs.Elements.{sizes}
 use Rattle.der_path.proofs.Members.{nothing_inside, primitive_inside, before_inside, past_inside, is_inside}
 use Rattle.der_path.proofs.member.content_at.Goals as goal

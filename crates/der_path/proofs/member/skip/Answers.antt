@@ -1,4 +1,4 @@
-use Rattle.std.proofs.Common.{ap, length, arith}
+use Rattle.std.proofs.Common.{arith}
 use Rattle.der_path.proofs.Elements.{sizes}
 use Rattle.der_path.proofs.Members.{within, skipped}
 use Rattle.der_path.proofs.member.skip.Goals as goal

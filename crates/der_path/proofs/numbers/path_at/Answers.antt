@@ -1,6 +1,4 @@
-use Rattle.std.proofs.Common.{◌-◌, ◌∷◌, List, ℕ, [], ◌++◌, subst, sym, arith}
-use Rattle.der_path.specs.Members.{IsMemberAt, IsInside}
-use Rattle.der_path.specs.Paths.{IsPath}
+use Rattle.std.proofs.Common.{◌-◌, subst, sym, arith}
 use Rattle.der_path.proofs.Paths.{LeadsTo, starts, ends, ends_in, leads_on, shorter}
 use Rattle.der_path.proofs.numbers.path_at.Goals as goal
 
