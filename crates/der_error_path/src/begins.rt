@@ -34,8 +34,8 @@ fn one_begins(nodes: &[Node], alternatives: &[Alternative], index: u16, tag: Tag
     false
 }
 
-// The only tag of values of this kind (X.680, table 1). It is `None` for a CHOICE, for any element, and for a kind whose
-// values have the tags of those inside.
+// The only tag of values of this kind (X.680, table 1). It is `None` for a CHOICE, for any element, and for a kind
+// whose values have the tags of those inside.
 fn tag_of(kind: Kind) -> Option<Tag> {
     match kind {
         Kind::Boolean => Some(Tag::BOOLEAN),

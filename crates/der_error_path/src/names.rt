@@ -137,8 +137,8 @@ fn is_content_of(value: DefaultValue, content: &[u8]) -> bool {
     }
 }
 
-// Whether the encoding of an element is less than that of another one (X.690, 11.6): by the tag, then by the length, then
-// by the content.
+// Whether the encoding of an element is less than that of another one (X.690, 11.6): by the tag, then by the length,
+// then by the content.
 fn is_less(element: &Element, other: &Element) -> bool {
     let (tag, other_tag) = (element.tag.inner(), other.tag.inner());
     if tag != other_tag {

@@ -41,9 +41,9 @@ pub struct ErrorPath {
 
 /// Returns where the error is with which a type refused these bytes after so many of them, as `from_der` says.
 ///
-/// The error names the byte at this position if it is in an element that the type doesn't have there, or that begins with
-/// another tag. Else it names the byte before it, which is the last one that was consumed: of a header that was refused, of a
-/// content, or of an element in which a member is missing.
+/// The error names the byte at this position if it is in an element that the type doesn't have there, or that begins
+/// with another tag. Else it names the byte before it, which is the last one that was consumed: of a header that was
+/// refused, of a content, or of an element in which a member is missing.
 ///
 /// `AllocError` if an allocation fails.
 pub fn path_of_error(

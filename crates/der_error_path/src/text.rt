@@ -7,8 +7,8 @@ use picky_der_core::asn1::{Tag, Wrapper};
 use std::alloc::{AllocError, Global};
 
 impl ErrorPath {
-    /// Returns the path by names, as `tbsCertificate.extensions[3].extnID`: a member by its name, an item by its index in
-    /// brackets, and what has no type by its index. The text is empty for the value itself.
+    /// Returns the path by names, as `tbsCertificate.extensions[3].extnID`: a member by its name, an item by its index
+    /// in brackets, and what has no type by its index. The text is empty for the value itself.
     ///
     /// `AllocError` if an allocation fails.
     pub fn names(&self, alloc: Global) -> Result<String, AllocError> {
