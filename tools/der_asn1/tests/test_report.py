@@ -11,6 +11,7 @@ from ..meaning.features import Level
 from ..parse.modules import read_text
 from ..parse.source import Problems
 from . import module_text
+from .stored import GOLDEN
 
 RARE = "REAL, EMBEDDED PDV and CHARACTER STRING"
 BITS = "an IMPLICIT tag over BIT STRING (CONTAINING ..)"
@@ -218,11 +219,14 @@ class Command(unittest.TestCase):
         self.assertIn("2 of 3 (66.7 %) types exact only with types by hand", out)
 
     def test_a_module_that_was_written_for_no_compiler(self):
-        """Each of its types is written without a flag, and what isn't exact has an open type or contains itself."""
-        with tempfile.TemporaryDirectory() as folder, contextlib.redirect_stdout(io.StringIO()) as out:
-            path = os.path.join(os.path.dirname(__file__), "fleet.asn1")
-            self.assertEqual([0, 0], [command.main([*words, "--strict", path]) for words in (["--report"], ["--out", os.path.join(folder, "fleet")])])
-        self.assertIn("2 of 2 (100.0 %) modules written without a flag\n38 of 38 (100.0 %) types written without a flag\n32 of 38", out.getvalue())
+        """Each of its types is written without a flag, but for a REAL and what contains it."""
+        text = (GOLDEN / "fleet.asn1").read_text(encoding="utf-8")
+        _, out, _ = self.run_on({"fleet.asn1": text}, "--report")
+        self.assertIn("1 of 2 (50.0 %) modules written without a flag\n36 of 39 (92.3 %) types written without a flag\n32 of 39", out)
+        status, _, err = self.run_on({"fleet.asn1": text}, "--strict", "--out", "{folder}/fleet")
+        self.assertEqual(1, status)
+        wanted = f"`Consumption` would be kept as bytes: {RARE}; 3 types contain it. `--allow-raw Consumption` allows it"
+        self.assertEqual([f"fleet.asn1:21:1: error: {wanted} (docs/ASN1.md)"], err.splitlines())
 
     def test_what_a_crate_allows(self):
         raw, wider = ("T ::= CHARACTER STRING", "--allow-raw", "TaggedBytes<0x3D>"), ("T ::= ENUMERATED { a(128) }", "--allow-wider", "Enumerated")
