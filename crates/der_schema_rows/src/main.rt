@@ -1,5 +1,5 @@
-//! For each type on standard input, writes to standard output the nodes of its schema, a line each: the index, the node,
-//! what the standard calls it, and the index of the type inside.
+//! For each type on standard input, writes the nodes of its schema to standard output, a line each: the index, the
+//! node, what the standard calls it, and the index of the type inside.
 #![tactic(auto)]
 
 use der_schema::Schema;
