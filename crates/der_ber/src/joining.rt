@@ -118,8 +118,8 @@ fn push_bits<'a>(
     sum(1, len)
 }
 
-// Appends the bits of a part, where the part before it has so many unused ones. Returns how many are unused now, and how
-// many bytes were added.
+// Appends the bits of a part, where the part before it has so many unused ones. Returns how many are unused now, and
+// how many bytes were added.
 fn push_segment<'a>(
     part: &Part<'a>,
     unused: u8,
