@@ -37,11 +37,17 @@ bits_ended (x ∷ xs) ys s v u c b (BeginsBits.more first rest f g others) some
     (BeginsBits.more first' rest' f' g' others') =
     bits_ended xs ys s v u rest rest' others some others'
 
--- each is the content of a primitive bit string
-pub bits_good : (xs ys : List (List ℕ)) (s : List ℕ) (u : ℕ) (b : List ℕ) → AreBits (xs ++ (s ∷ ys)) u b
-    → (w : ℕ) × ((c : List ℕ) × ((s ≡ w ∷ c) × (w ≤ most_unused c)))
-bits_good [] ys s u b (BeginsBits.last e f few) = (u, (b, (f, few)))
-bits_good [] ys s u b (BeginsBits.more first rest f g others) = (0, (first, (f, omega arith)))
+-- the content of a primitive bit string
+pub record IsGood (segment : List ℕ) : Type 0 where
+  pub unused : ℕ
+  pub bits : List ℕ
+  pub is : segment ≡ unused ∷ bits
+  pub few : unused ≤ most_unused bits
+
+pub bits_good : (xs ys : List (List ℕ)) (s : List ℕ) (u : ℕ) (b : List ℕ) → AreBits (xs ++ (s ∷ ys)) u b → IsGood s
+bits_good [] ys s u b (BeginsBits.last e f few) = record { unused = u; bits = b; is = f; few = few }
+bits_good [] ys s u b (BeginsBits.more first rest f g others) =
+    record { unused = 0; bits = first; is = f; few = omega arith }
 bits_good (x ∷ xs) ys s u b (BeginsBits.last e f few) = absurd (some_others xs ys s e)
 bits_good (x ∷ xs) ys s u b (BeginsBits.more first rest f g others) = bits_good xs ys s u rest others
 

@@ -1,6 +1,8 @@
 -- The content of a string that becomes primitive.
-use Rattle.std.proofs.Common.{◌≡◌, ◌≢◌, ℕ, ◌+◌, ◌<◌, ◌≤◌, Bool, true, false, ◌&&◌, List, [], ◌∷◌, ◌++◌, length, take, drop}
-use Rattle.std.proofs.Common.{get_or, set, refl, sym, ap, ap₂, subst, ◌∙◌, arith, append_assoc, append-nil, length-append}
+use Rattle.std.proofs.Common.{◌≡◌, ◌≢◌, ℕ, ◌+◌, ◌<◌, ◌≤◌, Bool, true, false, ◌&&◌, List, [], ◌∷◌, ◌++◌, length, take}
+use Rattle.std.proofs.Common.{drop}
+use Rattle.std.proofs.Common.{get_or, set, refl, sym, ap, ap₂, subst, ◌∙◌, arith, append_assoc, append-nil}
+use Rattle.std.proofs.Common.{length-append}
 use Rattle.std.proofs.Common.{take-append-drop, drop-cons, add-one}
 use Rattle.std.proofs.lemmas.List.{set_at, take_more}
 use Rattle.std.specs.List.{concat}
@@ -12,7 +14,7 @@ use Rattle.der_ber.specs.declared.parts.Part.{Part}
 use Rattle.der_ber.specs.Strings.{most_unused, AreBits, IsBitString, IsJoined}
 use Rattle.der_ber.specs.Parts.{part_bytes, written, contents, is_in, are_in, IsAppended}
 use Rattle.der_ber.specs.Joining.{IsContentPushed, AreBitsPushed, AreSegmentsPushed, IsSegmentPushed}
-use Rattle.der_ber.specs.Joining.{FailsSegment, FailsBits, BreaksParts, FailsContent}
+use Rattle.der_ber.specs.Joining.{IsBadSegment, FailsSegment, FailsBits, BreaksParts, FailsContent}
 use Rattle.der_ber.proofs.BitLemmas.{concat-append, bits_after, bits_ended, bits_good}
 use Rattle.der_ber.proofs.PartLemmas.{written-append, contents-append, are_in-append}
 
@@ -67,7 +69,8 @@ pub octets_more : (inside : List Part) (i : ℕ) (p : Part) (old now new : List 
     → IsAppended now new (concat (contents (p ∷ []))) n → sum ≡ m + n
     → IsAppended old new (concat (contents (take (i + 1) inside))) sum
 octets_more inside i p old now new m n sum h e first second total =
-    let whole : concat (contents (take i inside)) ++ concat (contents (p ∷ [])) ≡ concat (contents (take (i + 1) inside)) =
+    let whole : concat (contents (take i inside)) ++ concat (contents (p ∷ []))
+    ≡ concat (contents (take (i + 1) inside)) =
     sym (ap (λ l. concat (contents l)) (take_next inside i p h e)
     ∙ ap concat (contents-append (take i inside) (p ∷ []))
     ∙ concat-append (contents (take i inside)) (contents (p ∷ []))) in
@@ -102,28 +105,29 @@ module _ (inside : List Part) (i : ℕ) (p : Part) (h : i < length inside) (e : 
       (sym (ap contents (take_next inside i p h e) ∙ contents-append (take i inside) (p ∷ [])))
       (segments_after _ _ unused later old now new m n sum first second total)
 
+  no_bits : (unused : ℕ) (old now : List Part) (m : ℕ) (segment : List ℕ)
+      → AreSegmentsPushed (contents (take i inside)) unused old now m → contents (p ∷ []) ≡ segment ∷ []
+      → IsBadSegment segment unused → {content : List ℕ} → IsBitString (contents inside) content → ⊥
+  no_bits unused old now m segment first is bad k =
+      let xs = contents (take i inside) in
+      let ys = contents (drop (i + 1) inside) in
+      let whole : contents inside ≡ xs ++ (segment ∷ ys) =
+      ap contents (parts_at inside i p h e)
+      ∙ contents-append (take i inside) (p ∷ drop (i + 1) inside)
+      ∙ ap (λ l. xs ++ l) (contents-append (p ∷ []) (drop (i + 1) inside) ∙ ap (λ l. l ++ ys) is) in
+      let bits : AreBits (xs ++ (segment ∷ ys)) k.unused k.bits =
+      subst (λ l. AreBits l k.unused k.bits) whole k.are_bits in
+      let good = bits_good xs ys segment k.unused k.bits bits in
+      bits_ended xs ys segment unused k.unused first.bits k.bits first.are_bits
+      (λ none. bad none good.unused good.bits good.is good.few) bits
+
   pub bits_fail : (unused at : ℕ) (old now : List Part) (m : ℕ) (error : BerError)
       → AreSegmentsPushed (contents (take i inside)) unused old now m
       → FailsSegment at (contents (p ∷ [])) unused error → FailsBits at (contents inside) error
   bits_fail unused at old now m OutOfMemory first f = tt
   bits_fail unused at old now m (Broken position r) first f =
       let (same, rules, one) = f in
-      let (segment, is, bad) = one in
-      let whole : contents inside ≡ contents (take i inside) ++ (segment ∷ contents (drop (i + 1) inside)) =
-      ap contents (parts_at inside i p h e) ∙ contents-append (take i inside) (p ∷ drop (i + 1) inside)
-      ∙ ap (λ l. contents (take i inside) ++ l)
-      (contents-append (p ∷ []) (drop (i + 1) inside) ∙ ap (λ l. l ++ contents (drop (i + 1) inside)) is) in (
-        same,
-        rules,
-        λ content k.
-            let bits : AreBits (contents (take i inside) ++ (segment ∷ contents (drop (i + 1) inside))) k.unused k.bits =
-            subst (λ l. AreBits l k.unused k.bits) whole k.are_bits in
-            let (count, good) = bits_good (contents (take i inside)) (contents (drop (i + 1) inside)) segment k.unused k.bits
-            bits in
-            let (c, begins, few) = good in
-            bits_ended (contents (take i inside)) (contents (drop (i + 1) inside)) segment unused k.unused first.bits k.bits
-            first.are_bits (λ none. bad none count c begins few) bits,
-      )
+      (same, rules, λ content k. no_bits unused old now m one.segment first one.is one.bad k)
 
 pub bits_begin : (old : List Part) → AreSegmentsPushed [] 0 old old 0
 bits_begin old = record { bits = []; are_bits = (refl, refl); pushed = appended_none old }

@@ -1,5 +1,6 @@
 -- DER is BER.
-use Rattle.std.proofs.Common.{◌≡◌, ℕ, ◌+◌, ◌^◌, ◌<◌, Bool, true, false, List, [], ◌∷◌, ◌++◌, length, refl, sym, ap, subst, ◌∙◌, arith}
+use Rattle.std.proofs.Common.{◌≡◌, ℕ, ◌+◌, ◌^◌, ◌<◌, Bool, true, false, List, [], ◌∷◌, ◌++◌, length, refl, sym, ap}
+use Rattle.std.proofs.Common.{subst, ◌∙◌, arith}
 use Rattle.std.proofs.Common.{append_assoc, length-append}
 use Rattle.picky_der_core.specs.Element.{tlv, length_octets}
 use Rattle.der_ber.specs.Nodes.{Nodes, encoding}
@@ -73,7 +74,8 @@ whole_own : (strings : Strings) (n w : Nodes) (bytes : List ℕ) → HasLongLeng
 unfolding encoding
 whole_own strings Nodes.none w s h p = subst IsOwn (sym p) (λ small. refl)
 whole_own strings (Nodes.primitive tag c a) w s h p =
-    subst IsOwn (sym p.is) (primitive_own tag c p.after h.is_tag (whole_own strings a p.after h.after h.others p.others))
+    subst IsOwn (sym p.is)
+    (primitive_own tag c p.after h.is_tag (whole_own strings a p.after h.after h.others p.others))
 whole_own strings (Nodes.constructed tag i a) w s h (BeginsWhole.string part c after e content is others) =
     let o = opened tag (HasLongLengths i) (HasLongLengths a) s h in
     subst IsOwn (sym is)

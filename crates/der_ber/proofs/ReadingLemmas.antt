@@ -251,7 +251,8 @@ module _ (strings : Strings) (room offset start : ℕ) (bytes content : List ℕ
         before + (length refused.passed + refused.at),
         omega (arith, place, refused.is, s),
         subst (λ n. IsBroken strings n bytes (before + (length refused.passed + refused.at)) r) levels
-            (IsBroken.inside strings strings (room - 1) bytes u tag before content refused.passed refused.rest refused.at
+            (IsBroken.inside strings strings (room - 1) bytes u tag before content refused.passed refused.rest
+            refused.at
             r opens (AreInside.same (none_at strings tag bytes rest none is) refl) refused.before refused.broken),
       )
 
@@ -259,7 +260,8 @@ module _ (strings : Strings) (room offset start : ℕ) (bytes content : List ℕ
       → end ≡ offset + (length bytes - length after) → start ≡ end - length content
       → FailsWithin until.End strings (room - 1) start content e → FailsAt strings room offset bytes e
   fails_definite tag end after is_tag d ends s f =
-      fails_in until.End tag (1 + length d.octets) _ (record { after = after; is_tag = is_tag; definite = d; is = refl })
+      fails_in until.End tag (1 + length d.octets) _
+      (record { after = after; is_tag = is_tag; definite = d; is = refl })
       d.is (start_is tag offset start end content bytes after d ends s) e f
 
   pub fails_indefinite : (tag : ℕ) → IsTag tag true → bytes ≡ tag ∷ (0x80 ∷ content) → start ≡ offset + 2

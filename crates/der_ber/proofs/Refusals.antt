@@ -203,8 +203,8 @@ inside_first : (u : Until) (strings inner : Strings) (room : ℕ) (bytes : List 
 inside_first u strings inner room bytes first start content o in_it v Nodes.none s y z h e end goes levels w =
     let same : bytes ≡ y = e ∙ ap (λ l. l ++ y) h in
     absurd (goes z (subst (λ l. IsEnd v l z) (sym same) end))
-inside_first u strings inner room bytes first start content o in_it v (Nodes.primitive tag c a) s y z h e end goes levels
-    w =
+inside_first u strings inner room bytes first start content o in_it v (Nodes.primitive tag c a) s y z h e end goes
+    levels w =
     absurd (other_form tag first s bytes y [] (primitive_tag tag c (HasLongLengths a) s h)
     (opens_tag u first bytes start content o) (sym e ∙ sym (append-nil bytes)))
 inside_first u strings inner room bytes first start content o in_it v (Nodes.constructed tag i a) s y z h e end goes
@@ -265,8 +265,8 @@ none_broken _ _ _ _ _ (IsBroken.string strings room bytes r b) v nodes s y z h e
     no_string strings b.tag b.segment b.inside p.nodes w.whole r b.is_string b.breaks
     (subst (λ n. HasParts strings n w.whole) p.whole w.has_parts)
 none_broken _ _ _ _ _
-    (IsBroken.inside strings inner room bytes u tag start content passed rest at r opens in_it before broken) v nodes s y
-    z h e end goes levels w =
+    (IsBroken.inside strings inner room bytes u tag start content passed rest at r opens in_it before broken) v nodes s
+    y z h e end goes levels w =
     let i = inside_first u strings inner room bytes tag start content opens in_it v nodes s y z h e end goes levels w in
     let p =
     split before.nodes passed rest before.elements i.nodes i.bytes i.after i.elements (sym before.is ∙ i.is) u i.rest

@@ -1,5 +1,6 @@
 -- Reading a string in parts, which becomes primitive.
-use Rattle.std.proofs.Common.{◌≡◌, ℕ, ◌+◌, ◌<◌, ◌≤◌, true, false, List, [], ◌∷◌, ◌++◌, length, take, drop, set, refl, sym, ap}
+use Rattle.std.proofs.Common.{◌≡◌, ℕ, ◌+◌, ◌<◌, ◌≤◌, true, false, List, [], ◌∷◌, ◌++◌, length, take, drop, set, refl}
+use Rattle.std.proofs.Common.{sym, ap}
 use Rattle.std.proofs.Common.{ap₂, subst, ◌∙◌, arith, append_assoc, append-nil, length-append}
 use Rattle.std.specs.Prelude.{Option, Some, None}
 use Rattle.std.proofs.lemmas.List.{set_at, take_at, drop_at}
@@ -130,7 +131,8 @@ module _ (bytes : List ℕ) (string : WholeString) (strings : Strings) (s : IsSt
     module _ (later new : List Part) (last : Part) (len total : ℕ)
         (h : IsContentPushed string.segment inside head later len) (g : new ≡ set later (length old) last)
         (header : last ≡ part.Header string.tag len) (sizes : total ≡ 1 + length (length_octets len) + len) where
-      string_read : (i : IsInParts s.first room bytes old now rest) → IsElementRead strings room bytes old new total rest
+      string_read : (i : IsInParts s.first room bytes old now rest)
+          → IsElementRead strings room bytes old new total rest
       unfolding encoding tlv
       string_read i =
           let ps = h.pushed.parts in

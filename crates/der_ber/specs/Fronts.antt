@@ -57,7 +57,7 @@ pub record ArePassed (until : Until) (strings : Strings) (room : ℕ) (bytes pas
   pub has_parts : HasParts strings nodes whole
   pub goes_on : (after : List ℕ) → IsEnd until rest after → ⊥
 
--- which rule the elements in a string break: one isn't a part of it, or the bits of a bit string aren't those of segments
+-- which rule the elements in a string break: one isn't a part of it, or no bit string has the bits of its segments
 pub data BreaksString (segment : ℕ) (inside : Nodes) (r : BerRule) : Type 0 where
   part : are_segments segment inside ≡ false → r ≡ rule.WrongPart → BreaksString segment inside r
   bits : segment ≡ 0x03 → ((content : List ℕ) → IsBitString (segments inside) content → ⊥) → r ≡ rule.UnusedBits

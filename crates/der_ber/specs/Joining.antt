@@ -42,10 +42,16 @@ abbrev pub IsBadSegment : List ℕ → ℕ → Type 0
 IsBadSegment segment unused =
     unused ≡ 0 → (count : ℕ) (bits : List ℕ) → segment ≡ count ∷ bits → count ≤ most_unused bits → ⊥
 
+-- it is the content of a part
+pub record IsBadPart (segments : List (List ℕ)) (unused : ℕ) : Type 0 where
+  pub segment : List ℕ
+  pub is : segments ≡ segment ∷ []
+  pub bad : IsBadSegment segment unused
+
 abbrev pub FailsSegment : ℕ → List (List ℕ) → ℕ → BerError → Type 0
 FailsSegment at segments unused OutOfMemory = ⊤
 FailsSegment at segments unused (Broken position r) =
-    (position ≡ at) × (r ≡ rule.UnusedBits) × ((segment : List ℕ) × (segments ≡ segment ∷ []) × IsBadSegment segment unused)
+    (position ≡ at) × (r ≡ rule.UnusedBits) × IsBadPart segments unused
 
 -- no content of a bit string has these segments
 abbrev pub AreNoBits : List (List ℕ) → Type 0

@@ -1,5 +1,5 @@
 //! Reads elements of any length form, at every depth.
-ghost use Rattle.std.specs.Prelude.{◌≡◌, ◌+◌, ◌-◌, ◌^◌, ◌<◌, length, None, IfOk, IfErr};
+ghost use Rattle.std.specs.Prelude.{◌≡◌, ◌+◌, ◌-◌, ◌^◌, ◌<◌, length, IfOk, IfErr};
 ghost use Rattle.der_ber.specs.Strings.{segment_at, segment_of};
 ghost use Rattle.der_ber.specs.Reading.{IsElementRead, IsFrontRead, AreRead, IsInsideRead, FailsAt, FailsWithin};
 

@@ -1,5 +1,5 @@
 //! Strings in parts (X.690, 8.6.4, 8.7.3, 8.23.3).
-ghost use Rattle.std.specs.Prelude.{◌≡◌, None, MatchOption};
+ghost use Rattle.std.specs.Prelude.{◌≡◌, MatchOption};
 ghost use Rattle.der_ber.specs.Strings.{is_octets, segment_tag, segment_first, segment_at, IsStringAt};
 
 use picky_der_core::asn1::Tag;
