@@ -12,7 +12,7 @@ use Rattle.der_ber.specs.declared.error.BerRule.{BerRule}
 use Rattle.der_ber.specs.declared.error.BerRule.TheVariants as rule
 use Rattle.der_ber.specs.declared.parts.Part.{Part}
 use Rattle.der_ber.specs.Strings.{most_unused, AreBits, IsBitString, IsJoined}
-use Rattle.der_ber.specs.Parts.{part_bytes, written, contents, is_in, are_in, IsAppended}
+use Rattle.der_ber.specs.Parts.{part_bytes, written, content_in, contents, is_in, are_in, IsAppended}
 use Rattle.der_ber.specs.Joining.{IsContentPushed, AreBitsPushed, AreSegmentsPushed, IsSegmentPushed}
 use Rattle.der_ber.specs.Joining.{IsBadSegment, FailsSegment, FailsBits, BreaksParts, FailsContent}
 use Rattle.der_ber.proofs.BitLemmas.{concat-append, bits_after, bits_ended, bits_good}
@@ -36,6 +36,38 @@ appended_more old now new b c m n sum h k e = record {
   writes = written-append h.parts k.parts ∙ ap₂ (λ s t. s ++ t) h.writes k.writes;
   counted = omega (arith, h.counted, k.counted, length-append b c);
 }
+
+-- ---- one part of a string
+
+module _ (p : Part) (c : List ℕ) (h : content_in p ≡ c ∷ []) where
+  contents_are : contents (p ∷ []) ≡ c ∷ []
+  contents_are = ap (λ l. l ++ []) h
+
+  pub octets_pushed : (old new : List Part) (q : Part) (size : ℕ) → new ≡ old ++ (q ∷ []) → part_bytes q ≡ c
+      → size ≡ length c → IsAppended old new (concat (contents (p ∷ []))) size
+  octets_pushed old new q size e f g =
+      subst (λ l. IsAppended old new l size) (sym (ap concat contents_are ∙ append-nil c))
+      (appended_one old new q c size e f g)
+
+  pub segment_pushed : (old new : List Part) (q : Part) (unused later : ℕ) (bits : List ℕ) (size : ℕ)
+      → c ≡ later ∷ bits → later ≤ most_unused bits → unused ≡ 0 → new ≡ old ++ (q ∷ []) → part_bytes q ≡ bits
+      → size ≡ length bits → IsSegmentPushed (contents (p ∷ [])) unused later old new size
+  segment_pushed old new q unused later bits size is few none e f g =
+      IsSegmentPushed.one bits (contents_are ∙ ap (λ l. l ∷ []) is) none few (appended_one old new q bits size e f g)
+
+  pub fails_bad : (at unused : ℕ) → IsBadSegment c unused
+      → FailsSegment at (contents (p ∷ [])) unused (Broken at rule.UnusedBits)
+  fails_bad at unused bad = (refl, refl, record { segment = c; is = contents_are; bad = bad })
+
+module _ (p : Part) (h : content_in p ≡ []) (old : List Part) where
+  nothing : contents (p ∷ []) ≡ []
+  nothing = ap (λ l. l ++ []) h
+
+  pub no_octets : IsAppended old old (concat (contents (p ∷ []))) 0
+  no_octets = subst (λ l. IsAppended old old l 0) (sym (ap concat nothing)) (appended_none old)
+
+  pub no_segment : (unused : ℕ) → IsSegmentPushed (contents (p ∷ [])) unused unused old old 0
+  no_segment unused = IsSegmentPushed.none nothing refl (appended_none old)
 
 -- ---- the parts in a string
 

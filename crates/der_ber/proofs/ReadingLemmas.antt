@@ -134,13 +134,13 @@ start_is tag offset start end c bytes after d e s =
     let others = length-append c after in
     omega arith
 
-pub read_primitive : (strings : Strings) (room tag : ℕ) (c bytes after : List ℕ) (old now new : List Part)
-    (p q : Part) (size : ℕ) → IsTag tag false → IsDefinite tag c bytes after → now ≡ old ++ (p ∷ [])
-    → p ≡ part.Header tag (length c) → new ≡ now ++ (q ∷ []) → part_bytes q ≡ c → content_in q ≡ c ∷ []
+pub read_primitive : (strings : Strings) (room tag : ℕ) (c bytes after : List ℕ) (old new : List Part)
+    (p q : Part) (size : ℕ) → IsTag tag false → IsDefinite tag c bytes after → new ≡ old ++ (p ∷ (q ∷ []))
+    → p ≡ part.Header tag (length c) → part_bytes q ≡ c → content_in q ≡ c ∷ []
     → ((segment : ℕ) → is_in segment q ≡ true) → size ≡ 1 + length (length_octets (length c)) + length c
     → IsFrontRead strings room bytes old new size after
 unfolding encoding tlv
-read_primitive strings room tag c bytes after old now new p q size is_tag d e header f content segment no_tag sizes =
+read_primitive strings room tag c bytes after old new p q size is_tag d e header content segment no_tag sizes =
     record {
       read = record {
         nodes = Nodes.primitive tag c Nodes.none;
@@ -151,7 +151,7 @@ read_primitive strings room tag c bytes after old now new p q size is_tag d e he
         whole = Nodes.primitive tag c Nodes.none;
         has_parts = record { after = Nodes.none; is = refl; others = refl };
         parts = p ∷ (q ∷ []);
-        appended = f ∙ ap (λ l. l ++ (q ∷ [])) e ∙ append_assoc old (p ∷ []) (q ∷ []);
+        appended = e;
         writes = ap₂ (λ s t. part_bytes s ++ (t ++ [])) header content
             ∙ ap (λ l. tag ∷ (length_octets (length c) ++ l)) (append-nil c)
             ∙ sym (append-nil (tlv tag c));

@@ -87,10 +87,11 @@ fn push_octets_of<'a>(part: &Part<'a>, parts: &mut Vec<Part<'a>>) -> Result<usiz
 {
     match *part {
         Part::Content(content) => {
-            parts.push(Part::Content(content))?;
+            parts.extend_from_slice(&[Part::Content(content)])?;
             Ok(content.len())
         }
-        Part::Header { .. } | Part::UnusedBits(_) => Ok(0),
+        Part::Header { .. } => Ok(0),
+        Part::UnusedBits(_) => Ok(0),
     }
 }
 
@@ -106,7 +107,7 @@ fn push_bits<'a>(
     ensures err { IfErr result (FailsBits position (contents inside.now)) }
 {
     let place = parts.len();
-    parts.push(Part::UnusedBits(0))?;
+    parts.extend_from_slice(&[Part::UnusedBits(0)])?;
     let mut unused = 0;
     let mut len = 0;
     for part in inside {
@@ -142,10 +143,11 @@ fn push_segment<'a>(
             let Some((later, bits)) = split_unused(content) else {
                 return Err(broken);
             };
-            parts.push(Part::Content(bits))?;
+            parts.extend_from_slice(&[Part::Content(bits)])?;
             Ok((later, bits.len()))
         }
-        Part::Header { .. } | Part::UnusedBits(_) => Ok((unused, 0)),
+        Part::Header { .. } => Ok((unused, 0)),
+        Part::UnusedBits(_) => Ok((unused, 0)),
     }
 }
 

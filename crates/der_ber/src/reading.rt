@@ -95,8 +95,7 @@ fn read_front<'a>(
             after,
         } => {
             let content_len = content.len();
-            parts.push(Part::Header { tag, content_len })?;
-            parts.push(Part::Content(content))?;
+            parts.extend_from_slice(&[Part::Header { tag, content_len }, Part::Content(content)])?;
             Ok((element_size(content_len)?, after))
         }
         Front::Definite {
@@ -142,10 +141,10 @@ fn read_inside<'a>(
     ensures err { IfErr result (FailsWithin until strings (room - 1) offset bytes.now) }
 {
     let place = parts.len();
-    parts.push(Part::Header {
+    parts.extend_from_slice(&[Part::Header {
         tag,
         content_len: 0,
-    })?;
+    }])?;
     let (content_len, after) = read_elements(bytes, until, offset, room - 1, strings, parts)?;
     parts[place] = Part::Header { tag, content_len };
     Ok((element_size(content_len)?, after))

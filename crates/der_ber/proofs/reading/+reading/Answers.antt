@@ -69,8 +69,7 @@ pub read_front-returns-in_ok-element_size-in-Primitive-clause-ok :
 read_front-returns-in_ok-element_size-in-Primitive-clause-ok t c =
     let d = c.in-Primitive in
     read_primitive c.args.strings c.args.room d.tag d.content.now c.args.bytes.now d.after.now c.args.parts.now.items
-    c.push-in-Primitive.new.self.items c.push-in-Primitive-2.new.self.items _ _ _ d.ensures.0 d.ensures.1
-    c.in_ok-push-in-Primitive.ensures.items refl c.in_ok-push-in-Primitive-2.ensures.items refl refl (λ _. refl)
+    _ _ _ _ d.ensures.0 d.ensures.1 c.in_ok-extend_from_slice-in-Primitive.ensures.items refl refl refl (λ _. refl)
     c.in_ok-element_size-in-Primitive.ensures.ok
 
 pub read_front-returns-in_err-size-in-Definite-clause-err : goal.read_front-returns-in_err-size-in-Definite-clause-err
@@ -111,7 +110,7 @@ read_inside-returns-clause-ok t c =
     omega (arith, c.len-place.ensures, c.args.parts.now.ok.0) in
     let last : Part = part.Header c.args.tag c.in_ok-content_len.content_len in
     read_inside c.args.tag c.args.until c.args.strings c.args.room (c.args.room - 1) c.args.bytes.now
-    c.args.parts.now.items c.push.new.self.items c.read_elements.new.parts.items _ _ last
+    c.args.parts.now.items c.extend_from_slice.new.self.items c.read_elements.new.parts.items _ _ last
     c.in_ok-content_len.content_len _ c.in_ok-content_len.after.now (omega (arith, c.requires.room))
-    c.in_ok-push.ensures.items c.in_ok-content_len.ensures.ok
+    c.in_ok-extend_from_slice.ensures.items c.in_ok-content_len.ensures.ok
     (ap (λ n. set c.read_elements.new.parts.items n last) place) refl c.in_ok-element_size.ensures.ok
