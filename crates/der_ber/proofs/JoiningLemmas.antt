@@ -3,7 +3,7 @@ use Rattle.std.proofs.Common.{◌≡◌, ◌≢◌, ℕ, ◌+◌, ◌<◌, ◌�
 use Rattle.std.proofs.Common.{drop}
 use Rattle.std.proofs.Common.{get_or, set, refl, sym, ap, ap₂, subst, ◌∙◌, arith, append_assoc, append-nil}
 use Rattle.std.proofs.Common.{length-append}
-use Rattle.std.proofs.Common.{take-append-drop, drop-cons, add-one}
+use Rattle.std.proofs.Common.{take-append-drop, take_all, drop-cons, add-one}
 use Rattle.std.proofs.lemmas.List.{set_at, take_more}
 use Rattle.std.specs.List.{concat}
 use Rattle.der_ber.specs.declared.error.BerError.{BerError}
@@ -181,6 +181,19 @@ bits_pushed segments old now later new unused n size first last e h f g total =
         counted = omega (arith, total, h.pushed.counted);
       };
     }
+
+-- the loop has gone through all of them
+pub all_octets : (inside : List Part) (i : ℕ) (old new : List Part) (size : ℕ) → length inside ≤ i
+    → IsAppended old new (concat (contents (take i inside))) size
+    → IsAppended old new (concat (contents inside)) size
+all_octets inside i old new size h k =
+    subst (λ l. IsAppended old new (concat (contents l)) size) (take_all i inside h) k
+
+pub all_bits : (inside : List Part) (i unused : ℕ) (old new : List Part) (size : ℕ) → length inside ≤ i
+    → AreSegmentsPushed (contents (take i inside)) unused old new size
+    → AreSegmentsPushed (contents inside) unused old new size
+all_bits inside i unused old new size h k =
+    subst (λ l. AreSegmentsPushed (contents l) unused old new size) (take_all i inside h) k
 
 -- ---- both
 

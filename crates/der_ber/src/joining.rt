@@ -115,8 +115,9 @@ fn push_bits<'a>(
         unused = later;
         len = sum(len, added)?;
     }
+    let content_len = sum(1, len)?;
     parts[place] = Part::UnusedBits(unused);
-    sum(1, len)
+    Ok(content_len)
 }
 
 // Appends the bits of a part, where the part before it has so many unused ones. Returns how many are unused now, and
