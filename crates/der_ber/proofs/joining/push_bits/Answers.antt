@@ -17,7 +17,7 @@ loop-part-preserved c =
 
 pub returns-in_err-later-clause-err : goal.returns-in_err-later-clause-err
 returns-in_err-later-clause-err c =
-    let p = err_from_is_err_and c.from_residual.result c.from_residual.ensures.1 in
+    let p = err_from_is_err_and c.from_residual-in_err-later.result c.from_residual-in_err-later.ensures.1 in
     rw (p.1, p.2) (bits_fail c.args.inside.now c.loop-part.part-index c.part-item.result (omega arith) c.part-item.is
     c.loop-part.unused c.args.position c.extend_from_slice.new.self.items c.loop-part.parts.items c.loop-part.len _
     c.loop-part.invariant c.in_err-later.ensures.err)

@@ -58,6 +58,38 @@ read_elements-loop-after-preserved t c =
     c.loop-after.parts.items c.loop-after.size c.loop-after.invariant _ c.in_ok-added.added _ c.in_ok-added.after.now
     c.in_ok-added.ensures.ok c.in_ok-size.ensures.ok
 
+-- ---- read_element
+
+pub read_element-returns-in_err-after-clause-err : goal.read_element-returns-in_err-after-clause-err
+read_element-returns-in_err-after-clause-err t c =
+    let p = err_from_is_err_and c.from_residual.result c.from_residual.ensures.1 in
+    rw (p.1, p.2) (fails_inside c.args.strings c.in-Some.string c.args.room c.args.offset c.args.bytes.now _
+    c.in-Some.ensures c.in_err-after.ensures.err)
+
+pub read_element-returns-in_err-content_len-clause-err : goal.read_element-returns-in_err-content_len-clause-err
+read_element-returns-in_err-content_len-clause-err t c =
+    let p =
+    err_from_is_err_and c.from_residual-in_err-content_len.result c.from_residual-in_err-content_len.ensures.1 in
+    let as_many : c.len-place.result + 1 ≡ length c.args.parts.now.items + 1 =
+    omega (arith, c.len-place.ensures, c.args.parts.now.ok.0) in
+    rw (p.1, p.2) (fails_string c.args.bytes.now c.in-Some.string c.args.strings c.in-Some.ensures c.args.room
+    c.args.parts.now.items c.read_front-2.new.parts.items _ c.in_ok-after.after.now c.in_ok-after.ensures.ok
+    c.split_off.new.self.items c.deref.result.now (c.len-place.result + 1) as_many c.in_ok-inside.ensures.items
+    (c.deref.ensures.value ∙ c.in_ok-inside.ensures.tail) c.args.offset _ c.in_err-content_len.ensures.err)
+
+pub read_element-returns-clause-ok : goal.read_element-returns-clause-ok
+read_element-returns-clause-ok t c =
+    let place : c.len-place.result ≡ length c.args.parts.now.items =
+    omega (arith, c.len-place.ensures, c.args.parts.now.ok.0) in
+    let as_many : c.len-place.result + 1 ≡ length c.args.parts.now.items + 1 = omega arith in
+    let last : Part = part.Header c.in-Some.string.tag c.in_ok-content_len.content_len in
+    read_string c.args.bytes.now c.in-Some.string c.args.strings c.in-Some.ensures c.args.room c.args.parts.now.items
+    c.read_front-2.new.parts.items _ c.in_ok-after.after.now c.in_ok-after.ensures.ok c.split_off.new.self.items
+    c.deref.result.now (c.len-place.result + 1) as_many c.in_ok-inside.ensures.items
+    (c.deref.ensures.value ∙ c.in_ok-inside.ensures.tail) c.push_content.new.parts.items _ last
+    c.in_ok-content_len.content_len _ c.in_ok-content_len.ensures.ok
+    (ap (λ n. set c.push_content.new.parts.items n last) place) refl c.in_ok-element_size.ensures.ok
+
 -- ---- read_front
 
 pub read_front-returns-in-Broken-clause-err : goal.read_front-returns-in-Broken-clause-err
