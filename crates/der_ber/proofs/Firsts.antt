@@ -1,12 +1,12 @@
 -- The first of some elements.
-use Rattle.std.proofs.Common.{◌≡◌, ℕ, ◌+◌, ◌<◌, Bool, true, false, List, [], ◌∷◌, ◌++◌, length, refl, sym, ap, subst}
-use Rattle.std.proofs.Common.{◌∙◌, arith, append_assoc}
+use Rattle.std.proofs.Common.{◌≡◌, ℕ, Bool, true, false, List, [], ◌∷◌, ◌++◌, length, sym, ap, subst}
+use Rattle.std.proofs.Common.{◌∙◌, append_assoc}
 use Rattle.picky_der_core.specs.Tag.{is_constructed}
 use Rattle.picky_der_core.specs.ElementLaws.{same_front}
 use Rattle.der_ber.specs.declared.front.Until.{Until}
 use Rattle.der_ber.specs.declared.front.Until.TheVariants as until
 use Rattle.der_ber.specs.LongLengths.{is_reserved, IsTag, IsDefinite, BeginsPrimitive, BeginsConstructed}
-use Rattle.der_ber.specs.Fronts.{IsEnd, OpensDefinite, OpensIndefinite, Opens}
+use Rattle.der_ber.specs.Fronts.{IsEnd, Opens}
 use Rattle.der_ber.proofs.LengthLemmas.{same_length, not_indefinite}
 
 -- ---- tags

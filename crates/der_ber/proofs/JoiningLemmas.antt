@@ -1,5 +1,5 @@
 -- The content of a string that becomes primitive.
-use Rattle.std.proofs.Common.{◌≡◌, ◌≢◌, ℕ, ◌+◌, ◌<◌, ◌≤◌, Bool, true, false, ◌&&◌, List, [], ◌∷◌, ◌++◌, length, take}
+use Rattle.std.proofs.Common.{◌≡◌, ◌≢◌, ℕ, ◌+◌, ◌<◌, ◌≤◌, true, false, ◌&&◌, List, [], ◌∷◌, ◌++◌, length, take}
 use Rattle.std.proofs.Common.{drop}
 use Rattle.std.proofs.Common.{get_or, set, refl, sym, ap, ap₂, subst, ◌∙◌, arith, append_assoc, append-nil}
 use Rattle.std.proofs.Common.{length-append}
@@ -8,11 +8,10 @@ use Rattle.std.proofs.lemmas.List.{set_at, take_more}
 use Rattle.std.specs.List.{concat}
 use Rattle.der_ber.specs.declared.error.BerError.{BerError}
 use Rattle.der_ber.specs.declared.error.BerError.TheVariants.{OutOfMemory, Broken}
-use Rattle.der_ber.specs.declared.error.BerRule.{BerRule}
 use Rattle.der_ber.specs.declared.error.BerRule.TheVariants as rule
 use Rattle.der_ber.specs.declared.parts.Part.{Part}
 use Rattle.der_ber.specs.Strings.{most_unused, AreBits, IsBitString, IsJoined}
-use Rattle.der_ber.specs.Parts.{part_bytes, written, content_in, contents, is_in, are_in, IsAppended}
+use Rattle.der_ber.specs.Parts.{part_bytes, content_in, contents, is_in, are_in, IsAppended}
 use Rattle.der_ber.specs.Joining.{IsContentPushed, AreBitsPushed, AreSegmentsPushed, IsSegmentPushed}
 use Rattle.der_ber.specs.Joining.{IsBadSegment, FailsSegment, FailsBits, BreaksParts, FailsContent}
 use Rattle.der_ber.proofs.BitLemmas.{concat-append, bits_after, bits_ended, bits_good}

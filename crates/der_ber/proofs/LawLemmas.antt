@@ -1,5 +1,5 @@
 -- DER is BER.
-use Rattle.std.proofs.Common.{◌≡◌, ℕ, ◌+◌, ◌^◌, ◌<◌, Bool, true, false, List, [], ◌∷◌, ◌++◌, length, refl, sym, ap}
+use Rattle.std.proofs.Common.{◌≡◌, ℕ, ◌^◌, ◌<◌, true, false, List, ◌∷◌, ◌++◌, length, refl, sym, ap}
 use Rattle.std.proofs.Common.{subst, ◌∙◌, arith}
 use Rattle.std.proofs.Common.{append_assoc, length-append}
 use Rattle.picky_der_core.specs.Element.{tlv, length_octets}
@@ -7,7 +7,7 @@ use Rattle.der_ber.specs.Nodes.{Nodes, encoding}
 use Rattle.picky_der_core.specs.Tag.{number_of}
 use Rattle.der_ber.specs.declared.strings.Strings.{Strings}
 use Rattle.der_ber.specs.declared.strings.Strings.TheVariants.{InParts, Whole}
-use Rattle.der_ber.specs.LongLengths.{IsTag, IsDefinite, BeginsPrimitive, BeginsConstructed, HasLongLengths}
+use Rattle.der_ber.specs.LongLengths.{IsTag, IsDefinite, BeginsConstructed, HasLongLengths}
 use Rattle.der_ber.specs.Strings.{BeginsWhole, HasParts}
 use Rattle.der_ber.specs.Laws.{DerIsBer, StaysShort, OneWhole, StaysWhole}
 use Rattle.der_ber.proofs.StringTags.{whole_is_tag}

@@ -1,7 +1,7 @@
 -- Reading elements one after another, and what is in them.
 use Rattle.std.proofs.Common.{◌≡◌, ℕ, suc, ◌+◌, ◌-◌, ◌<◌, ◌≤◌, true, false, List, [], ◌∷◌, ◌++◌, length, refl, sym, ap}
 use Rattle.std.proofs.Common.{ap₂, subst, ◌∙◌, arith, append_assoc, append-nil, length-append, set}
-use Rattle.std.specs.Prelude.{Option, Some, None}
+use Rattle.std.specs.Prelude.{None}
 use Rattle.std.proofs.lemmas.List.{set_at}
 use Rattle.picky_der_core.specs.Element.{tlv, length_octets}
 use Rattle.der_ber.specs.declared.error.BerError.{BerError}
@@ -13,11 +13,11 @@ use Rattle.der_ber.specs.declared.parts.Part.{Part}
 use Rattle.der_ber.specs.declared.parts.Part.TheVariants as part
 use Rattle.der_ber.specs.declared.strings.Strings.{Strings}
 use Rattle.der_ber.specs.Nodes.{Nodes, encoding}
-use Rattle.der_ber.specs.LongLengths.{IsTag, IsDefinite, BeginsPrimitive, BeginsConstructed, HasLongLengths}
-use Rattle.der_ber.specs.Strings.{segment_of, segment_at, BeginsSame, BeginsWhole, HasParts}
+use Rattle.der_ber.specs.LongLengths.{IsTag, IsDefinite, BeginsConstructed, HasLongLengths}
+use Rattle.der_ber.specs.Strings.{segment_of, segment_at, BeginsWhole}
 use Rattle.der_ber.specs.Broken.{Breaks}
-use Rattle.der_ber.specs.Fronts.{IsEnd, Opens, ArePassed, AreInside, IsBroken, IsRefused}
-use Rattle.der_ber.specs.Parts.{part_bytes, written, content_in, is_in, ArePartsOf}
+use Rattle.der_ber.specs.Fronts.{IsEnd, Opens, AreInside, IsBroken}
+use Rattle.der_ber.specs.Parts.{part_bytes, content_in, is_in}
 use Rattle.der_ber.specs.Reading.{IsElementRead, IsFrontRead, AreRead, IsInsideRead, FailsAt, FailsWithin}
 use Rattle.der_ber.proofs.StringTags.{at_first}
 use Rattle.der_ber.proofs.Joined.{join, encoding-join, depth-join, joined}

@@ -1,27 +1,27 @@
 -- No elements have bytes in which one breaks a rule.
-use Rattle.std.proofs.Common.{◌≡◌, ℕ, suc, ◌+◌, ◌<◌, ◌≤◌, max, Bool, true, false, List, [], ◌∷◌, ◌++◌, length, refl}
-use Rattle.std.proofs.Common.{sym, ap, subst, ◌∙◌, arith, append_assoc, append-nil, length-append}
+use Rattle.std.proofs.Common.{◌≡◌, ℕ, suc, ◌+◌, ◌<◌, ◌≤◌, Bool, true, false, List, [], ◌∷◌, ◌++◌, length, refl}
+use Rattle.std.proofs.Common.{sym, ap, subst, ◌∙◌, arith, append-nil, length-append}
 use Rattle.picky_der_core.specs.Tag.{number_of, is_constructed}
 use Rattle.der_ber.specs.declared.short_lengths.TheConstants.{MAX_DEPTH}
 use Rattle.der_ber.specs.declared.error.BerRule.{BerRule}
-use Rattle.std.specs.Prelude.{Option, Some, None}
+use Rattle.std.specs.Prelude.{Some, None}
 use Rattle.der_ber.specs.declared.strings.Strings.{Strings}
 use Rattle.der_ber.specs.declared.front.Until.{Until}
 use Rattle.der_ber.specs.declared.front.Until.TheVariants as until
 use Rattle.der_ber.specs.Nodes.{Nodes, depth}
 use Rattle.der_ber.specs.Lengths.{IsLength}
-use Rattle.der_ber.specs.LongLengths.{is_reserved, IsTag, IsDefinite, BeginsPrimitive, BeginsConstructed}
+use Rattle.der_ber.specs.LongLengths.{is_reserved, IsTag, IsDefinite, BeginsConstructed}
 use Rattle.der_ber.specs.LongLengths.{HasLongLengths}
 use Rattle.der_ber.specs.Broken.{BreaksLength, Breaks}
 use Rattle.der_ber.specs.Strings.{segment_of, segments, IsJoined, IsWholeContent, BeginsWhole, HasParts}
-use Rattle.der_ber.specs.Fronts.{IsEnd, OpensDefinite, OpensIndefinite, Opens, ArePassed, BreaksString, IsWrongString}
+use Rattle.der_ber.specs.Fronts.{IsEnd, Opens, BreaksString}
 use Rattle.der_ber.specs.Fronts.{AreInside, IsBroken, IsRefused}
 use Rattle.der_ber.specs.InDer.{AreNoneWith}
 use Rattle.der_ber.proofs.LengthLemmas.{same_length, not_indefinite, some_octets, not_cut, not_reserved}
 use Rattle.der_ber.proofs.Firsts.{definite_then, same_definite, one_form, indefinite_bytes, indefinite_then, HasTag}
 use Rattle.der_ber.proofs.Firsts.{primitive_tag, constructed_tag, opens_tag, other_form}
-use Rattle.der_ber.proofs.Joined.{join, depth-join_second}
-use Rattle.der_ber.proofs.Splits.{Rest, split}
+use Rattle.der_ber.proofs.Joined.{depth-join_second}
+use Rattle.der_ber.proofs.Splits.{split}
 use Rattle.der_ber.proofs.WholeLemmas.{stays, CanBeWhole, whole_second}
 
 -- ---- the first element breaks no rule

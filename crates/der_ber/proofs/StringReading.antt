@@ -1,8 +1,8 @@
 -- Reading a string in parts, which becomes primitive.
-use Rattle.std.proofs.Common.{◌≡◌, ℕ, ◌+◌, ◌<◌, ◌≤◌, true, false, List, [], ◌∷◌, ◌++◌, length, take, drop, set, refl}
+use Rattle.std.proofs.Common.{◌≡◌, ℕ, ◌+◌, ◌≤◌, true, false, List, [], ◌∷◌, ◌++◌, length, take, drop, set, refl}
 use Rattle.std.proofs.Common.{sym, ap}
 use Rattle.std.proofs.Common.{ap₂, subst, ◌∙◌, arith, append_assoc, append-nil, length-append}
-use Rattle.std.specs.Prelude.{Option, Some, None}
+use Rattle.std.specs.Prelude.{Some, None}
 use Rattle.std.proofs.lemmas.List.{set_at, take_at, drop_at}
 use Rattle.picky_der_core.specs.Tag.{number_of, is_constructed}
 use Rattle.picky_der_core.specs.Element.{tlv, length_octets}
@@ -12,19 +12,19 @@ use Rattle.der_ber.specs.declared.error.BerRule.{BerRule}
 use Rattle.der_ber.specs.declared.parts.Part.{Part}
 use Rattle.der_ber.specs.declared.parts.Part.TheVariants as part
 use Rattle.der_ber.specs.declared.strings.Strings.{Strings}
-use Rattle.der_ber.specs.declared.strings.Strings.TheVariants.{InParts, Whole}
+use Rattle.der_ber.specs.declared.strings.Strings.TheVariants.{InParts}
 use Rattle.der_ber.specs.declared.strings.WholeString.{WholeString}
 use Rattle.der_ber.specs.Nodes.{Nodes, encoding, depth}
-use Rattle.der_ber.specs.LongLengths.{IsTag, BeginsPrimitive, HasLongLengths}
-use Rattle.der_ber.specs.Strings.{segment_of, segment_at, IsStringAt, are_segments, segments, IsBitString, IsJoined}
-use Rattle.der_ber.specs.Strings.{IsWholeContent, BeginsWhole, HasParts}
-use Rattle.der_ber.specs.Fronts.{AreInside, BreaksString, IsWrongString, IsBroken}
-use Rattle.der_ber.specs.Parts.{part_bytes, written, contents, are_in, IsAppended, ArePartsOf}
+use Rattle.der_ber.specs.LongLengths.{HasLongLengths}
+use Rattle.der_ber.specs.Strings.{segment_of, IsStringAt, are_segments, segments, IsJoined}
+use Rattle.der_ber.specs.Strings.{BeginsWhole}
+use Rattle.der_ber.specs.Fronts.{AreInside, BreaksString, IsBroken}
+use Rattle.der_ber.specs.Parts.{part_bytes, contents, are_in, ArePartsOf}
 use Rattle.der_ber.specs.Joining.{AreNoBits, IsContentPushed, BreaksParts, FailsContent}
 use Rattle.der_ber.specs.Reading.{IsSingle, IsElementRead, IsFrontRead, FailsAt}
 use Rattle.der_ber.proofs.Firsts.{HasTag, primitive_tag, constructed_tag, opens_tag}
-use Rattle.der_ber.proofs.StringTags.{at_first, parts_is_constructed}
-use Rattle.der_ber.proofs.PartLemmas.{written-append, segments_of, tags_of}
+use Rattle.der_ber.proofs.StringTags.{parts_is_constructed}
+use Rattle.der_ber.proofs.PartLemmas.{segments_of, tags_of}
 use Rattle.der_ber.proofs.ReadingLemmas.{length-element}
 
 -- the element is constructed, and these are its header and the parts of what is in it

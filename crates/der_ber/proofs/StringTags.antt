@@ -1,8 +1,8 @@
 -- Tags of strings in parts.
-use Rattle.std.proofs.Common.{◌≡◌, ℕ, ◌+◌, ◌-◌, ◌/◌, ◌%◌, ◌<◌, ◌≤◌, Bool, true, false, ◌||◌, ◌&&◌, cond, List, []}
+use Rattle.std.proofs.Common.{◌≡◌, ℕ, ◌-◌, ◌/◌, ◌%◌, ◌≤◌, Bool, true, false, cond, List}
 use Rattle.std.proofs.Common.{◌∷◌, refl}
-use Rattle.std.proofs.Common.{sym, ap, subst, ◌∙◌, arith, inl, inr}
-use Rattle.std.specs.Prelude.{◌==◌, ◌⊎◌, nat_le, Option, Some, None}
+use Rattle.std.proofs.Common.{ap, arith, inl, inr}
+use Rattle.std.specs.Prelude.{◌==◌, ◌⊎◌, Some, None}
 use Rattle.std.proofs.lemmas.Bool.Decides.{nat_tests}
 use Rattle.picky_der_core.specs.Tag.{number_of, is_constructed}
 use Rattle.der_ber.specs.declared.strings.Strings.{Strings}

@@ -1,5 +1,5 @@
 -- What comes of all bytes.
-use Rattle.std.proofs.Common.{◌≡◌, ◌≢◌, ℕ, ◌+◌, List, [], ◌∷◌, ◌++◌, length, refl, sym, ap, subst, ◌∙◌, arith}
+use Rattle.std.proofs.Common.{◌≡◌, ◌≢◌, ℕ, List, [], ◌++◌, refl, ap, subst, ◌∙◌, arith}
 use Rattle.der_ber.specs.declared.short_lengths.TheConstants.{MAX_DEPTH}
 use Rattle.der_ber.specs.declared.error.BerError.{BerError}
 use Rattle.der_ber.specs.declared.error.BerError.TheVariants.{OutOfMemory, Broken}

@@ -1,11 +1,11 @@
 -- Elements, and the same with whole strings.
-use Rattle.std.proofs.Common.{◌≡◌, ℕ, ◌+◌, ◌<◌, true, List, [], ◌∷◌, ◌++◌, length, refl, sym, ap, subst, ◌∙◌}
-use Rattle.std.specs.Prelude.{Option, Some, None}
+use Rattle.std.proofs.Common.{◌≡◌, refl, sym, ap, subst, ◌∙◌}
+use Rattle.std.specs.Prelude.{Some, None}
 use Rattle.picky_der_core.specs.Tag.{number_of}
 use Rattle.der_ber.specs.declared.strings.Strings.{Strings}
-use Rattle.der_ber.specs.declared.strings.Strings.TheVariants.{InParts, Whole}
+use Rattle.der_ber.specs.declared.strings.Strings.TheVariants.{InParts}
 use Rattle.der_ber.specs.Nodes.{Nodes}
-use Rattle.der_ber.specs.Strings.{segment_of, IsWholeContent, BeginsSame, BeginsWhole, HasParts, segments}
+use Rattle.der_ber.specs.Strings.{IsWholeContent, BeginsWhole, HasParts, segments}
 use Rattle.der_ber.proofs.BitLemmas.{same_joined}
 use Rattle.der_ber.proofs.Joined.{join}
 

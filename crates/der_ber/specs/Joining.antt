@@ -1,6 +1,5 @@
 -- The content of a string that becomes primitive.
 use Rattle.std.specs.Prelude.{◌≡◌, ℕ, ◌≤◌, true, false, List, [], ◌∷◌, ⊤}
-use Rattle.std.specs.List.{concat}
 use Rattle.der_ber.specs.declared.error.BerError.{BerError}
 use Rattle.der_ber.specs.declared.error.BerError.TheVariants.{OutOfMemory, Broken}
 use Rattle.der_ber.specs.declared.error.BerRule.{BerRule}

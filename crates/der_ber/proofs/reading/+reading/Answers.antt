@@ -1,13 +1,11 @@
-use Rattle.std.proofs.Common.{◌≡◌, ◌+◌, ◌-◌, length, refl, sym, ap, ◌∙◌, set, arith}
+use Rattle.std.proofs.Common.{◌≡◌, ◌+◌, ◌-◌, length, refl, ap, ◌∙◌, set, arith}
 use Rattle.std.proofs.lemmas.Result.{err_from_is_err_and, IfOk-weaker, IfErr-weaker}
-use Rattle.der_ber.specs.declared.front.Until.TheVariants as until
 use Rattle.der_ber.specs.declared.parts.Part.{Part}
 use Rattle.der_ber.specs.declared.parts.Part.TheVariants as part
-use Rattle.der_ber.specs.Reading.{FailsAt, FailsWithin, IsInsideRead, IsFrontRead}
 use Rattle.der_ber.proofs.ReadingLemmas.{read_nothing, read_more, rest_within, fails_after, read_primitive}
 use Rattle.der_ber.proofs.ReadingLemmas.{read_definite, read_indefinite, fails_here, fails_definite, fails_indefinite}
 use Rattle.der_ber.proofs.ReadingLemmas.{read_inside}
-use Rattle.der_ber.proofs.StringReading.{some_part, read_string, fails_string, fails_inside}
+use Rattle.der_ber.proofs.StringReading.{read_string, fails_string, fails_inside}
 use Rattle.der_ber.proofs.reading.+reading.Goals as goal
 
 -- ---- read_elements
