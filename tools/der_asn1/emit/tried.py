@@ -9,8 +9,7 @@ _NO_MEMORY = "(InvalidData ≡ OutOfMemory) ⊎ (InvalidData ≡ InvalidData)"
 
 _LEMMAS = f"""
 -- Why an element is no value of a type.
-use Rattle.std.proofs.Common.{{◌≡◌, refl, subst, sym, ◌∙◌, ℕ, Bool, true, false, List, Option, None, IfNone, ◌⊎◌, inl, inr}}
-use Rattle.picky_der_core.specs.Tree.{{Tree}}
+use Rattle.std.proofs.Common.{{◌≡◌, refl, subst, sym, ◌∙◌, Option, None, IfNone, ◌⊎◌, inl, inr}}
 use {_ERRORS}.{{Asn1DerError}}
 use {_ERRORS}.TheVariants.{{InvalidData, OutOfMemory}}
 
@@ -33,11 +32,6 @@ where_none {{P = P}} found e h = elim (subst (λ it. IfNone it Stated) e h) [
   where
     Stated : Type 0
     Stated = {_NO_MEMORY} × P
-
--- a value with this element would pass the test that the one found doesn't
-pub where_unlisted : (passes : List ℕ → Bool) (s t b : List ℕ) → Tree.raw s ≡ Tree.raw b → Tree.raw t ≡ Tree.raw b
-    → passes s ≡ true → passes t ≡ false → ⊥
-where_unlisted passes s t b x y p q = cc
 """
 
 
