@@ -16,11 +16,11 @@ from .enum import TERMS_FILE, terms_file
 from .folder import NOTE
 from .imports import MOST_GROUPED
 from .layout import comment, filled, natural
-from .listed import LISTED_FILE, is_encoded, listed_terms
+from .listed import LISTED_FILE, is_element, is_encoded, listed_terms
 from .named import named_file
 from .notation import defined, notation_file, notation_terms
 from .private_names import PrivateNames
-from .tried import shared_proofs, tried_answers, tried_path
+from .tried import later_answers, later_path, shared_proofs, tried_answers, tried_path
 from .types import ONLY, Context, stems_of, types_file
 from .union import ELEMENTS, TRIED, elements_file
 from .values import Value, value_file
@@ -92,6 +92,8 @@ class Crate:
                 found[answers_path(it, stem)] = self.file("--", answers, {it.module})
             if isinstance(it, UnionDeclaration):
                 found[tried_path(it.name, stem)] = self.file("--", tried_answers(it, self.name, stem), {it.module})
+            if isinstance(it, ListedDeclaration) and is_element(it):
+                found[later_path(it, stem)] = self.file("--", later_answers(it, self.name, stem), {it.module})
         return found
 
     def term_files(self) -> dict[str, str]:

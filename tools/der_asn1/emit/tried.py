@@ -1,5 +1,5 @@
 """The proofs about an element of which several types are tried: that it is a value of none of them, where each was tried."""
-from ..meaning.declarations import UnionDeclaration
+from ..meaning.declarations import ListedDeclaration, UnionDeclaration
 from .union import ELEMENTS, TRIED
 
 # the file of the lemmas, in the folder of the module that tries a type
@@ -9,7 +9,12 @@ _NO_MEMORY = "(InvalidData ≡ OutOfMemory) ⊎ (InvalidData ≡ InvalidData)"
 
 _LEMMAS = f"""
 -- Why an element is no value of a type.
-use Rattle.std.proofs.Common.{{◌≡◌, refl, subst, sym, ◌∙◌, Option, None, IfNone, ◌⊎◌, inl, inr}}
+use Rattle.std.proofs.Common.{{◌≡◌, refl, subst, sym, ap, ◌∙◌, ℕ, Bool, true, false, not, ◌||◌, nat_eq, List, [], ◌∷◌}}
+use Rattle.std.proofs.Common.{{Option, Some, None, IfNone, ◌⊎◌, inl, inr}}
+use Rattle.std.proofs.lemmas.Bool.{{eq-eqb, eqb-true}}
+use Rattle.std.specs.List.{{list_any}}
+use Rattle.std.specs.Prelude.{{slice_get}}
+use Rattle.picky_der_core.specs.Shape.{{begins_outside}}
 use {_ERRORS}.{{Asn1DerError}}
 use {_ERRORS}.TheVariants.{{InvalidData, OutOfMemory}}
 
@@ -32,6 +37,35 @@ where_none {{P = P}} found e h = elim (subst (λ it. IfNone it Stated) e h) [
   where
     Stated : Type 0
     Stated = {_NO_MEMORY} × P
+
+-- ---- a byte that isn't listed
+
+agree : (x y : Bool) → (x ≡ true → y ≡ true) → (y ≡ true → x ≡ true) → x ≡ y
+agree true y f g = sym (f refl)
+agree false true f g = g refl
+agree false false f g = refl
+
+both_ways : (a b : ℕ) → nat_eq a b ≡ nat_eq b a
+both_ways a b = agree (nat_eq a b) (nat_eq b a) (λ e. eq-eqb b a (sym (eqb-true a b e)))
+    (λ e. eq-eqb a b (sym (eqb-true b a e)))
+
+same_tests : (f g : ℕ → Bool) → ((x : ℕ) → f x ≡ g x) → (xs : List ℕ) → list_any f xs ≡ list_any g xs
+same_tests f g e [] = refl
+same_tests f g e (x ∷ xs) = ap (λ b. b || list_any f xs) (e x) ∙ ap (λ b. g x || b) (same_tests f g e xs)
+
+nothing : (b : ℕ) → Some b ≡ None → ⊥
+nothing b e = cc
+
+-- an element begins otherwise exactly if its first byte isn't listed
+pub begins_otherwise : {{known : List ℕ}} (bytes shown : List ℕ) (first : ℕ) (found : Bool) → shown ≡ bytes
+    → Some first ≡ slice_get shown 0 → found ≡ list_any (λ it. nat_eq it first) known
+    → not found ≡ begins_outside known bytes
+begins_otherwise bytes [] first found same there listed = absurd (nothing first there)
+begins_otherwise {{known = known}} bytes (x ∷ xs) first found same there listed =
+    let is : first ≡ x = cc in
+    subst (λ s. not found ≡ begins_outside known s) same
+    (ap not (listed ∙ (same_tests (λ it. nat_eq it first) (λ it. nat_eq first it) (λ it. both_ways it first) known
+    ∙ ap (λ b. list_any (λ it. nat_eq b it) known) is)))
 """
 
 
@@ -82,3 +116,20 @@ def tried_answers(declared: UnionDeclaration, crate: str, stem: str) -> list[str
         ok, rest = (f"c.{step}{f'-{index + 1}' if index else ''}" for step in ("in_ok-it", "in_default"))
         lines.append(f"  | variants.{it.name} x ↦ where_none {ok}.field-0 {rest}.is {ok}.ensures.none x")
     return [*lines, "  ])"]
+
+
+def later_path(declared: ListedDeclaration, stem: str) -> str:
+    """The path of the proof of the test of a later alternative. `stem` is the name of the file of the type."""
+    return f"proofs/{stem}/{declared.function}/Answers.antt"
+
+
+def later_answers(declared: ListedDeclaration, crate: str, stem: str) -> list[str]:
+    """The lines of that proof. The prover finds it by itself for some bytes, but not for those of twenty alternatives."""
+    return [
+        f"use Rattle.{crate}.proofs.{ELEMENTS}.{_REASONS}.{{begins_otherwise}}",
+        f"use Rattle.{crate}.proofs.{stem}.{declared.function}.Goals as goal",
+        "",
+        "pub returns-in-Some : goal.returns-in-Some",
+        "returns-in-Some c = begins_otherwise c.args.value.now.0.items c.deref.result.now c.in-Some.first.now c.contains.result",
+        "    c.deref.ensures.value c.in-Some.ensures.value c.contains.ensures.value",
+    ]

@@ -30,6 +30,10 @@ class Tried(unittest.TestCase):
     def test_each_alternative_is_a_call_that_found_none(self):
         self.assertEqual(ANSWERS, files_of("T ::= CHOICE { a [0] NULL, ... }")["proofs/types/TTryVia/try_from_parts/Answers.antt"])
 
+    def test_the_first_byte_of_a_later_alternative(self):
+        text = files_of("T ::= CHOICE { a [0] NULL, ... }")["proofs/types/is_t_later/Answers.antt"]
+        self.assertIn("use Rattle.it.proofs.types.is_t_later.Goals as goal\n\npub returns-in-Some : goal.returns-in-Some\n", text)
+
     def test_the_lemmas_are_there_once(self):
         found = files_of("T ::= CHOICE { a [0] NULL, ... }\nU ::= CHOICE { b [1] NULL, ... }")
         wanted = ["proofs/elements.antt", "proofs/elements/Reasons.antt", "proofs/elements/encoded_if/Answers.antt"]
