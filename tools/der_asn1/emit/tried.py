@@ -58,11 +58,11 @@ nothing : (b : ℕ) → Some b ≡ None → ⊥
 nothing b e = cc
 
 -- an element begins otherwise exactly if its first byte isn't listed
-pub begins_otherwise : {{known : List ℕ}} (bytes shown : List ℕ) (first : ℕ) (found : Bool) → shown ≡ bytes
+pub begins_otherwise : (known bytes shown : List ℕ) (first : ℕ) (found : Bool) → shown ≡ bytes
     → Some first ≡ slice_get shown 0 → found ≡ list_any (λ it. nat_eq it first) known
     → not found ≡ begins_outside known bytes
-begins_otherwise bytes [] first found same there listed = absurd (nothing first there)
-begins_otherwise {{known = known}} bytes (x ∷ xs) first found same there listed =
+begins_otherwise known bytes [] first found same there listed = absurd (nothing first there)
+begins_otherwise known bytes (x ∷ xs) first found same there listed =
     let is : first ≡ x = cc in
     subst (λ s. not found ≡ begins_outside known s) same
     (ap not (listed ∙ (same_tests (λ it. nat_eq it first) (λ it. nat_eq first it) (λ it. both_ways it first) known
@@ -135,7 +135,7 @@ def later_answers(declared: ListedDeclaration, crate: str, stem: str) -> list[st
         "",
         "pub returns-in-Some : goal.returns-in-Some",
         "returns-in-Some c = begins_otherwise",
-        *broken([f"{{known = {listed}}}"], ""),
+        *broken([f"({listed})"], ""),
         "    c.args.value.now.0.items c.deref.result.now c.in-Some.first.now c.contains.result c.deref.ensures.value",
         "    c.in-Some.ensures.value c.contains.ensures.value",
     ]
