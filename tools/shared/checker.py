@@ -27,8 +27,8 @@ class Said:
 
     def __init__(self, crate: str, text: str) -> None:
         self.crate, self.lines = crate, text.split("\n")
-        self.is_judged = any(line.startswith("logic=") for line in self.lines)
-        self.is_proved = any(line.startswith("logic=proved") for line in self.lines)
+        self.is_judged = any(line.startswith(("logic=", "only=")) for line in self.lines)
+        self.is_proved = any(re.match(r"logic=proved|only=(\d+) proved=\1$", line) for line in self.lines)
         self.status: dict[str, str] = {}
         self.notes: dict[str, list[str]] = {}
         self.faults: list[Fault] = []
@@ -98,6 +98,13 @@ class Said:
         """Why nothing follows from what it said, as a line."""
         unread = self.unread()
         return (unread[0].text if unread else next((it for it in self.lines if "error" in it), "no verdict"))[:200]
+
+
+def path_of(function: Function, with_methods: set[str]) -> str:
+    """What the checker's option `--only` calls a function of a crate with methods of these types: without the module for such a method."""
+    path, block, name = function
+    front = [] if block in with_methods else source.module_of(path)
+    return "::".join([*front, *filter(None, [block]), name])
 
 
 def by_laws(said: Said, edit: Edit, batch: list[Edit]) -> tuple[list[str], list[Edit]]:

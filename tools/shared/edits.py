@@ -74,7 +74,7 @@ class Edit:
 
     def look_at(self, texts: Texts) -> None:
         """Finds `changed`, what the edit makes of each function of these texts that it changes or adds; `own`, the functions that it is
-        about; `laws`, the goals of laws that quote an implementation of which it changes or adds a function; and `touched`, what no two
+        about; `is_of_function`, whether its name is that of a function; `laws`, the goals of laws that quote an implementation of which it changes or adds a function; and `touched`, what no two
         edits that are tried at once may share. A function that it adds counts by its name alone there, since the methods of a type may be
         in several files.
 
@@ -87,6 +87,7 @@ class Edit:
         blocks_before = blocks_of(texts.get(file_of(self.name.split(".")[0]), ""))
         if not any(map(self.names, self.changed)) and not self.is_about(named, before, texts_after, blocks_before):
             raise BadEdit("the function in its name is none of those that it changes")
+        self.is_of_function = bool(named) or any(map(self.names, self.changed))
         self.own = sorted([it for it in named if it in old] or named or old or self.changed)
         self.laws = {it: said for it, text in before.items() if it not in self.changed and (said := goals_about(text, {block for _, block, _ in self.changed}))}
         self.touched: set[tuple[str, ...]] = {*self.own, *self.changed, *(it[1:] for it in self.changed if it not in before)}
@@ -141,6 +142,12 @@ def functions_of(path: str, text: str) -> dict[Function, str]:
 def blocks_of(text: str) -> set[str]:
     """The names of the blocks of a file."""
     return {source.block_of(header) for header, _, _ in source.parts(text)[1]}
+
+
+def types_with_methods(texts: Texts) -> set[str]:
+    """The types of a crate with methods of their own, which may be in any file."""
+    headers = [header for path, text in texts.items() if path.startswith("src/") for header, _, _ in source.parts(text)[1]]
+    return {source.block_of(it) for it in headers if it.startswith("impl") and " for " not in it}
 
 
 def all_functions(texts: Texts) -> dict[Function, str]:

@@ -5,7 +5,7 @@ import unittest
 from unittest import mock
 
 from shared import edits
-from shared.checker import Said, judge
+from shared.checker import Said, judge, path_of
 from shared.edits import Edit, Texts
 
 from . import script
@@ -185,10 +185,10 @@ class FakeCrate:
     """A crate whose checker is a table: a text in the file, and what is said if it is there."""
 
     def __init__(self, table: dict[str, str]) -> None:
-        self.name, self.table, self.checks = "mini", table, 0
+        self.name, self.table, self.checks, self.of_functions = "mini", table, 0, False
         self.texts, self.functions = TEXTS, edits.all_functions(TEXTS)
 
-    def check_with(self, texts: Texts) -> Said:
+    def check_with(self, texts: Texts, batch: list[Edit]) -> Said:
         """What is said of these texts."""
         self.checks += 1
         said = [words for piece, words in self.table.items() if piece in texts["src/lib.rt"]]
@@ -224,6 +224,25 @@ class Batches(unittest.TestCase):
         self.assertEqual(2, self.crate.checks)
 
 
+class Functions(unittest.TestCase):
+    def test_what_the_checker_calls_a_function(self) -> None:
+        methods = edits.types_with_methods({"src/size.rt": "impl Size { fn new() -> Size { Size } }\nimpl Clone for Size { }", "specs/a.antt": "impl Form {}"})
+        self.assertEqual({"Size"}, methods)
+        self.assertEqual("Size::new", path_of(("src/size.rt", "Size", "new"), methods))
+        self.assertEqual("impls::size::SizeClone::clone", path_of(("src/impls/size.rt", "SizeClone", "clone"), methods))
+        self.assertEqual("copies", path_of(("src/lib.rt", "", "copies"), methods))
+
+    def test_functions_alone_are_proved(self) -> None:
+        for said, is_proved in (("only=12 proved=12", True), ("only=12 proved=1", False), ("only=0 proved=0", True)):
+            self.assertEqual((True, is_proved), (Said("mini", said).is_judged, Said("mini", said).is_proved), said)
+
+    def test_an_implementation_needs_a_whole_check(self) -> None:
+        crate = FakeCrate({})
+        crate.of_functions = True
+        self.assertEqual([False, True], [edit(*it).is_of_function for it in (IS_HUGE, IS_3)])
+        self.assertEqual(["bad"], [it[1] for it in wrong_bodies.found_of(crate, [edit(*IS_HUGE)])])
+
+
 class Reports(unittest.TestCase):
     def reported(self, *found: tuple[str, str]) -> tuple[int, str]:
         """The status and the last line, for pairs of how an edit is known to survive and its verdict."""
@@ -252,5 +271,5 @@ class Reports(unittest.TestCase):
 
     def test_nothing_is_tried_in_a_crate_that_is_not_proved(self) -> None:
         crate = FakeCrate({})
-        with mock.patch.object(FakeCrate, "check", lambda self: Said("mini", CLAUSE), create=True):
+        with mock.patch.object(FakeCrate, "check", lambda self, given: Said("mini", CLAUSE), create=True):
             self.assertEqual(["bad"], [it[1] for it in wrong_bodies.found_of(crate, [edit(*IS_3)])])

@@ -50,7 +50,8 @@ StartsAt (Some digits) start = start ≡ digits_value 10 (without_leading_plus d
 -- a text that isn't a number in decimal digits, or is one of over 64 bits
 abbrev pub IsNoOffset : Option (List ℕ) → Type 0
 IsNoOffset None = ⊥
-IsNoOffset (Some text) = IsNumeral 10 (without_leading_plus text) → digits_value 10 (without_leading_plus text) < 2 ^ 64 → ⊥
+IsNoOffset (Some text) = IsNumeral 10 (without_leading_plus text)
+    → digits_value 10 (without_leading_plus text) < 2 ^ 64 → ⊥
 
 abbrev pub AreShowOptions : Found → ShowOptions → Type 0
 AreShowOptions found options = StartsAt (first_value found (codes "at")) options.start
@@ -71,15 +72,16 @@ IsSignersRequest found request = (is_some request.content ≡ is_some (first_val
 abbrev pub IsWanted : List (List ℕ) → Option MessageType → Type 0
 IsWanted [] type = type ≡ None
 IsWanted (_ ∷ []) type = type ≡ None
-IsWanted (word ∷ (_ ∷ _)) type = MatchOption type ((type : MessageType) → word_of type ≢ word) (λ type. word_of type ≡ word)
+IsWanted (word ∷ (_ ∷ _)) type = MatchOption type ((type : MessageType) → word_of type ≢ word)
+    (λ type. word_of type ≡ word)
 
 -- what the command with this name and these words is to do
 abbrev pub IsAction : List ℕ → Found → List (List ℕ) → Action → Type 0
 IsAction name found words (action.Show options) = (name ≡ codes "show") × AreShowOptions found options
 IsAction name found words (action.Cms request) = (name ≡ codes "cms") × IsSignersRequest found request
 IsAction name found words action.Certificate = name ≡ codes "certificate"
-IsAction name found words (action.Read type) = (name ≢ codes "show") × (name ≢ codes "cms") × (name ≢ codes "certificate")
-    × IsWanted words type
+IsAction name found words (action.Read type) = (name ≢ codes "show") × (name ≢ codes "cms")
+    × (name ≢ codes "certificate") × IsWanted words type
 
 abbrev pub is_dash : List ℕ → Bool
 is_dash word = bytes_eq word (codes "-")

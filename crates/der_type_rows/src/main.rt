@@ -12,6 +12,7 @@ mod rows;
 mod strings;
 mod texts;
 mod times;
+mod traits;
 mod usages;
 
 use rows::result_of;

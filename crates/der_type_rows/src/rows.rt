@@ -4,7 +4,7 @@ use crate::bits::{bits_of, changed, numbered, octets};
 use crate::integers::Way;
 use crate::messages::trials::Task;
 use crate::outcomes::{made, read};
-use crate::{bounds, integers, messages, strings, texts, times, usages};
+use crate::{bounds, integers, messages, strings, texts, times, traits, usages};
 use der_types::{
     BitString, GeneralizedTime, NamedBits, ObjectIdentifier, RelativeOid, Time, UtcTime,
 };
@@ -28,6 +28,7 @@ use std::alloc::{AllocError, Global};
 /// | `bounded TYPE BYTES` | a value within bounds |
 /// | `print TYPE BYTES` | what a copy prints as, what the value prints as for debugging, and whether both are equal |
 /// | `compare BYTES, BYTES` | how two INTEGERs are ordered |
+/// | `traits` | `named`, since the library's types have the traits that `traits.rt` names |
 /// | `message TYPE BYTES` | how a message is read and written back |
 /// | `try TYPE BYTES` | the same with all prefixes and changes |
 /// | `signed TYPE BYTES` | the bytes that are signed |
@@ -59,6 +60,7 @@ fn of_content(alloc: Global, word: &str, rest: &str) -> Result<String, AllocErro
         "characters" => strings::characters(alloc, rest),
         "print" => texts::print(alloc, rest),
         "compare" => texts::compare(alloc, rest),
+        "traits" => traits::all(alloc),
         "bounded" => bounds::bounded(alloc, rest),
         _ => of_bits(alloc, word, rest),
     }

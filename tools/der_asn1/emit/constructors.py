@@ -1,5 +1,5 @@
 """The file of constructors: for each struct `new`, a `with_` for each member that `new` leaves out, and an `_or_default` for numbers.
-For each choice there is one of each alternative under tags.
+For each choice there is one of each alternative under tags. A struct whose `new` has no parameter has `Default`.
 
 Each has a clause that says what all members of its value are, so that the check proves it by computing.
 """
@@ -79,7 +79,7 @@ def constructor_file(made: list[Made], homes: Mapping[str, str], types: Types) -
             uses.add(function.uses)
         uses.names.add(it.name)
         inner = [line for number, function in enumerate(functions) for line in (*([""] if number else []), *function.lines)]
-        body += ["", f"impl {it.name} {{", *inner, "}"]
+        body += ["", f"impl {it.name} {{", *inner, "}", *default_impl(it, types)]
     lines = ["//! Constructors of structs and choices, and numbers that have a default."]
     return [*lines, *uses.term_lines(), "", *uses.rust_lines(dict(homes), set()), *body]
 
@@ -118,6 +118,25 @@ def new_function(declared: StructDeclaration, types: Types) -> Function:
     lines += head("new", parameters, declared.name)
     lines += [*clause("record {", terms, "}"), *body(literal(declared.name, items))]
     return Function(lines, uses)
+
+
+def default_impl(declared: Made, types: Types) -> list[str]:
+    """The implementation of `Default`, by `new`, if no member has to be there."""
+    if isinstance(declared, ChoiceDeclaration) or declared.later or not all(left_out(it, types) for it in declared.fields):
+        return []
+    terms = [f"{it.name} = {left_out(it, types).term}" for it in declared.fields]
+    line = f"{STEP}ghost is_default = {{ λ it. it ≡ record {{ {'; '.join(terms)} }} }};"
+    broken = [f"{STEP}ghost is_default = {{ λ it. it ≡ record {{", *(f"{STEP}  {it};" for it in terms), f"{STEP}}} }};"]
+    return [
+        "",
+        f"impl Default for {declared.name} {{",
+        *([line] if len(line) <= GHOST_WIDTH else broken),
+        "",
+        f"{STEP}fn default() -> {declared.name} {{",
+        f"{_TWO}{declared.name}::new()",
+        f"{STEP}}}",
+        "}",
+    ]
 
 
 def about_new(declared: StructDeclaration, has_parameters: bool, types: Types) -> str:

@@ -9,7 +9,8 @@ from .added import added_lines, added_uses
 from .character_set import set_lines, set_uses
 from .choice import choice_lines, choice_uses
 from .comments import difference_note, sentence
-from .derives import with_derives
+from .copies import clone_impl, copies_uses, is_copied
+from .derives import derived, with_derives
 from .enum import TERMS_FILE, enum_lines, enum_uses
 from .faithful import faithful_default_impl, faithful_default_uses, faithful_impl, faithful_uses, inhabited_impl, inhabited_uses
 from .imports import Uses
@@ -58,7 +59,7 @@ def types_file(types: list[Declaration], stem: str, context: Context) -> list[st
     uses, body = Uses(), []
     for it in types:
         uses.add(uses_of(it, context))
-        body += ["", *with_derives(lines_of(it, stem, context), context.derives)]
+        body += ["", *with_derives(lines_of(it, stem, context), derived(it, context.derives))]
         for more, lines in promises(it, stem, context):
             uses.add(more)
             body += ["", *lines]
@@ -111,21 +112,22 @@ def lines_of(declared: Declaration, stem: str, context: Context) -> list[str]:
 
 
 def promises(declared: Declaration, stem: str, context: Context) -> list[tuple[Uses, list[str]]]:
-    """What says that a type's `==` is sameness of encodings, and that a value of it is readable.
+    """What says that a type's `==` is sameness of encodings, and that a value of it is readable; and the `Clone` that isn't derived.
 
     A name of another type has what that has, and members that were added are no type.
     """
+    copied = [(copies_uses(declared), clone_impl(declared))] if "Clone" in context.derives and is_copied(declared) else []
     is_name = isinstance(declared, AliasDeclaration) and not isinstance(declared, NewtypeDeclaration)
     is_kept = isinstance(declared, UnionDeclaration) or isinstance(declared, ListedDeclaration) and is_encoded(declared)
     if isinstance(declared, (AddedDeclaration, SetDeclaration)) or is_name or is_kept:
-        return []
+        return copied
     inner = context.names.of(declared, "Parts") if isinstance(declared, (StructDeclaration, ChoiceDeclaration)) else ""
     terms = f"Rattle.{context.crate}.specs.{TERMS_FILE}"
     found = [(faithful_uses(declared, terms), faithful_impl(declared, inner, home_of_terms(stem, context)))]
     if isinstance(declared, EnumDeclaration):
         found += [(faithful_default_uses(), faithful_default_impl(it, declared.name)) for it in declared.defaults]
     is_inhabited = declared.exact and has_example(declared, context.types)
-    return [*found, *([(inhabited_uses(), inhabited_impl(declared.name))] if is_inhabited else [])]
+    return [*copied, *found, *([(inhabited_uses(), inhabited_impl(declared.name))] if is_inhabited else [])]
 
 
 def home_of_terms(stem: str, context: Context) -> str:

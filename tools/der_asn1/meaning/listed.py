@@ -19,6 +19,8 @@ from .wording import snake
 if TYPE_CHECKING:
     from .types import Meanings
 
+# the contents of a BOOLEAN (X.690, 11.1)
+_TRUTHS = (b"\x00", b"\xff")
 # the name of the field, and of the ghost field by which its content is a listed one
 PART, GHOST = "value", "listed"
 
@@ -71,6 +73,10 @@ def listed(meanings: "Meanings", meaning: Meaning, type_: tree.Type, scope: Scop
     rust, contents = meaning.rust, limits.contents
     if contents.is_all() or rust is None or rust.own or rust.bounded or rust.text not in ACCESSED:
         return meaning, limits
+    if rust.core is Core.BOOL:
+        contents = Contents(frozenset(filter(contents.has, _TRUTHS)), False)
+        if len(contents.listed) > 1:
+            return meaning, replace(limits, contents=ANY_CONTENT)
     if not contents.is_other and limits.alphabet == NATURAL:
         contents = Contents(frozenset(it for it in contents.listed if _fits(it, limits, rust)), False)
         limits = replace(limits, size=NATURAL)

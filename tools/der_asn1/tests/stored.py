@@ -10,7 +10,13 @@ GOLDEN = Path(__file__).resolve().parent / "golden"
 _HEADING = re.compile(r"^==> (.*) <==\n", re.MULTILINE)
 
 # more options of a module
-_OPTIONS = {"filter": ["--depth", "3"], "fleet": ["--allow-raw", "Consumption"], "ldap": ["--depth", "3"], "options": ["--constructors"]}
+_OPTIONS = {
+    "filter": ["--depth", "3"],
+    "fleet": ["--allow-raw", "Consumption"],
+    "ldap": ["--depth", "3"],
+    "options": ["--constructors"],
+    "parcel": ["--derive", "Clone"],
+}
 # the modules that are over the crate of another one, which comes before them in the order of names
 _OVER = {"stamp": ("Request", "request")}
 

@@ -39,6 +39,13 @@ class New(unittest.TestCase):
         text = file_of("A ::= SEQUENCE { a NULL OPTIONAL }", "A")
         self.assertIn("    /// Returns the value whose members are absent.\n    pub fn new() -> A\n", text)
 
+    def test_then_it_is_the_default(self):
+        text = file_of("A ::= SEQUENCE { a NULL OPTIONAL, b BOOLEAN DEFAULT TRUE }", "A")
+        self.assertIn("impl Default for A {\n    ghost is_default = { λ it. it ≡ record { a = None; b = true } };\n", text)
+        self.assertIn("    fn default() -> A {\n        A::new()\n    }\n", text)
+        for members in ("a NULL, b BOOLEAN DEFAULT TRUE", "a NULL OPTIONAL, ..."):
+            self.assertNotIn("impl Default", file_of(f"A ::= SEQUENCE {{ {members} }}", "A"))
+
     def test_each_kind_of_default(self):
         body = """A ::= SEQUENCE { a [0] INTEGER (0..255) DEFAULT 7, b [1] INTEGER (-128..127) DEFAULT -3, c [2] E DEFAULT y, d [3] INTEGER DEFAULT 5,
             e [4] INTEGER (-128..127) DEFAULT 4 } E ::= ENUMERATED { x(3), y(9) }"""

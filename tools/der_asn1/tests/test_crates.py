@@ -77,7 +77,9 @@ class OwnFiles(unittest.TestCase):
         self.assertEqual(0, self.run_tool("--distinct", "Flags", "--derive", "Clone,Ord", "--derive", "PartialOrd")[0])
         derive = "#[derive(Debug, Clone, Drop, PartialEq, Eq, PartialOrd, Ord)]\n"
         self.assertIn(f"{derive}pub struct Flags(", self.text("src/types.rt"))
-        self.assertIn(f"{derive}pub struct Lamp {{", self.text("src/types.rt"))
+        self.assertIn(f"{derive.replace(' Clone,', '')}pub struct Lamp {{", self.text("src/types.rt"))
+        self.assertIn("impl Clone for Lamp {", self.text("src/types.rt"))
+        self.assertIn("mod copies;\n", self.text("src/lib.rt"))
 
     def test_traits_that_cannot_be(self):
         for words, wanted in (("Default", "`Default` can't be derived for all types"), ("Ord", "`Ord` needs `PartialOrd`")):

@@ -389,7 +389,7 @@ class Golden(unittest.TestCase):
 
     def test_each(self):
         names = golden_names()
-        self.assertEqual(21, len(names))
+        self.assertEqual(22, len(names))
         with tempfile.TemporaryDirectory() as there:
             for it in names:
                 with self.subTest(it):

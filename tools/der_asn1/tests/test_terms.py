@@ -87,6 +87,9 @@ class Terms(unittest.TestCase):
         pairs += [("ENUMERATED { x(3), y(1) } DEFAULT x", "default (number 3) (ENUMERATED (3 ∷ 1 ∷ []))")]
         self.check([(f"SEQUENCE {{ a {notation} }}", f"SEQUENCE ({wanted} ⨾ end)") for notation, wanted in pairs])
 
+    def test_a_boolean_of_both_values(self):
+        self.check([("BOOLEAN (TRUE | FALSE)", "BOOLEAN"), ("BOOLEAN (ALL EXCEPT TRUE)", "narrower BOOLEAN")])
+
     def test_automatic_tags(self):
         wanted = "SEQUENCE (required (CONTEXT 0 AUTOMATIC NULL) ⨾ required (CONTEXT 1 AUTOMATIC NULL) ⨾ end)"
         self.check([("SEQUENCE { a NULL, b NULL }", wanted)], "AUTOMATIC TAGS")
