@@ -1,10 +1,11 @@
 """The command line.
 
     der_asn1 --report [--types] [OPTION ..] MODULE.asn1 ..
-    der_asn1 --print crates/NAME/specs/Notation.antt ..
+    der_asn1 --print crates/NAME/specs/Notation.antt .. | FILE.rt ..
     der_asn1 --out crates/NAME [--type TYPE,..] [--group FILE=TYPE,..] [--crate MODULE=CRATE ..] [--distinct TYPE,..] [--own MODULE=NAME,..]
         [--own-terms NAME,..] [--constructors [TYPE,..]] [--raw-any] [--derive TRAIT,..] [--check] [--allow-raw [TYPE,..]]
         [--allow-wider [TYPE,..]] [OPTION ..] MODULE.asn1 ..
+    der_asn1 --schemas FILE.rt --crate MODULE=CRATE .. [--type TYPE,..] [--check] [OPTION ..] MODULE.asn1 ..
     der_asn1 derive [--check] FILE.rt ..
 
 `derive` is in derive.py, and writes what the structs and enums of a file of Rust need.
@@ -12,12 +13,14 @@
 `--report` prints how much is written without a flag, for each module how many of its types are expressed exactly, and which features of the
 library are missing for the others. `--types` adds a line for each type.
 
-`--print` prints the terms of a crate as ASN.1 again.
+`--print` prints the terms of a crate as ASN.1 again, or the table of a file that `--schemas` wrote.
 
 `--out` writes a crate of all types of the modules, or of the types after `--type` and what they need, and prints its line of `crates.txt`.
 `--check` writes nothing, and fails if a file isn't what would be written. What would be kept as bytes is an error without `--allow-raw`, and
 what would have other values than the notation is one without `--allow-wider`: one error for each cause, at the member that lacks something.
 Both may be for some types alone, those that the errors name.
+
+`--schemas` writes a file of a crate above those of the modules: the types as data, which der_schema has, with their names.
 
 An open type is any element that has elements in it at every depth. With `--raw-any` it is any element.
 
@@ -55,13 +58,17 @@ from .meaning.declarations import Declarations, NewtypeDeclaration
 from .meaning.meaning import lacks
 from .meaning.named import constants_of, names_of
 from .meaning.module_checks import ModuleChecks, identified
-from .meaning.other_crates import OtherCrates, other_crates
+from .meaning.other_crates import OtherCrates, other_crates, text_of
 from .meaning.scopes import Program
 from .meaning.recursion import DEPTH
 from .meaning.types import ASSOCIATED, Meanings, recursion_in
 from .parse import tree
 from .parse.modules import read_file
 from .parse.source import NotationError, Problems, Severity
+from .schema.printed import printed_table
+from .schema.read import read_table
+from .schema.tags import NoNode
+from .schema.written import schema_text
 from .report import report_of, types_table, whole
 
 # types inside of each other, each of which takes some calls
@@ -91,6 +98,7 @@ def arguments(words: Optional[list[str]]) -> argparse.Namespace:
     what = parser.add_mutually_exclusive_group(required=True)
     what.add_argument("--report", action="store_true", help="print how well each module is expressed")
     what.add_argument("--print", action="store_true", help="print files of terms, specs/Notation.antt of crates, as ASN.1")
+    what.add_argument("--schemas", metavar="FILE.rt", help="write the types of other crates as data")
     what.add_argument("--out", metavar="FOLDER", help="write a crate, whose name is that of the folder")
     parser.add_argument("--types", action="store_true", help="print a line for each type in the report, too")
     parser.add_argument("--type", action="append", default=[], metavar="TYPE,..", help="write these types and what they need")
@@ -157,6 +165,8 @@ def main(words: Optional[list[str]] = None) -> int:
         return shown_terms(options.files)
     problems = Problems(options.strict)
     modules, imported = read(options.files, problems), read(options.imported, problems)
+    if options.schemas:
+        return schemas(options, modules, imported, problems)
     if options.out:
         return written(options, modules, imported, problems)
     found = report_of(modules, problems, imported, options.depth, options.optional_defaults)
@@ -172,12 +182,17 @@ def shown_terms(paths: list[str]) -> int:
     for path in paths:
         try:
             with open(path, encoding="utf-8") as it:
-                print(printed(read_terms(it.read())), end="")
+                print(shown(path, it.read()), end="")
         except OSError as error:
             sys.exit(f"{path}: {error.strerror}")
         except ValueError as error:
             sys.exit(f"{path}: {error}")
     return 0
+
+
+def shown(path: str, text: str) -> str:
+    """A file of terms or of a table as a module of the notation."""
+    return printed_table(read_table(text)) if path.endswith(".rt") else printed(read_terms(text))
 
 
 def written(options: argparse.Namespace, modules: list[tree.Module], imported: list[tree.Module], problems: Problems) -> int:
@@ -206,6 +221,29 @@ def written(options: argparse.Namespace, modules: list[tree.Module], imported: l
     write(options.out, files, own)
     elements = ["der_elements"] if any("use der_elements::" in it for it in files.values()) else []
     print(" ".join([f"{name}:", *sorted({*crate.elsewhere.values(), *elements}), *NEEDS]))
+    return 0
+
+
+def schemas(options: argparse.Namespace, modules: list[tree.Module], imported: list[tree.Module], problems: Problems) -> int:
+    """Writes the types as data, or compares the file with what is there."""
+    how = How(listed(options.distinct), options.depth, options.optional_defaults, options.raw_any)
+    try:
+        others = other_crates(options.crate, os.path.join(os.path.dirname(os.path.abspath(options.schemas)), "../.."))
+    except OSError as error:
+        sys.exit(f"{error.filename}: {error.strerror}")
+    meanings, found = declared(Program(modules, problems, imported), listed(options.type), others, how)
+    if said(problems):
+        return 1
+    try:
+        text = schema_text(meanings.declarations, found, [*modules, *imported])
+    except NoNode as error:
+        sys.exit(f"{options.schemas}: {error}")
+    if not options.check:
+        with open(options.schemas, "w", encoding="utf-8") as it:
+            it.write(text)
+    elif not os.path.exists(options.schemas) or text_of(options.schemas) != text:
+        print(f"{options.schemas} isn't what would be written")
+        return 1
     return 0
 
 

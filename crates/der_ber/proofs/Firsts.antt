@@ -1,12 +1,12 @@
 -- The first of some elements.
-use Rattle.std.proofs.Common.{◌≡◌, ℕ, ◌+◌, ◌<◌, Bool, true, false, List, [], ◌∷◌, ◌++◌, length, refl, sym, ap, subst}
-use Rattle.std.proofs.Common.{◌∙◌, arith, append_assoc}
+use Rattle.std.proofs.Common.{◌≡◌, ℕ, Bool, true, false, List, [], ◌∷◌, ◌++◌, length, sym, ap, subst}
+use Rattle.std.proofs.Common.{◌∙◌, append_assoc}
 use Rattle.picky_der_core.specs.Tag.{is_constructed}
 use Rattle.picky_der_core.specs.ElementLaws.{same_front}
 use Rattle.der_ber.specs.declared.front.Until.{Until}
 use Rattle.der_ber.specs.declared.front.Until.TheVariants as until
 use Rattle.der_ber.specs.LongLengths.{is_reserved, IsTag, IsDefinite, BeginsPrimitive, BeginsConstructed}
-use Rattle.der_ber.specs.Fronts.{IsEnd}
+use Rattle.der_ber.specs.Fronts.{IsEnd, Opens}
 use Rattle.der_ber.proofs.LengthLemmas.{same_length, not_indefinite}
 
 -- ---- tags
@@ -86,6 +86,11 @@ constructed_tag tag I O s (BeginsConstructed.definite c after is_tag d i o) =
     record { is_tag = is_tag; rest = _; is = d.is }
 constructed_tag tag I O s (BeginsConstructed.indefinite c after is_tag e i o) =
     record { is_tag = is_tag; rest = _; is = e }
+
+pub opens_tag : (u : Until) (tag : ℕ) (bytes : List ℕ) (start : ℕ) (content : List ℕ)
+    → Opens u tag bytes start content → HasTag tag true bytes
+opens_tag until.End tag bytes start content o = record { is_tag = o.is_tag; rest = _; is = o.definite.is }
+opens_tag until.EndOfContents tag bytes start content o = record { is_tag = o.is_tag; rest = _; is = o.definite }
 
 pub tag_then : (tag : ℕ) (form : Bool) (s x : List ℕ) (h : HasTag tag form s) → s ++ x ≡ tag ∷ (h.rest ++ x)
 tag_then tag form s x h = ap (λ l. l ++ x) h.is

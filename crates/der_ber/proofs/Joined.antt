@@ -1,9 +1,9 @@
 -- Elements after elements.
-use Rattle.std.proofs.Common.{◌≡◌, ℕ, ◌+◌, ◌≤◌, max, List, [], ◌∷◌, ◌++◌, length, refl, sym, ap, subst, ◌∙◌, arith}
+use Rattle.std.proofs.Common.{◌≡◌, ℕ, ◌≤◌, List, ◌++◌, refl, sym, ap, subst, ◌∙◌, arith}
 use Rattle.std.proofs.Common.{append_assoc}
 use Rattle.picky_der_core.specs.Element.{tlv}
 use Rattle.der_ber.specs.Nodes.{Nodes, encoding, depth}
-use Rattle.der_ber.specs.LongLengths.{BeginsPrimitive, BeginsConstructed, HasLongLengths}
+use Rattle.der_ber.specs.LongLengths.{BeginsConstructed, HasLongLengths}
 use Rattle.der_ber.proofs.Firsts.{definite_more, indefinite_then}
 
 abbrev pub join : Nodes → Nodes → Nodes

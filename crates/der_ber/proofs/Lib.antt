@@ -2,10 +2,15 @@ pub mod LengthLemmas
 pub mod Numbers
 pub mod FrontLemmas
 pub mod Firsts
+pub mod StringTags
+pub mod BitLemmas
 pub mod Joined
+pub mod WholeLemmas
 pub mod Splits
 pub mod Refusals
-pub mod Places
+pub mod PartLemmas
+pub mod JoiningLemmas
 pub mod ReadingLemmas
+pub mod StringReading
 pub mod Whole
 pub mod LawLemmas

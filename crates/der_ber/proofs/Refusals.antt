@@ -1,23 +1,28 @@
 -- No elements have bytes in which one breaks a rule.
-use Rattle.std.proofs.Common.{◌≡◌, ℕ, suc, ◌+◌, ◌<◌, ◌≤◌, max, Bool, true, false, List, [], ◌∷◌, ◌++◌, length, refl}
-use Rattle.std.proofs.Common.{sym, ap, subst, ◌∙◌, arith, append_assoc, append-nil, length-append}
+use Rattle.std.proofs.Common.{◌≡◌, ℕ, suc, ◌+◌, ◌<◌, ◌≤◌, Bool, true, false, List, [], ◌∷◌, ◌++◌, length, refl}
+use Rattle.std.proofs.Common.{sym, ap, subst, ◌∙◌, arith, append-nil, length-append}
 use Rattle.picky_der_core.specs.Tag.{number_of, is_constructed}
 use Rattle.der_ber.specs.declared.short_lengths.TheConstants.{MAX_DEPTH}
 use Rattle.der_ber.specs.declared.error.BerRule.{BerRule}
+use Rattle.std.specs.Prelude.{Some, None}
+use Rattle.der_ber.specs.declared.strings.Strings.{Strings}
 use Rattle.der_ber.specs.declared.front.Until.{Until}
 use Rattle.der_ber.specs.declared.front.Until.TheVariants as until
 use Rattle.der_ber.specs.Nodes.{Nodes, depth}
 use Rattle.der_ber.specs.Lengths.{IsLength}
-use Rattle.der_ber.specs.LongLengths.{is_reserved, IsTag, IsDefinite, BeginsPrimitive, BeginsConstructed}
+use Rattle.der_ber.specs.LongLengths.{is_reserved, IsTag, IsDefinite, BeginsConstructed}
 use Rattle.der_ber.specs.LongLengths.{HasLongLengths}
 use Rattle.der_ber.specs.Broken.{BreaksLength, Breaks}
-use Rattle.der_ber.specs.Fronts.{IsEnd, OpensDefinite, OpensIndefinite, Opens, ArePassed, IsBroken, IsRefused}
-use Rattle.der_ber.specs.ShortLengths.{AreNoElements}
+use Rattle.der_ber.specs.Strings.{segment_of, segments, IsJoined, IsWholeContent, BeginsWhole, HasParts}
+use Rattle.der_ber.specs.Fronts.{IsEnd, Opens, BreaksString}
+use Rattle.der_ber.specs.Fronts.{AreInside, IsBroken, IsRefused}
+use Rattle.der_ber.specs.InDer.{AreNoneWith}
 use Rattle.der_ber.proofs.LengthLemmas.{same_length, not_indefinite, some_octets, not_cut, not_reserved}
 use Rattle.der_ber.proofs.Firsts.{definite_then, same_definite, one_form, indefinite_bytes, indefinite_then, HasTag}
-use Rattle.der_ber.proofs.Firsts.{primitive_tag, constructed_tag, other_form}
-use Rattle.der_ber.proofs.Joined.{join, depth-join_second}
-use Rattle.der_ber.proofs.Splits.{Rest, split}
+use Rattle.der_ber.proofs.Firsts.{primitive_tag, constructed_tag, opens_tag, other_form}
+use Rattle.der_ber.proofs.Joined.{depth-join_second}
+use Rattle.der_ber.proofs.Splits.{split}
+use Rattle.der_ber.proofs.WholeLemmas.{stays, CanBeWhole, whole_second}
 
 -- ---- the first element breaks no rule
 
@@ -120,8 +125,8 @@ no_broken room bytes r w (Breaks.too_deep tag rest e set none p) =
 
 -- ---- what is in the first element
 
--- elements that begin the content, up to its end
-record AreInside (u : Until) (room : ℕ) (content : List ℕ) : Type 0 where
+-- elements that begin the content, up to its end, whose strings become primitive as said
+record AreWithin (u : Until) (inner : Strings) (room : ℕ) (content : List ℕ) : Type 0 where
   pub nodes : Nodes
   pub bytes : List ℕ
   pub elements : HasLongLengths nodes bytes
@@ -130,22 +135,31 @@ record AreInside (u : Until) (room : ℕ) (content : List ℕ) : Type 0 where
   pub rest : List ℕ
   pub end : IsEnd u after rest
   pub levels : depth nodes ≤ room
+  pub whole : CanBeWhole inner nodes
 
-opens_tag : (u : Until) (bytes : List ℕ) (start : ℕ) (content : List ℕ) → Opens u bytes start content
-    → (tag : ℕ) × HasTag tag true bytes
-opens_tag until.End bytes start content o =
-    (o.tag, record { is_tag = o.is_tag; rest = _; is = o.definite.is })
-opens_tag until.EndOfContents bytes start content o =
-    (o.tag, record { is_tag = o.is_tag; rest = _; is = o.definite })
+-- the elements in a constructed one
+whole_inside : (strings inner : Strings) (tag : ℕ) (inside after w : Nodes) → AreInside strings tag inner
+    → HasParts strings (Nodes.constructed tag inside after) w → CanBeWhole inner inside
+whole_inside strings inner tag inside after w (AreInside.same e f)
+    (BeginsWhole.string part content others g s is k) =
+    let bad : None ≡ Some part = sym e ∙ g in absurd (cc)
+whole_inside strings inner tag inside after w (AreInside.same e f) (BeginsWhole.other within others g h is k) =
+    record { whole = within; has_parts = subst (λ m. HasParts m inside within) (sym f) h }
+whole_inside strings inner tag inside after w (AreInside.string segment e f)
+    (BeginsWhole.string part content others g s is k) =
+    record { whole = inside; has_parts = subst (λ m. HasParts m inside inside) (sym f) (stays inside) }
+whole_inside strings inner tag inside after w (AreInside.string segment e f)
+    (BeginsWhole.other within others g h is k) =
+    let bad : None ≡ Some segment = sym g ∙ e in absurd (cc)
 
-inside_of : (u : Until) (room : ℕ) (bytes : List ℕ) (start : ℕ) (content : List ℕ) → Opens u bytes start content
-    → (tag : ℕ) (inside after : Nodes) (s y : List ℕ) → depth inside ≤ room
+inside_of : (u : Until) (inner : Strings) (room : ℕ) (bytes : List ℕ) (first start : ℕ) (content : List ℕ)
+    → Opens u first bytes start content → (tag : ℕ) (inside after : Nodes) (s y : List ℕ) → depth inside ≤ room
     → BeginsConstructed tag (HasLongLengths inside) (HasLongLengths after) s → bytes ≡ s ++ y
-    → AreInside u room content
-inside_of until.End room bytes start content o tag inside after s y levels
-    (BeginsConstructed.definite c others is_tag d i k) e =
+    → CanBeWhole inner inside → AreWithin u inner room content
+inside_of until.End inner room bytes first start content o tag inside after s y levels
+    (BeginsConstructed.definite c others is_tag d i k) e w =
     let whole : bytes ++ [] ≡ s ++ y = append-nil bytes ∙ e in
-    let (tags, contents, rests) = same_definite o.tag tag content c bytes s o.after others [] y o.definite d whole in
+    let (tags, contents, rests) = same_definite first tag content c bytes s o.after others [] y o.definite d whole in
     record {
       nodes = inside;
       bytes = c;
@@ -155,18 +169,19 @@ inside_of until.End room bytes start content o tag inside after s y levels
       rest = [];
       end = (refl, refl);
       levels = levels;
+      whole = w;
     }
-inside_of until.End room bytes start content o tag inside after s y levels
-    (BeginsConstructed.indefinite c others is_tag f i k) e =
+inside_of until.End inner room bytes first start content o tag inside after s y levels
+    (BeginsConstructed.indefinite c others is_tag f i k) e w =
     let whole : bytes ++ [] ≡ indefinite_bytes tag c (others ++ y) =
     append-nil bytes ∙ e ∙ indefinite_then tag c s others y f in
-    absurd (one_form o.tag tag content bytes o.after [] _ o.definite whole)
-inside_of until.EndOfContents room bytes start content o tag inside after s y levels
-    (BeginsConstructed.definite c others is_tag d i k) e =
-    absurd (one_form tag o.tag c s others y content d (sym e ∙ o.definite))
-inside_of until.EndOfContents room bytes start content o tag inside after s y levels
-    (BeginsConstructed.indefinite c others is_tag f i k) e =
-    let same : o.tag ∷ (0x80 ∷ content) ≡ indefinite_bytes tag c (others ++ y) =
+    absurd (one_form first tag content bytes o.after [] _ o.definite whole)
+inside_of until.EndOfContents inner room bytes first start content o tag inside after s y levels
+    (BeginsConstructed.definite c others is_tag d i k) e w =
+    absurd (one_form tag first c s others y content d (sym e ∙ o.definite))
+inside_of until.EndOfContents inner room bytes first start content o tag inside after s y levels
+    (BeginsConstructed.indefinite c others is_tag f i k) e w =
+    let same : first ∷ (0x80 ∷ content) ≡ indefinite_bytes tag c (others ++ y) =
     sym o.definite ∙ e ∙ indefinite_then tag c s others y f in
     let contents : content ≡ c ++ (0x00 ∷ (0x00 ∷ (others ++ y))) = cc in
     record {
@@ -178,20 +193,28 @@ inside_of until.EndOfContents room bytes start content o tag inside after s y le
       rest = others ++ y;
       end = refl;
       levels = levels;
+      whole = w;
     }
 
-inside_first : (u : Until) (room : ℕ) (bytes : List ℕ) (start : ℕ) (content : List ℕ) → Opens u bytes start content
-    → (v : Until) (nodes : Nodes) (s y z : List ℕ) → HasLongLengths nodes s → bytes ≡ s ++ y → IsEnd v y z
-    → ((w : List ℕ) → IsEnd v bytes w → ⊥) → depth nodes ≤ suc room → AreInside u room content
-inside_first u room bytes start content o v Nodes.none s y z h e end goes levels =
+inside_first : (u : Until) (strings inner : Strings) (room : ℕ) (bytes : List ℕ) (first start : ℕ) (content : List ℕ)
+    → Opens u first bytes start content → AreInside strings first inner → (v : Until) (nodes : Nodes) (s y z : List ℕ)
+    → HasLongLengths nodes s → bytes ≡ s ++ y → IsEnd v y z → ((w : List ℕ) → IsEnd v bytes w → ⊥)
+    → depth nodes ≤ suc room → CanBeWhole strings nodes → AreWithin u inner room content
+inside_first u strings inner room bytes first start content o in_it v Nodes.none s y z h e end goes levels w =
     let same : bytes ≡ y = e ∙ ap (λ l. l ++ y) h in
     absurd (goes z (subst (λ l. IsEnd v l z) (sym same) end))
-inside_first u room bytes start content o v (Nodes.primitive tag c a) s y z h e end goes levels =
-    let (tag', k) = opens_tag u bytes start content o in
-    absurd (other_form tag tag' s bytes y [] (primitive_tag tag c (HasLongLengths a) s h) k
-    (sym e ∙ sym (append-nil bytes)))
-inside_first u room bytes start content o v (Nodes.constructed tag i a) s y z h e end goes levels =
-    inside_of u room bytes start content o tag i a s y (omega arith) h e
+inside_first u strings inner room bytes first start content o in_it v (Nodes.primitive tag c a) s y z h e end goes
+    levels w =
+    absurd (other_form tag first s bytes y [] (primitive_tag tag c (HasLongLengths a) s h)
+    (opens_tag u first bytes start content o) (sym e ∙ sym (append-nil bytes)))
+inside_first u strings inner room bytes first start content o in_it v (Nodes.constructed tag i a) s y z h e end goes
+    levels w =
+    let begins : HasTag tag true s = constructed_tag tag (HasLongLengths i) (HasLongLengths a) s h in
+    let opens : HasTag first true bytes = opens_tag u first bytes start content o in
+    let same : first ∷ opens.rest ≡ tag ∷ (begins.rest ++ y) = sym opens.is ∙ e ∙ ap (λ l. l ++ y) begins.is in
+    let tags : first ≡ tag = cc in
+    inside_of u inner room bytes first start content o tag i a s y (omega arith) h e
+    (whole_inside strings inner tag i a w.whole (subst (λ t. AreInside strings t inner) tags in_it) w.has_parts)
 
 -- ---- no elements have these bytes
 
@@ -210,28 +233,58 @@ none_here room bytes r b v (Nodes.constructed tag i a) s y z h e end goes levels
     (constructed_whole room tag (HasLongLengths i) (HasLongLengths a) s y (omega arith) h)
     (subst (λ l. Breaks room l r) e b)
 
-none_broken : (room : ℕ) (bytes : List ℕ) (at : ℕ) (r : BerRule) → IsBroken room bytes at r → (v : Until)
-    (nodes : Nodes) (s y z : List ℕ) → HasLongLengths nodes s → bytes ≡ s ++ y → IsEnd v y z
-    → ((w : List ℕ) → IsEnd v bytes w → ⊥) → depth nodes ≤ room → ⊥
-none_broken _ _ _ _ (IsBroken.here room bytes r b) v nodes s y z h e end goes levels =
+-- the elements in a string aren't its parts
+no_content : (segment : ℕ) (inside : Nodes) (r : BerRule) (content : List ℕ) → BreaksString segment inside r
+    → IsWholeContent segment inside content → ⊥
+no_content segment inside r content (BreaksString.part e rules) h =
+    let bad : false ≡ true = sym e ∙ h.parts in cc
+no_content segment inside r content (BreaksString.bits e none rules) h = by h.joined
+  where
+    by : IsJoined segment (segments inside) content → ⊥
+    by (IsJoined.bits f is) = none content is
+    by (IsJoined.octets other is) = other e
+
+no_string : (strings : Strings) (tag segment : ℕ) (inside after w : Nodes) (r : BerRule)
+    → segment_of strings tag ≡ Some segment → BreaksString segment inside r
+    → HasParts strings (Nodes.constructed tag inside after) w → ⊥
+no_string strings tag segment inside after w r e b (BeginsWhole.string part content others g s is k) =
+    let same : Some part ≡ Some segment = sym g ∙ e in
+    let parts : part ≡ segment = cc in
+    no_content segment inside r content b (subst (λ p. IsWholeContent p inside content) parts s)
+no_string strings tag segment inside after w r e b (BeginsWhole.other within others g h is k) =
+    let bad : None ≡ Some segment = sym g ∙ e in cc
+
+none_broken : (strings : Strings) (room : ℕ) (bytes : List ℕ) (at : ℕ) (r : BerRule) → IsBroken strings room bytes at r
+    → (v : Until) (nodes : Nodes) (s y z : List ℕ) → HasLongLengths nodes s → bytes ≡ s ++ y → IsEnd v y z
+    → ((w : List ℕ) → IsEnd v bytes w → ⊥) → depth nodes ≤ room → CanBeWhole strings nodes → ⊥
+none_broken _ _ _ _ _ (IsBroken.here strings room bytes r b) v nodes s y z h e end goes levels w =
     none_here room bytes r b v nodes s y z h e end goes levels
-none_broken _ _ _ _ (IsBroken.inside room bytes u start content passed rest at r opens before broken) v nodes s y z h e
-    end goes levels =
-    let i = inside_first u room bytes start content opens v nodes s y z h e end goes levels in
+none_broken _ _ _ _ _ (IsBroken.string strings room bytes r b) v nodes s y z h e end goes levels w =
+    let p =
+    split (Nodes.constructed b.tag b.inside Nodes.none) b.passed b.rest b.elements nodes s y h (sym b.is ∙ e) v z end in
+    no_string strings b.tag b.segment b.inside p.nodes w.whole r b.is_string b.breaks
+    (subst (λ n. HasParts strings n w.whole) p.whole w.has_parts)
+none_broken _ _ _ _ _
+    (IsBroken.inside strings inner room bytes u tag start content passed rest at r opens in_it before broken) v nodes s
+    y z h e end goes levels w =
+    let i = inside_first u strings inner room bytes tag start content opens in_it v nodes s y z h e end goes levels w in
     let p =
     split before.nodes passed rest before.elements i.nodes i.bytes i.after i.elements (sym before.is ∙ i.is) u i.rest
     i.end in
     let second = depth-join_second before.nodes p.nodes in
     let within : depth p.nodes ≤ room = omega (arith, i.levels, ap depth p.whole) in
-    none_broken room rest at r broken u p.nodes p.bytes i.after i.rest p.elements p.is i.end before.goes_on within
+    none_broken inner room rest at r broken u p.nodes p.bytes i.after i.rest p.elements p.is i.end before.goes_on within
+    (whole_second inner before.nodes p.nodes i.whole.whole
+    (subst (λ n. HasParts inner n i.whole.whole) p.whole i.whole.has_parts))
 
-pub refused_none : (bytes : List ℕ) (position : ℕ) (r : BerRule) → IsRefused until.End MAX_DEPTH bytes position r
-    → AreNoElements bytes
-refused_none bytes position r f nodes h levels =
+pub refused_none : (strings : Strings) (bytes : List ℕ) (position : ℕ) (r : BerRule)
+    → IsRefused until.End strings MAX_DEPTH bytes position r → AreNoneWith strings bytes
+refused_none strings bytes position r f nodes whole h parts levels =
     let p =
     split f.before.nodes f.passed f.rest f.before.elements nodes bytes [] h
     (sym f.before.is ∙ sym (append-nil bytes)) until.End [] (refl, refl) in
     let second = depth-join_second f.before.nodes p.nodes in
     let within : depth p.nodes ≤ MAX_DEPTH = omega (arith, ap depth p.whole) in
-    none_broken MAX_DEPTH f.rest f.at r f.broken until.End p.nodes p.bytes [] [] p.elements p.is (refl, refl)
+    none_broken strings MAX_DEPTH f.rest f.at r f.broken until.End p.nodes p.bytes [] [] p.elements p.is (refl, refl)
     f.before.goes_on within
+    (whole_second strings f.before.nodes p.nodes whole (subst (λ n. HasParts strings n whole) p.whole parts))

@@ -1,11 +1,10 @@
 -- Bytes are those of one list of elements only.
-use Rattle.std.proofs.Common.{◌≡◌, ℕ, ◌+◌, ◌≤◌, List, [], ◌∷◌, ◌++◌, length, refl, sym, ap, subst, ◌∙◌, arith}
-use Rattle.std.proofs.Common.{append-nil}
+use Rattle.std.proofs.Common.{◌≡◌, ℕ, List, [], ◌∷◌, ◌++◌, refl, sym, ap, ◌∙◌}
 use Rattle.std.proofs.lemmas.List.{append_cancel_right}
 use Rattle.der_ber.specs.declared.front.Until.{Until}
 use Rattle.der_ber.specs.declared.front.Until.TheVariants as until
-use Rattle.der_ber.specs.Nodes.{Nodes, depth}
-use Rattle.der_ber.specs.LongLengths.{BeginsPrimitive, BeginsConstructed, HasLongLengths}
+use Rattle.der_ber.specs.Nodes.{Nodes}
+use Rattle.der_ber.specs.LongLengths.{HasLongLengths}
 use Rattle.der_ber.specs.Fronts.{IsEnd}
 use Rattle.der_ber.specs.Laws.{OneMeaning}
 use Rattle.der_ber.proofs.Firsts.{primitive_tag, constructed_tag, other_form, not_ended, same_definite, same_firsts}

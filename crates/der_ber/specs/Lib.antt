@@ -1,9 +1,12 @@
 pub mod Nodes
 pub mod Lengths
 pub mod LongLengths
+pub mod Strings
 pub mod Broken
 pub mod Fronts
 pub mod Parts
+pub mod Joining
 pub mod Reading
+pub mod InDer
 pub mod ShortLengths
 pub mod Laws

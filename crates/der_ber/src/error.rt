@@ -20,6 +20,12 @@ pub enum BerRule {
     IndefinitePrimitive,
     /// The element is constructed, and `MAX_DEPTH` elements are around it.
     TooDeep,
+    /// The element is a string in parts, and an element in it has another tag than they have: that of BIT STRING in a
+    /// BIT STRING (8.6.4.1), and of OCTET STRING in each other string (8.7.3.2, 8.23.3).
+    WrongPart,
+    /// The element is a BIT STRING in parts. One of them doesn't say how many bits are unused, from 0 to 7 (8.6.2.2),
+    /// or has unused bits and isn't the last (8.6.4).
+    UnusedBits,
 }
 
 /// Why bytes have no DER.

@@ -1,5 +1,5 @@
 //! What the relation of elements and their bytes says: each law is the contract of a function that does nothing.
-ghost use Rattle.der_ber.specs.Laws.{OneMeaning, DerIsBer, StaysShort};
+ghost use Rattle.der_ber.specs.Laws.{OneMeaning, DerIsBer, StaysShort, OneWhole, StaysWhole};
 
 /// Bytes are those of one list of elements only.
 #[tactic(auto, using(crate::proofs::Splits::one_meaning))]
@@ -16,4 +16,14 @@ pub fn der_is_ber()
 /// What `with_short_lengths` returns is what it returns of itself.
 pub fn stays_short()
     ensures { StaysShort }
+{}
+
+/// `with_whole_strings` returns one result of the same bytes only.
+pub fn one_whole()
+    ensures { OneWhole }
+{}
+
+/// What `with_whole_strings` returns is what it returns of itself.
+pub fn stays_whole()
+    ensures { StaysWhole }
 {}

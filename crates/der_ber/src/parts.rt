@@ -1,51 +1,55 @@
 //! What is written of elements.
-ghost use Rattle.std.specs.Prelude.{◌≡◌, ◌+◌, ◌++◌, length, IfOk, OnOk, IfErr};
-ghost use Rattle.std.specs.List.{All};
+ghost use Rattle.std.specs.Prelude.{◌≡◌, ◌+◌, ◌++◌, ◌∷◌, length, IfOk, OnOk, IfErr};
 ghost use Rattle.picky_der_core.specs.Element.{length_octets};
-ghost use Rattle.der_ber.specs.Parts.{IsPartOf, part_bytes, written};
+ghost use Rattle.der_ber.specs.Parts.{part_bytes, written};
 
 use crate::BerError;
 use picky_der_core::asn1::Tag;
 use picky_der_core::misc::Length;
 use std::alloc::{AllocError, Global};
 
-// The header of an element, and where in the input the content of a primitive one is.
+// Bytes of an element in DER.
 #[derive(Clone, Copy)]
-pub(crate) struct Part {
-    pub(crate) tag: Tag,
-    // How many bytes the content has in DER.
-    pub(crate) content_len: usize,
-    // The content of a primitive element. Nothing for a constructed one: the elements in it have parts of their own.
-    pub(crate) start: usize,
-    pub(crate) end: usize,
+pub(crate) enum Part<'a> {
+    // A tag, and the length of a content of so many bytes.
+    Header { tag: Tag, content_len: usize },
+    // Bytes of the input, which are in a content.
+    Content(&'a [u8]),
+    // How many bits of the last byte of a BIT STRING are unused.
+    UnusedBits(u8),
 }
 
 // The bytes of these parts, which are so many.
-pub(crate) fn written(
-    alloc: Global,
-    input: &[u8],
-    parts: &[Part],
-    size: usize,
-) -> Result<Vec<u8>, AllocError>
-    requires { All (IsPartOf (length input.now)) parts.now }
-    ensures { IfOk result (λ bytes. bytes.items ≡ written input.now parts.now) }
+pub(crate) fn written(alloc: Global, parts: &[Part<'_>], size: usize) -> Result<Vec<u8>, AllocError>
+    ensures { IfOk result (λ bytes. bytes.items ≡ written parts.now) }
 {
     let mut bytes = Vec::with_capacity(alloc, size)?;
     for part in parts {
-        push_part(&mut bytes, input, *part)?;
+        push_part(&mut bytes, part)?;
     }
     Ok(bytes)
 }
 
-// Appends a part.
-fn push_part(bytes: &mut Vec<u8>, input: &[u8], part: Part) -> Result<(), AllocError>
-    requires { IsPartOf (length input.now) part }
-    ensures { OnOk result (bytes.new.items ≡ bytes.old.items ++ part_bytes input.now part) }
+// Appends the bytes of a part.
+fn push_part(bytes: &mut Vec<u8>, part: &Part<'_>) -> Result<(), AllocError>
+    ensures { OnOk result (bytes.new.items ≡ bytes.old.items ++ part_bytes part.now) }
 {
-    bytes.push(part.tag.inner())?;
-    bytes.extend_from_slice(&Length::bytes(part.content_len))?;
-    bytes.extend_from_slice(&input[part.start..part.end])?;
-    Ok(())
+    match *part {
+        Part::Header { tag, content_len } => push_header(bytes, tag, content_len),
+        Part::Content(content) => bytes.extend_from_slice(content),
+        Part::UnusedBits(count) => {
+            bytes.push(count)?;
+            Ok(())
+        }
+    }
+}
+
+// Appends a tag and a length.
+fn push_header(bytes: &mut Vec<u8>, tag: Tag, content_len: usize) -> Result<(), AllocError>
+    ensures { OnOk result (bytes.new.items ≡ bytes.old.items ++ tag ∷ length_octets content_len) }
+{
+    bytes.push(tag.inner())?;
+    bytes.extend_from_slice(&Length::bytes(content_len))
 }
 
 // The sum of two sizes, or `OutOfMemory`.

@@ -1,11 +1,11 @@
 //! The DER form of lengths.
-ghost use Rattle.std.specs.Prelude.{◌≡◌, ◌≢◌, IfOk, IfErr};
-ghost use Rattle.der_ber.specs.ShortLengths.{IsShortened, IsRefusedWith, AreNoElements};
+ghost use Rattle.std.specs.Prelude.{◌≢◌, IfOk, IfErr};
+ghost use Rattle.der_ber.specs.InDer.{IsRefusedWith};
+ghost use Rattle.der_ber.specs.ShortLengths.{IsShortened, AreNoElements};
 
 use crate::BerError;
-use crate::front::Until;
-use crate::parts::written;
-use crate::reading::read_elements;
+use crate::in_der::in_der;
+use crate::strings::Strings;
 use std::alloc::Global;
 
 /// The greatest number of constructed elements that are in one another.
@@ -22,10 +22,8 @@ pub const MAX_DEPTH: usize = 128;
 /// The time and the memory are linear in the number of bytes.
 pub fn with_short_lengths(alloc: Global, bytes: &[u8]) -> Result<Vec<u8>, BerError>
     ensures ok { IfOk result (λ der. IsShortened bytes.now der.items) }
-    ensures err { IfErr result (IsRefusedWith bytes.now) }
+    ensures err { IfErr result (IsRefusedWith Strings.InParts bytes.now) }
     ensures none { IfErr result (λ e. e ≢ BerError.OutOfMemory → AreNoElements bytes.now) }
 {
-    let mut parts = Vec::new(alloc);
-    let (size, _) = read_elements(bytes, Until::End, 0, MAX_DEPTH, &mut parts)?;
-    Ok(written(alloc, bytes, &parts, size)?)
+    in_der(alloc, bytes, Strings::InParts)
 }

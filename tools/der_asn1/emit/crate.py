@@ -17,10 +17,11 @@ from .enum import TERMS_FILE, terms_file
 from .folder import NOTE
 from .imports import MOST_GROUPED
 from .layout import comment, filled, natural
-from .listed import LISTED_FILE, is_encoded, listed_terms
+from .listed import LISTED_FILE, is_element, is_encoded, listed_terms
 from .named import named_file
 from .notation import defined, notation_file, notation_terms
 from .private_names import PrivateNames
+from .tried import later_answers, later_path, shared_proofs, tried_answers, tried_path
 from .types import ONLY, Context, stems_of, types_file
 from .union import ELEMENTS, TRIED, elements_file
 from .values import Value, value_file
@@ -63,6 +64,7 @@ class Crate:
         found = {**self.type_files(), **self.term_files(), "src/lib.rt": self.file("//!", self.root(), self.module_names())}
         if self.has_unions():
             found[f"src/{ELEMENTS}.rt"] = self.file("//!", elements_file(), set())
+            found.update({path: self.file("--", lines, set()) for path, lines in shared_proofs(self.name).items()})
         if self.values or self.constants:
             modules = {it.module for it in [*self.values, *self.constants]}
             found["src/values.rt"] = self.file("//!", value_file(self.values, self.constants), modules)
@@ -87,14 +89,19 @@ class Crate:
         return [it for it in types if is_made(it) and self.constructed.has_name(it.root)]
 
     def type_files(self) -> dict[str, str]:
-        """The files of types, and the proofs of choices."""
+        """The files of types, and the proofs of choices and of types that are tried."""
         found, stems, context = {}, self.stems(), self.context()
         for stem, types in self.types_by_stem().items():
             found[f"src/{stem}.rt"] = self.file("//!", types_file(types, stem, context), {it.module for it in types})
         for it in self.sorted_types():
-            answers = serialize_answers(it, self.name, stems[it.name]) if isinstance(it, ChoiceDeclaration) else []
+            stem = stems[it.name]
+            answers = serialize_answers(it, self.name, stem) if isinstance(it, ChoiceDeclaration) else []
             if answers:
-                found[answers_path(it, stems[it.name])] = self.file("--", answers, {it.module})
+                found[answers_path(it, stem)] = self.file("--", answers, {it.module})
+            if isinstance(it, UnionDeclaration):
+                found[tried_path(it.name, stem)] = self.file("--", tried_answers(it, self.name, stem), {it.module})
+            if isinstance(it, ListedDeclaration) and is_element(it):
+                found[later_path(it, stem)] = self.file("--", later_answers(it, self.name, stem), {it.module})
         return found
 
     def term_files(self) -> dict[str, str]:

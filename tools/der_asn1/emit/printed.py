@@ -62,6 +62,11 @@ class Terms:
     modes: dict[str, str] = field(default_factory=dict)
 
 
+def term_of(text: str) -> Applied:
+    """A term as it is written."""
+    return _Reader(text).whole()
+
+
 def read_terms(text: str) -> Terms:
     """The definitions of a file of terms."""
     found, heading = Terms(), ("", "")
@@ -73,7 +78,7 @@ def read_terms(text: str) -> Terms:
         name, _, term = body.partition(" = ")
         words = name.split()
         if words[:2] == ["abbrev", "pub"]:
-            found.types.append(Definition(words[2], _Reader(term).whole(), *heading))
+            found.types.append(Definition(words[2], term_of(term), *heading))
         elif words[:1] == ["abbrev"]:
             found.modes[words[1]] = term.strip()
     return found
@@ -243,8 +248,12 @@ def interval(term: Applied) -> str:
 
 
 def characters(term: Applied) -> str:
-    """A range of characters, each as the group, plane, row and cell of its number (X.680, 41.7)."""
-    ends = [int(term.word.rstrip(",")), int(term.arguments[0].word)]
+    """A range of characters."""
+    return characters_between(int(term.word.rstrip(",")), int(term.arguments[0].word))
+
+
+def characters_between(*ends: int) -> str:
+    """A range of characters, each end as the group, plane, row and cell of its number (X.680, 41.7)."""
     return "..".join(f"{{{it >> 24}, {it >> 16 & 0xFF}, {it >> 8 & 0xFF}, {it & 0xFF}}}" for it in ends)
 
 

@@ -43,8 +43,10 @@ pub fn encoded_if<T: Deserialize>(element: &Asn1RawDer) -> Result<Option<Encoded
 {
     match Encoded::from_encoding(element.clone()?) {
         Ok(it) => Ok(Some(it)),
-        Err(Asn1DerError::OutOfMemory) => Err(Asn1DerError::OutOfMemory),
-        Err(_) => Ok(None),
+        Err(error) => match error {
+            Asn1DerError::OutOfMemory => Err(Asn1DerError::OutOfMemory),
+            _ => Ok(None),
+        },
     }
 }
 """

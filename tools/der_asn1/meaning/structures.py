@@ -497,7 +497,8 @@ def enumeration(meanings: "Meanings", type_: tree.EnumeratedType, scope: Scope, 
     numbers = enumerated_numbers(meanings.program, type_.items, scope)
     first = frozenset((UNIVERSAL_TAGS["ENUMERATED"],))
     if not all(it in ONE_BYTE for it in numbers) or len(set(numbers)) < len(numbers):
-        rust = Rust(of("Enumerated"), Core.CONTENTS, first, own=True, term=Term("ENUMERATED-extensible"))
+        named = tuple(zip((it.name for it in type_.items), numbers))
+        rust = Rust(of("Enumerated"), Core.CONTENTS, first, own=True, term=Term("ENUMERATED-extensible", names=named))
         return Meaning(rust).noting(Note.WIDE_ENUMERATION)
     return declared_enum(meanings, type_, scope, hint, zip(type_.items, numbers), "ENUMERATED")
 
@@ -535,7 +536,8 @@ def declared_enum(
     meaning = Meaning(None).noting(Note.ENUMERATION)
     name = declare(meanings, declared, type_, scope, hint, meaning, "values")
     word = "ENUMERATED" if form == "ENUMERATED" else "INTEGER-named"
-    term = Term(f"{word} {number_list(it.number for it in declared.items)}")
+    named = tuple((it.source, it.number) for it in declared.items)
+    term = Term(f"{word} {number_list(number for _, number in named)}", names=named)
     return meaning.as_(Rust(of(name), Core.CONTENTS, frozenset((tag,)), own=True, term=term))
 
 

@@ -1,6 +1,6 @@
 """Types of the notation as terms of der_types, in the forms of its specs/NotationForms.antt."""
 import re
-from dataclasses import dataclass, replace
+from dataclasses import dataclass, field, replace
 from typing import Iterable, Optional, Union
 
 from ..parse import tree
@@ -29,7 +29,7 @@ class Item:
 class Term:
     """A term: its first words with the term of what is inside, if there is one, or with members or alternatives and the word after the last.
 
-    One with members or alternatives has a name, for where it is too long.
+    One with members or alternatives has a name, for where it is too long. `names` has the names of items, numbers or bits with their numbers.
     """
 
     head: str
@@ -37,6 +37,7 @@ class Term:
     items: Optional[tuple] = None
     end: str = ""
     name: str = ""
+    names: tuple[tuple[str, int], ...] = field(default=(), compare=False)
 
     def inline(self) -> str:
         """The term on one line."""

@@ -35,7 +35,7 @@ from .tagging import default_mode, effective_mode, first_bytes, fixed_field_type
 from .tags import wrapped
 from .terms import Term, tagged
 from .unions import Choice, tagged_union, union
-from .values import arcs_of, integer_of
+from .values import addition_numbers, arcs_of, enumerated_numbers, integer_of
 
 # EXTERNAL and INSTANCE OF as the sequences that they are encoded as (X.690, 8.18; X.681, C.7)
 _ASSOCIATED_TYPES = """
@@ -317,8 +317,15 @@ class Meanings:
         left = None if is_open or limits.contents.is_all() else left_items(self.program, type_, scope, limits.contents)
         if left:
             type_, limits = left, replace(limits, contents=ANY_CONTENT)
-        meaning = Meaning(library_type(BY_NAME["ENUMERATED"])) if is_open else enumeration(self, type_, scope, hint)
+        meaning = self.any_item(type_, scope) if is_open else enumeration(self, type_, scope, hint)
         return bounded(in_words(meaning, constraints), limits)
+
+    def any_item(self, type_: tree.EnumeratedType, scope: Scope) -> Meaning:
+        """Any number, with the names of those that this version has."""
+        numbers = [*enumerated_numbers(self.program, type_.items, scope), *addition_numbers(self.program, type_, scope)]
+        named = tuple((it.name, number) for it, number in zip([*type_.items, *type_.additions], numbers) if number is not None)
+        rust = library_type(BY_NAME["ENUMERATED"])
+        return Meaning(replace(rust, term=replace(rust.term, names=named)))
 
     def of_bitstringtype(self, type_: tree.BitStringType, scope: Scope, hint: Hint, constraints: tuple[ScopedConstraint, ...]) -> Meaning:
         firsts = frozenset((UNIVERSAL_TAGS["BIT STRING"],))
@@ -328,7 +335,8 @@ class Meanings:
         if not type_.named:
             plain, limits = in_words(Meaning(library_type(BY_NAME["BIT STRING"])), constraints), self.limits(constraints, type_, scope)
             return bounded(*listed(self, plain, type_, scope, hint, limits))
-        meaning = Meaning(Rust(of("NamedBits"), Core.CONTENTS, firsts, term=Term("BIT-STRING-named")))
+        named = tuple((it.name, integer_of(self.program, it.number, scope)) for it in type_.named)
+        meaning = Meaning(Rust(of("NamedBits"), Core.CONTENTS, firsts, term=Term("BIT-STRING-named", names=named)))
         limits = self.limits(constraints, type_, scope)
         if limits.size.pairs and limits.size.high != float("inf"):
             is_both = not limits.contents.is_all()

@@ -18,7 +18,7 @@ from ..meaning.scopes import BUILT_IN_ANY, Found, Program, Scope, target_of
 from ..meaning.subtypes import Reader, ScopedConstraint, only_contents
 from ..meaning.tagging import default_mode, effective_mode, fixed_field_type
 from ..meaning.types import ASSOCIATED
-from ..meaning.values import enumerated_numbers, integer_of, value_of
+from ..meaning.values import addition_numbers, enumerated_numbers, integer_of, value_of
 from ..parse import tree
 from ..parse.modules import read_text
 from ..parse.source import Problems
@@ -88,14 +88,17 @@ def levels(members: list) -> list[int]:
 
 
 class Agreement:
-    """Compares the printed types of a crate with those of its modules."""
+    """Compares printed types with those of modules. `names` has the printed name of each, by its module and its name there."""
 
-    def __init__(self, terms: Terms, program: Program) -> None:
-        self.program, self.text = program, printed(terms)
-        (module,) = read_text(self.text, "printed", Problems())
-        self.printed = Program([module], Problems())
-        self.names = {(it.module, it.source): it.name for it in terms.types if it.source}
-        self.module = module
+    def __init__(self, text: str, names: dict[tuple[str, str], str], program: Program) -> None:
+        self.program, self.names = program, names
+        (self.module,) = read_text(text, "printed", Problems())
+        self.printed = Program([self.module], Problems())
+
+    @classmethod
+    def of_terms(cls, terms: Terms, program: Program) -> "Agreement":
+        """Of the printed terms of a crate."""
+        return cls(printed(terms), {(it.module, it.source): it.name for it in terms.types if it.source}, program)
 
     def difference(self, assignment: tree.TypeAssignment, module: tree.Module) -> Optional[str]:
         """How the printed type of an assignment differs from it, or None."""
@@ -207,10 +210,16 @@ class Agreement:
         if len(ours) != len(theirs) or is_extensible(mine.type, mine.scope) != is_extensible(other.type, other.scope):
             return f"the members differ: `{mine.type.text}`, `{other.type.text}`"
         for one, two in zip(ours, theirs):
+            if not self.is_named_alike(one.member, two.member):
+                return f"the names differ: `{mine.type.text}`, `{other.type.text}`"
             found = self.compare(mine.part(one.member.type, one.scope), other.part(two.member.type, two.scope))
             if found or not self.is_there_alike(mine, one, other, two):
                 return f"{two.member.name}: {found or f'it is there otherwise: `{one.member.text}`, `{two.member.text}`'}"
         return None
+
+    def is_named_alike(self, one: tree.Member, two: tree.Member) -> bool:
+        """Whether two members have the same name, as far as the printed ones have names. Those of terms have none."""
+        return True
 
     def is_there_alike(self, mine: Side, one, other: Side, two) -> bool:
         """Whether two members are there alike: with the same default, and if they are always there both in the root or both after the marker."""
@@ -237,3 +246,31 @@ class Agreement:
         if isinstance(found, tree.BooleanValue):
             return found.truth
         return "{}" if number is None and isinstance(found, tree.BraceValue) and not found.tokens else number
+
+
+class NamedAgreement(Agreement):
+    """Compares the printed types of a table with those of modules, and their names of members, items and bits, too.
+
+    Those of numbers are there where each value of the type has one.
+    """
+
+    def is_named_alike(self, one: tree.Member, two: tree.Member) -> bool:
+        """Whether two members have the same name."""
+        return one.name == two.name
+
+    def kinds(self, mine: Side, other: Side) -> Optional[str]:
+        """How two types without names and tags differ, or the names in them."""
+        found, names = super().kinds(mine, other), named(mine)
+        if found or names == named(other) or isinstance(mine.type, tree.IntegerType) and not names:
+            return found
+        return f"the names differ: `{mine.type.text}`, `{other.type.text}`"
+
+
+def named(side: Side) -> list[tuple[str, Optional[int]]]:
+    """The names of items, bits or numbers with their numbers."""
+    type_ = side.type
+    if isinstance(type_, tree.EnumeratedType):
+        items = [*type_.items, *type_.additions]
+        numbers = [*enumerated_numbers(side.program, type_.items, side.scope), *addition_numbers(side.program, type_, side.scope)]
+        return [*zip((it.name for it in items), numbers)]
+    return [(it.name, integer_of(side.program, it.number, side.scope)) for it in getattr(type_, "named", [])]

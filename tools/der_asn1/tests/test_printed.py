@@ -119,7 +119,7 @@ class Comparing(unittest.TestCase):
     def difference(self, text, change=lambda it: it):
         """How the printed type `T` differs from that of the module, after a change of the terms."""
         modules = read_text(text, "m.asn1", Problems())
-        agreement = Agreement(read_terms(change(terms_of(modules, []))), Program(modules, Problems()))
+        agreement = Agreement.of_terms(read_terms(change(terms_of(modules, []))), Program(modules, Problems()))
         return agreement.difference(agreement.program.indexes[id(modules[0])]["T"], modules[0])
 
     def test_a_term_that_isnt_the_modules(self):
@@ -148,7 +148,7 @@ class Agreeing(unittest.TestCase):
             if crate != "der_types":
                 others = read_terms(stored_files((GOLDEN / f"{crate}.crate").read_text(encoding="utf-8"))["specs/Notation.antt"])
                 own.types += [it for it in others.types if it.name in names.split(", ")]
-        agreement, count = Agreement(own, program), 0
+        agreement, count = Agreement.of_terms(own, program), 0
         for module in modules:
             for it in types_in(module, program):
                 with self.subTest(f"{module.name}.{it.name}"):

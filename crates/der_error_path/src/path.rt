@@ -1,0 +1,84 @@
+//! The path of an error.
+ghost use Rattle.std.specs.Prelude.{◌≡◌, ◌-◌, ◌⊎◌, IfOk};
+ghost use Rattle.der_path.specs.Paths.{IsPath};
+
+use crate::names::{Step, steps_of};
+use der_path::path_at;
+use der_schema::Schema;
+use std::alloc::{AllocError, Global};
+
+/// What is wrong with an element.
+#[derive(Debug, Clone, Copy, PartialEq, Eq)]
+pub enum Mistake {
+    /// The type has no element there: one too many, or bytes after the value.
+    Extra,
+    /// Its tag isn't one of its type (X.690, 8.1.2).
+    OtherTag,
+    /// It isn't in DER whatever its type: it is cut short, or its length isn't the shortest (X.690, 8.1.3, 10.1).
+    NoElement,
+    /// This member is missing at its end (X.680, 25).
+    Missing(&'static str),
+    /// It has the value with which it would be absent (X.690, 11.5).
+    Default,
+    /// It is less than the one before it in a SET OF (X.690, 11.6).
+    Order,
+    /// Its content isn't one of its type in DER.
+    Content,
+}
+
+/// Where an error is.
+#[derive(Debug, Drop)]
+pub struct ErrorPath {
+    /// The index of the byte that the error names.
+    pub place: usize,
+    /// The path of this byte by numbers, as of `path_at`.
+    pub numbers: Vec<usize>,
+    /// The elements up to the one with the mistake, which is the last. They are the first ones of the path.
+    pub steps: Vec<Step>,
+    /// What is wrong with it.
+    pub mistake: Mistake,
+}
+
+/// Returns where the error is with which a type refused these bytes after so many of them, as `from_der` says.
+///
+/// The error names the byte at this position if it is in an element that the type doesn't have there, or that begins
+/// with another tag. Else it names the byte before it, which is the last one that was consumed: of a header that was
+/// refused, of a content, or of an element in which a member is missing.
+///
+/// `AllocError` if an allocation fails.
+pub fn path_of_error(
+    alloc: Global,
+    schema: Schema,
+    bytes: &[u8],
+    position: usize,
+) -> Result<ErrorPath, AllocError>
+    ensures place { IfOk result (λ it. (it.place ≡ position) ⊎ (it.place ≡ position - 1)) }
+    ensures numbers { IfOk result (λ it. IsPath bytes.now it.place it.numbers.items) }
+{
+    let ahead = path_of_byte(alloc, schema, bytes, position, position)?;
+    if matches!(ahead.mistake, Mistake::Extra | Mistake::OtherTag) {
+        return Ok(ahead);
+    }
+    path_of_byte(alloc, schema, bytes, position.saturating_sub(1), position)
+}
+
+// The path of the byte at this place, for an error at this position.
+fn path_of_byte(
+    alloc: Global,
+    schema: Schema,
+    bytes: &[u8],
+    place: usize,
+    position: usize,
+) -> Result<ErrorPath, AllocError>
+    ensures place { IfOk result (λ it. it.place ≡ place) }
+    ensures numbers { IfOk result (λ it. IsPath bytes.now place it.numbers.items) }
+{
+    let numbers = path_at(alloc, bytes, place)?;
+    let (steps, mistake) = steps_of(alloc, schema, bytes, &numbers, position)?;
+    Ok(ErrorPath {
+        place,
+        numbers,
+        steps,
+        mistake,
+    })
+}

@@ -1,0 +1,4 @@
+pub mod Elements
+pub mod Members
+pub mod Paths
+pub mod Texts

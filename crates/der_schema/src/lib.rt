@@ -1,0 +1,9 @@
+//! The types of ASN.1 as data: a table of nodes with the names of types, members, alternatives, items and bits.
+//!
+//! `specs/NotationOf.antt` says which type a table is. Nothing is said of the names: they are what the compiler read.
+#![tactic(auto)]
+
+mod access;
+mod node;
+
+pub use node::{Alternative, DefaultValue, Item, Kind, Member, Node, Presence, Schema};

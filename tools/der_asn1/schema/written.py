@@ -1,0 +1,72 @@
+"""A table as a file of Rust: the static of its nodes, and a function for each type whose clause says that the node is that type."""
+from typing import Iterable
+
+from ..emit.crate import Crate
+from ..emit.imports import imports
+from ..emit.layout import STEP, comment, natural
+from ..meaning.declarations import Declarations
+from ..meaning.wording import snake
+from ..parse import tree
+from .literals import lines_of, node_literal
+from .nodes import Table
+from .tags import NoNode
+from .terms import Writer
+
+# what the nodes may name
+_NAMES = ("Alternative", "DefaultValue", "Item", "Kind", "Member", "Node", "Presence", "Wrapper")
+
+
+def schema_text(declarations: Declarations, names: list[str], modules: list[tree.Module]) -> str:
+    """The text of the file of these types, which other crates have. Raises NoNode for one that a table can't have."""
+    writer, types, sources, homes = Writer(declarations.by_name, modules), {}, {}, {}
+    for it in names:
+        if it not in declarations.elsewhere:
+            raise NoNode(f"no crate is named for `{declarations.by_name[it].source}`")
+        crate, name = declarations.elsewhere[it].split("::")
+        types[name], sources[name], homes[name] = writer.type_named(it), declarations.by_name[it].source, crate
+    used = {declarations.by_name[it].module for it in writer.indices}
+    found = list(dict.fromkeys(declarations.by_name[it].module for it in names))
+    return Crate("", {}, [], modules).file("//!", table_file(writer.table, types, sources, homes, found), used)
+
+
+def table_file(table: Table, types: dict[str, int], sources: dict[str, str], homes: dict[str, str], modules: Iterable[str]) -> list[str]:
+    """The lines of the file after its first one. `types` has the index of each type by its name in Rust, `sources` its name in its module, and
+    `homes` its crate."""
+    nodes = node_lines(table)
+    used = {it for it in _NAMES if any(f"{it} {{" in line or f"{it}::" in line for line in nodes)}
+    paths = {**dict.fromkeys([*_NAMES, "Schema"], "der_schema"), "Wrapper": "picky_der_core::asn1", **homes}
+    functions = [line for name in sorted(types, key=natural) for line in _function(name, types[name], sources[name])]
+    return [
+        *comment("", "//!", f"The schemas of types of {', '.join(modules)}."),
+        "ghost use Rattle.std.specs.Prelude.{◌≡◌};",
+        "ghost use Rattle.der_schema.specs.NotationOf.{notation_of};",
+        "",
+        *imports({*used, "Schema", "Notated", *types}, paths),
+        *functions,
+        "",
+        "// each type comes after those that it names",
+        f"static NODES: [Node; {len(table.nodes)}] = [",
+        *nodes,
+        "];",
+    ]
+
+
+def node_lines(table: Table) -> list[str]:
+    """The nodes of a table in Rust."""
+    return [line for it in table.nodes for line in lines_of(STEP, "", node_literal(it), ",")]
+
+
+def _function(name: str, index: int, source: str) -> list[str]:
+    """The function of a type."""
+    return [
+        "",
+        f"/// The schema of `{source}`.",
+        f"pub fn {snake(name)}() -> Schema",
+        f"    ensures {{ notation_of result.nodes.now result.root ≡ ⟦<{name} as Notated>⟧.notation }}",
+        "{",
+        f"{STEP}Schema {{",
+        f"{STEP * 2}nodes: &NODES,",
+        f"{STEP * 2}root: {index},",
+        f"{STEP}}}",
+        "}",
+    ]
