@@ -156,6 +156,7 @@ fn signers_request(
         Some(name) => match read_input(rt, name) {
             Ok(content) => Some(content),
             Err(error) => {
+                let name = shown(rt.alloc(), name)?;
                 eprintln!(rt; "der: {name}: {error}")?;
                 return Ok(None);
             }
