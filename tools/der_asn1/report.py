@@ -86,8 +86,7 @@ def _add(report: Report, meanings: Meanings, module: tree.Module, assignment: tr
             report.templates += 1
         elif not _names_a_class(meanings, assignment, module):
             meaning = meanings.of_assignment(assignment, module)
-            is_exact = bool(meaning.rust) and Note.WITHOUT_TERM not in meaning.notes
-            found = is_exact and of_type(meaning.rust.type, meanings.declarations.by_name)
+            found = bool(meaning.rust) and of_type(meaning.rust.type, meanings.declarations.by_name)
             report.rows.append(Row(module, assignment.name, meaning, found))
 
 
@@ -161,14 +160,10 @@ def share(count: int, total: int) -> str:
 
 
 def without_exact(report: Report) -> list[str]:
-    """The types that can't have `Exact` of der_types, each with the reason: there is no type, or no term says which values it has.
-
-    Each one that is written has `Faithful`.
-    """
-    written = [it for it in report.rows if it.meaning.rust]
-    missing = [it for it in report.rows if it.meaning.rust is None or Note.WITHOUT_TERM in it.meaning.notes]
-    reasons = [", ".join(sorted(one.text for one in it.meaning.features)) if it.meaning.rust is None else Note.WITHOUT_TERM.text for it in missing]
-    counted = f"{share(len(report.rows) - len(missing), len(report.rows))} with `Exact`, and {share(len(written), len(report.rows))} with `Faithful`"
+    """The types that have neither `Exact` nor `Faithful`, each with the reason: those without a type."""
+    missing = [it for it in report.rows if it.meaning.rust is None]
+    reasons = [", ".join(sorted(one.text for one in it.meaning.features)) for it in missing]
+    counted = f"{share(len(report.rows) - len(missing), len(report.rows))} with `Exact` and `Faithful`"
     return [counted, *(f"    {it.module.name}.{it.name} has none: {reason}" for it, reason in zip(missing, reasons))]
 
 

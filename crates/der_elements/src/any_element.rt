@@ -23,7 +23,7 @@ use picky_der_de::{
     Begins, DecodeError, Deserialize, Deserializer, TryVia, from_der, try_deserialize_as,
 };
 use picky_der_ser::{Serialize, Serializer, to_vec};
-use std::alloc::Global;
+use std::alloc::{AllocError, Global};
 use std::fmt;
 use std::hash::Hash;
 
@@ -107,16 +107,17 @@ impl AnyElement {
     {
         from_der(*self.element.0.allocator(), &self.element.0)
     }
+}
 
-    /// A copy, on the same allocator. `OutOfMemory` if an allocation fails.
-    pub fn clone(&self) -> Result<AnyElement>
-        ensures same { IfOk result (λ copy. ⟦<AnyElement as Serialize>⟧.meaning copy
-            ≡ ⟦<AnyElement as Serialize>⟧.meaning self.now) }
-        ensures memory { IfErr result (λ e. e ≡ Asn1DerError.OutOfMemory) }
-    {
-        Ok(AnyElement {
-            element: self.element.clone()?,
-        })
+/// A copy has the same bytes.
+impl Clone for AnyElement {
+    ghost is_clone = { λ x y. y.element.0.items ≡ x.element.0.items };
+
+    fn clone(&self) -> std::result::Result<AnyElement, AllocError> {
+        match self.element.clone() {
+            Ok(element) => Ok(AnyElement { element }),
+            Err(_) => Err(AllocError),
+        }
     }
 }
 

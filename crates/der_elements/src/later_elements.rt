@@ -15,7 +15,7 @@ use picky_der_core::misc::{ReadExt, WriteExt};
 use picky_der_core::{Asn1DerError, Result};
 use picky_der_de::{Alternatives, DeserializeMembers};
 use picky_der_ser::{SerializeMember, SerializeMembers};
-use std::alloc::Global;
+use std::alloc::{AllocError, Global};
 use std::marker::PhantomData;
 
 /// The members of a later version, as `LaterMembers` has them (X.680, 25.1). In each that is constructed there are
@@ -98,6 +98,19 @@ impl<A: Alternatives> LaterElements<A> {
             })
         } else {
             None
+        }
+    }
+}
+
+/// It has copies of the elements. Copies that `new` doesn't allow, which no type of this library makes, count as a failed
+/// allocation.
+impl<A: Alternatives> Clone for LaterElements<A> {
+    ghost is_clone = { λ x y. ⟦<Vec<AnyElement> as Clone>⟧.is_clone x.elements y.elements };
+
+    fn clone(&self) -> std::result::Result<LaterElements<A>, AllocError> {
+        match Self::new(self.elements.clone()?) {
+            Some(copy) => Ok(copy),
+            None => Err(AllocError),
         }
     }
 }

@@ -14,7 +14,7 @@ use picky_der_core::misc::{ReadExt, WriteExt};
 use picky_der_core::{Asn1DerError, Result};
 use picky_der_de::DeserializeMembers;
 use picky_der_ser::{SerializeMember, SerializeMembers};
-use std::alloc::Global;
+use std::alloc::{AllocError, Global};
 
 /// The members of a later version of a SEQUENCE whose tags are automatic, as `LaterMembersFrom` has them (X.680, 25.1).
 /// In each that is constructed there are elements, at every depth.
@@ -82,6 +82,19 @@ impl<const N: u8> LaterElementsFrom<N> {
             Some(LaterElementsFrom { elements })
         } else {
             None
+        }
+    }
+}
+
+/// It has copies of the elements. Copies that `new` doesn't allow, which no type of this library makes, count as a failed
+/// allocation.
+impl<const N: u8> Clone for LaterElementsFrom<N> {
+    ghost is_clone = { λ x y. ⟦<Vec<AnyElement> as Clone>⟧.is_clone x.elements y.elements };
+
+    fn clone(&self) -> std::result::Result<LaterElementsFrom<N>, AllocError> {
+        match Self::new(self.elements.clone()?) {
+            Some(copy) => Ok(copy),
+            None => Err(AllocError),
         }
     }
 }

@@ -276,6 +276,11 @@ mutual
   checked (Notation.outside least most n) e t d = checked n e t d.0
   checked (Notation.sized least most n) e t d = checked n e t d.0
   checked (Notation.permitted ranges n) e t d = checked n e t d.0
+  checked (Notation.listed contents n) e t d = checked n e t d.0
+  checked (Notation.unlisted contents n) e t d = checked n e t d.0
+  checked (Notation.begun-otherwise bytes) e t d = cc
+  checked (Notation.encoded n) e t d = cc
+  checked (Notation.element-of ts) e t d = cc
 
   members_checked : (ms : Members) → are_members_checked ms ≡ true → (ts : Trees) → DenoteMembers ms ts → AreChecked ts
   members_checked Members.end e ts d = none_checked ts d

@@ -57,6 +57,11 @@ abbrev mutual
   is_checked (Notation.outside least most t) = is_checked t
   is_checked (Notation.sized least most t) = is_checked t
   is_checked (Notation.permitted ranges t) = is_checked t
+  is_checked (Notation.listed contents t) = is_checked t
+  is_checked (Notation.unlisted contents t) = is_checked t
+  is_checked (Notation.begun-otherwise bytes) = false
+  is_checked (Notation.encoded t) = false
+  is_checked (Notation.element-of ts) = false
   is_checked _ = true
 
   pub is_member_checked : Member → Bool

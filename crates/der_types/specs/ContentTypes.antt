@@ -57,6 +57,7 @@ test_of ContentType.GeneralizedTime-later = is_later_time
 -- how many bits or bytes a content has (51.5.3)
 abbrev pub size_of : ContentType → List ℕ → ℕ
 size_of ContentType.BIT-STRING s = length (bits_of s)
+size_of ContentType.BIT-STRING-named s = length (bits_of s)
 size_of _ s = length s
 
 -- ---- the restricted strings by their tags (41, table 8), and ObjectDescriptor (48.3)

@@ -1,15 +1,20 @@
 -- Which trees the types of ASN.1 denote, with their contents and ranges. The clauses are clauses of X.680 unless
 -- another one is named.
-use Rattle.std.specs.Prelude.{◌≡◌, ◌≢◌, ℕ, ◌+◌, ◌-◌, ◌^◌, ◌≤◌, ◌<◌, ℤ, pos, negsuc, Bool, true, false, ◌&&◌, ◌⊎◌, ◌==◌}
-use Rattle.std.specs.Prelude.{nat_lt, nat_le, int_le, not, List, [], ◌∷◌, length, chars, IsTrue, ⊤, if◌then◌else◌}
+use Rattle.std.specs.Prelude.{◌≡◌, ◌≢◌, ℕ, ◌+◌, ◌-◌, ◌^◌, ◌≤◌, ◌<◌, ℤ, pos, negsuc, Bool, true, false, ◌&&◌, ◌||◌, ◌⊎◌}
+use Rattle.std.specs.Prelude.{◌==◌}
+use Rattle.std.specs.Prelude.{nat_eq, nat_lt, nat_le, int_le, not, List, [], ◌∷◌, length, chars, IsTrue, ⊤}
+use Rattle.std.specs.Prelude.{if◌then◌else◌}
 use Rattle.picky_der_core.specs.declared.asn1.tag.TagClass.TheVariants.{ContextSpecific}
 use Rattle.picky_der_core.specs.declared.asn1.wrapper.Wrapper.TheVariants as wrapper
 use Rattle.picky_der_core.specs.Tag.{class_of, number_of}
+use Rattle.picky_der_core.specs.Encoding.{der}
 use Rattle.picky_der_core.specs.Integer.{integer_content, integer_value, integer_tree, fits_signed}
 use Rattle.picky_der_core.specs.Primitive.{Primitive, primitive_content}
 use Rattle.picky_der_core.specs.Readable.{IsReadable}
-use Rattle.picky_der_core.specs.Shape.{AllOrNone, AreOthers, EachIs, FirstAndRest, FirstOrNone, IsEmpty, contains}
+use Rattle.picky_der_core.specs.Shape.{AllOrNone, AreOthers, EachIs, FirstAndRest, FirstOrNone, IsEmpty, begins_outside}
+use Rattle.picky_der_core.specs.Shape.{contains}
 use Rattle.picky_der_core.specs.Tree.{ListKind, Tree, Trees}
+use Rattle.std.specs.Cmp.Lexicographic.{pointwise}
 use Rattle.std.specs.List.{list_all}
 use Rattle.der_types.specs.Alphabets.{is_of}
 use Rattle.der_types.specs.CharacterStrings.{characters, is_string_content}
@@ -38,6 +43,8 @@ size_by (Notation.list-of kind t) s members = members
 size_by (Notation.content-under tag t) s members = size_by t s members
 size_by (Notation.sized least most t) s members = size_by t s members
 size_by (Notation.permitted ranges t) s members = size_by t s members
+size_by (Notation.listed contents t) s members = size_by t s members
+size_by (Notation.unlisted contents t) s members = size_by t s members
 size_by (Notation.wrapped wrapper.OctetContainer t) s members = length s
 size_by (Notation.wrapped wrapper.BitContainer t) s members = size_of ContentType.BIT-STRING s
 size_by (Notation.wrapped w t) s members = size_by t s members
@@ -54,10 +61,30 @@ tree_characters (Notation.restricted-string tag) t = characters (string_width ta
 tree_characters (Notation.content-under tag n) t = tree_characters n t
 tree_characters (Notation.sized least most n) t = tree_characters n t
 tree_characters (Notation.permitted ranges n) t = tree_characters n t
+tree_characters (Notation.listed contents n) t = tree_characters n t
+tree_characters (Notation.unlisted contents n) t = tree_characters n t
 tree_characters (Notation.wrapped wrapper.OctetContainer n) t = []
 tree_characters (Notation.wrapped wrapper.BitContainer n) t = []
 tree_characters (Notation.wrapped w n) t = tree_characters n t
 tree_characters _ t = []
+
+-- ---- contents
+
+-- that of a tree without parts, and the bytes of an element of any type
+abbrev pub tree_content : Tree → List ℕ
+tree_content (Tree.primitive p) = primitive_content p
+tree_content (Tree.raw s) = s
+tree_content _ = []
+
+-- a content is one of these, or something else holds
+abbrev or_listed : Bool → List (List ℕ) → List ℕ → Bool
+or_listed b [] s = b
+or_listed b (c ∷ cs) s = or_listed (b || pointwise nat_eq s c) cs s
+
+-- a content is one of these
+abbrev pub is_listed : List (List ℕ) → List ℕ → Bool
+is_listed [] s = false
+is_listed (c ∷ cs) s = or_listed (pointwise nat_eq s c) cs s
 
 -- ---- trees
 
@@ -88,6 +115,10 @@ AreNumberedFrom least (Trees.more _ ts) = ⊥
 abbrev pub IsWellFormedTree : Tree → Type 0
 IsWellFormedTree (Tree.raw s) = ∥ IsWellFormed s ∥₁
 IsWellFormedTree _ = ⊥
+
+-- the bytes are the encoding of a readable tree that is so
+abbrev pub IsEncodedAs : (Tree → Type 0) → List ℕ → Type 0
+IsEncodedAs P s = (t : Tree) × (s ≡ der t) × IsReadable t × P t
 
 -- A readable tree that is denoted is a value's.
 abbrev mutual
@@ -122,6 +153,11 @@ abbrev mutual
   Denotes (Notation.outside least most t) = λ x. Denotes t x × (is_between least most (tree_number x) ≡ false)
   Denotes (Notation.sized least most t) = λ x. Denotes t x × (is_size least most (tree_size t x) ≡ true)
   Denotes (Notation.permitted ranges t) = λ x. Denotes t x × (list_all (is_of ranges) (tree_characters t x) ≡ true)
+  Denotes (Notation.listed contents t) = λ x. Denotes t x × (is_listed contents (tree_content x) ≡ true)
+  Denotes (Notation.unlisted contents t) = λ x. Denotes t x × (not (is_listed contents (tree_content x)) ≡ true)
+  Denotes (Notation.begun-otherwise bytes) = IsMade Tree.raw (λ s. begins_outside bytes s ≡ true)
+  Denotes (Notation.encoded t) = IsMade Tree.raw (IsEncodedAs (Denotes t))
+  Denotes (Notation.element-of ts) = IsMade Tree.raw (λ s. DenoteOneOf ts (Tree.raw s))
 
   -- a member before others, for which P holds. One that is its default isn't there (X.690, 11.5).
   pub DenoteFirst : Member → (Trees → Type 0) → Trees → Type 0

@@ -18,6 +18,7 @@ pub mod ContentsFacts
 pub mod DateTimes
 pub mod Denotes
 pub mod Dotted
+pub mod EncodedLaws
 pub mod Exact
 pub mod ExactAdded
 pub mod ExactArrays
@@ -26,9 +27,11 @@ pub mod ExactChoices
 pub mod ExactConstraints
 pub mod ExactContents
 pub mod ExactDefaults
+pub mod ExactEncoded
 pub mod ExactEnumerated
 pub mod ExactFourChoices
 pub mod ExactLater
+pub mod ExactListed
 pub mod ExactMembers
 pub mod ExactStrings
 pub mod ExactTimes

@@ -54,6 +54,15 @@ mutual
     -- 51.5, 51.7: a size of a range, and characters of some ranges
     sized : ℕ → ℕ → Notation → Notation
     permitted : List (ℕ × ℕ) → Notation → Notation
+    -- 51.2: a content that is one of these, and one that is none of these
+    listed : List (List ℕ) → Notation → Notation
+    unlisted : List (List ℕ) → Notation → Notation
+    -- an element that begins with none of these bytes, as that of an alternative of a later version (29.1)
+    begun-otherwise : List ℕ → Notation
+    -- an element that is the encoding of a value of this type, as in an open type whose type is known (X.681, 14.2)
+    encoded : Notation → Notation
+    -- an element that is one of several types of elements, which all of it decides (X.682, 10.3)
+    element-of : Alternatives → Notation
 
   -- 25.1: a member that is always there, one that may be absent, and one that is absent where it means this tree
   pub data Member : Type 0 where
@@ -105,6 +114,11 @@ abbrev mutual
   shape_of (Notation.outside least most t) = shape_of t
   shape_of (Notation.sized least most t) = shape_of t
   shape_of (Notation.permitted ranges t) = shape_of t
+  shape_of (Notation.listed contents t) = shape_of t
+  shape_of (Notation.unlisted contents t) = shape_of t
+  shape_of (Notation.begun-otherwise bytes) = Shape.raw
+  shape_of (Notation.encoded t) = Shape.raw
+  shape_of (Notation.element-of ts) = Shape.raw
 
   -- a member before others
   pub member_then : Member → Layout → Layout

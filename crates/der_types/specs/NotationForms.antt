@@ -277,6 +277,33 @@ later-alternatives-refused = Alternatives.none
 abbrev pub CHOICE : Alternatives → Notation
 CHOICE = Notation.choice
 
+-- each as an element that is its encoding
+abbrev elements-of : Alternatives → Alternatives
+elements-of Alternatives.none = Alternatives.none
+elements-of (Alternatives.alternative t ts) = Alternatives.alternative (Notation.encoded t) (elements-of ts)
+
+-- an element of one of these types, which all of it decides, as an object of a table does (X.682, 10)
+abbrev pub one-of : Alternatives → Notation
+one-of ts = Notation.element-of (elements-of ts)
+
+-- bytes in ascending order, each of them once
+abbrev with_byte : ℕ → List ℕ → List ℕ
+with_byte b [] = b ∷ []
+with_byte b (c ∷ cs) = if nat_lt b c then b ∷ c ∷ cs else (if b == c then c ∷ cs else c ∷ with_byte b cs)
+
+abbrev in_byte_order : List ℕ → List ℕ
+in_byte_order [] = []
+in_byte_order (b ∷ bs) = with_byte b (in_byte_order bs)
+
+-- alternatives, and those of later versions: elements with other tags, whether they are primitive or constructed
+abbrev and-later : List ℕ → Alternatives → Alternatives
+and-later known Alternatives.none = Notation.begun-otherwise (in_byte_order (in_both_forms known)) ∣ Alternatives.none
+and-later known (Alternatives.alternative t ts) = t ∣ and-later (known ++ firsts (shape_of t)) ts
+
+-- 29.1: an extensible one, where an alternative of a later version may be there
+abbrev pub CHOICE-extensible : Alternatives → Notation
+CHOICE-extensible ts = one-of (and-later [] ts)
+
 -- X.682, 11
 abbrev pub OCTET-STRING-CONTAINING : Notation → Notation
 OCTET-STRING-CONTAINING = Notation.wrapped wrapper.OctetContainer
@@ -351,6 +378,8 @@ abbrev is_list : Notation → Bool
 is_list (Notation.list-of kind t) = true
 is_list (Notation.sequence ms) = true
 is_list (Notation.sized least most t) = is_list t
+is_list (Notation.listed contents t) = is_list t
+is_list (Notation.unlisted contents t) = is_list t
 is_list _ = false
 
 -- one with a header inside that stays there
@@ -362,6 +391,8 @@ has_header (Notation.at-least least t) = has_header t
 has_header (Notation.at-most most t) = has_header t
 has_header (Notation.outside least most t) = has_header t
 has_header (Notation.permitted ranges t) = has_header t
+has_header (Notation.listed contents t) = has_header t
+has_header (Notation.unlisted contents t) = has_header t
 has_header _ = false
 
 -- 31.2.7: a choice and an open type have no tag that this one could replace, so that it is explicit. Of a type with a
@@ -370,6 +401,9 @@ abbrev implicit : TagClass → ℕ → Notation → Notation
 implicit class n (Notation.choice ts) = explicit class n (Notation.choice ts)
 implicit class n Notation.any-element = explicit class n Notation.any-element
 implicit class n Notation.well-formed-element = explicit class n Notation.well-formed-element
+implicit class n (Notation.begun-otherwise bytes) = explicit class n (Notation.begun-otherwise bytes)
+implicit class n (Notation.encoded t) = explicit class n (Notation.encoded t)
+implicit class n (Notation.element-of ts) = explicit class n (Notation.element-of ts)
 implicit class n (Notation.wrapped (wrapper.Explicit m) t) = explicit class n t
 implicit class n (Notation.wrapped (wrapper.Application m) t) = explicit class n t
 implicit class n (Notation.wrapped (wrapper.Implicit m) t) = over_primitive class n t

@@ -1,6 +1,6 @@
 -- Trees that the types of ASN.1 denote: readable ones that vectors can hold.
 use Rattle.std.specs.Prelude.{◌≡◌, ℕ, zero, suc, ◌-◌, ◌/◌, ◌%◌, ◌^◌, ◌<◌, Bool, true, false, ◌&&◌, ◌||◌, ◌==◌, nat_lt}
-use Rattle.std.specs.Prelude.{nat_le, ℤ, pos, negsuc, ◌+ℤ◌, int_le, List, [], ◌∷◌, ◌++◌, length, replicate, chars}
+use Rattle.std.specs.Prelude.{nat_le, not, ℤ, pos, negsuc, ◌+ℤ◌, int_le, List, [], ◌∷◌, ◌++◌, length, replicate, chars}
 use Rattle.std.specs.Prelude.{IsUtf8, Option, Some, None, is_some, if◌then◌else◌, refl}
 use Rattle.std.proofs.Common.{sym, ap, ◌∙◌, subst, arith, inl, inr, eqb-true, leb-true, ltb-true, encode_utf8}
 use Rattle.std.proofs.Common.{encode_utf8_all}
@@ -22,7 +22,7 @@ use Rattle.picky_der_core.specs.Order.{is_less, IsAscending}
 use Rattle.picky_der_core.specs.OrderLaws.{IsSortedBy-nil, IsSortedBy-one, IsSortedBy-cons}
 use Rattle.picky_der_core.specs.Primitive.{Primitive, primitive_content, unsigned_content}
 use Rattle.picky_der_core.specs.Readable.{IsReadable, AreReadable, IsInOrder, IsHeadedIfChoice, IsNoChoice}
-use Rattle.picky_der_core.specs.Shape.{contains, EachIs}
+use Rattle.picky_der_core.specs.Shape.{contains, begins_outside, EachIs}
 use Rattle.picky_der_core.specs.Tag.{number_of, is_tag_number, is_constructed, IsConstructedTag, is_constructed_tag}
 use Rattle.picky_der_core.specs.Tree.{ListKind, Tree, Trees}
 use Rattle.picky_der_core.specs.UnsignedLaws.{length-unsigned_content}
@@ -35,7 +35,7 @@ use Rattle.der_types.specs.CharacterStrings.{is_string_content, string_content}
 use Rattle.der_types.specs.Constraints.{is_size, is_between, member_count}
 use Rattle.der_types.specs.ContentTypes.{ContentType, tag_of, test_of, string_width, string_character}
 use Rattle.der_types.specs.Denotes.{Denotes, DenoteMembers, DenoteOneOf, IsShort, EachIsShort, content_tree}
-use Rattle.der_types.specs.Denotes.{tree_characters, tree_number, tree_size}
+use Rattle.der_types.specs.Denotes.{is_listed, tree_characters, tree_content, tree_number, tree_size}
 use Rattle.der_types.specs.Exact.{IsExact, Values, ProvedValues, is_exact}
 use Rattle.der_types.specs.ExactEnumerated.{one_byte}
 use Rattle.der_types.specs.Notation.{Notation, Member, Members, Alternatives}
@@ -457,6 +457,34 @@ module _ (n : Notation) (x : Sample n) where
       with (decided (list_all (is_of ranges) (tree_characters n x.tree)))
       (λ e. Some (constrained_sample (Notation.permitted ranges n) (x.denoted, e)))
 
+  abbrev listed_sample : (contents : List (List ℕ)) → Option (Sample (Notation.listed contents n))
+  listed_sample contents =
+      with (decided (is_listed contents (tree_content x.tree)))
+      (λ e. Some (constrained_sample (Notation.listed contents n) (x.denoted, e)))
+
+  abbrev unlisted_sample : (contents : List (List ℕ)) → Option (Sample (Notation.unlisted contents n))
+  unlisted_sample contents =
+      with (decided (not (is_listed contents (tree_content x.tree))))
+      (λ e. Some (constrained_sample (Notation.unlisted contents n) (x.denoted, e)))
+
+-- the first of the contents that a type lists
+abbrev first_content : List (List ℕ) → List ℕ
+first_content [] = []
+first_content (c ∷ cs) = c
+
+-- a tree with this content
+abbrev with_content : List ℕ → (n : Notation) → Option (Sample n)
+with_content s (Notation.checked-content c) =
+    content_sample (Notation.checked-content c) (tag_of c) s (with (decided (test_of c s)) (λ e. Some (s, refl, e)))
+with_content s Notation.OCTET-STRING = content_sample Notation.OCTET-STRING 0x04 s (Some (s, refl, tt))
+with_content s (Notation.any-content tag) = content_sample (Notation.any-content tag) tag s (Some (s, refl, tt))
+with_content s (Notation.restricted-string tag) =
+    content_sample (Notation.restricted-string tag) tag s
+    (with (decided (is_string_content (string_width tag) (string_character tag) s)) (λ e. Some (s, refl, e)))
+with_content s Notation.BOOLEAN =
+    Some (sample Notation.BOOLEAN (Tree.primitive (Primitive.boolean false)) (false, refl, tt) tt one_short)
+with_content s n = None
+
 -- a wish, or a bound that it is beyond
 abbrev raised : ℤ → ℤ → ℤ
 raised least wish = if int_le least wish then wish else least
@@ -543,6 +571,18 @@ abbrev mutual
       (λ e. with (decided (list_all (is_of ranges) (tree_characters text (content_tree tag s))))
       (λ f. Some ((s, refl, e), f))))
   sample_of wish (Notation.permitted ranges n) = with (sample_of wish n) (λ x. permitted_sample n x ranges)
+  sample_of wish (Notation.listed contents n) =
+      first_found (with (with_content (first_content contents) n) (λ x. listed_sample n x contents))
+      (with (sample_of wish n) (λ x. listed_sample n x contents))
+  sample_of wish (Notation.unlisted contents n) =
+      first_found (with (sample_of wish n) (λ x. unlisted_sample n x contents))
+      (with (sample_of (wish +ℤ pos 1) n) (λ x. unlisted_sample n x contents))
+  sample_of wish (Notation.begun-otherwise bytes) =
+      with (decided (begins_outside bytes (0x05 ∷ 0x00 ∷ [])))
+      (λ e. Some (sample (Notation.begun-otherwise bytes) (Tree.raw (0x05 ∷ 0x00 ∷ [])) (0x05 ∷ 0x00 ∷ [], refl, e)
+      null_element_readable two_short))
+  sample_of wish (Notation.encoded n) = None
+  sample_of wish (Notation.element-of ts) = None
 
   pub members_sample : (ms : Members) → Option (MembersSample ms)
   members_sample Members.end = Some (record { trees = Trees.none; denoted = tt; readable = tt; short = tt })

@@ -1,6 +1,6 @@
 //! Values that are kept together with their encoding, for open types.
 ghost use Rattle.std.proofs.Common.{rules};
-ghost use Rattle.std.specs.Prelude.{◌≡◌, IfOk, IfErr};
+ghost use Rattle.std.specs.Prelude.{◌≡◌, IfOk, IfErr, refl};
 ghost use Rattle.std.specs.Cmp.Rules.{comparing};
 ghost use Rattle.std.specs.Ordering.{on};
 ghost use Rattle.picky_der_core.specs.Equality.{IsThatOf};
@@ -11,11 +11,16 @@ ghost use Rattle.picky_der_de.specs.PlainRules.{raw_rule};
 ghost use Rattle.picky_der_de.specs.Rules.{tested_rule};
 ghost use Rattle.picky_der_de.specs.Twins.{IsNoValue};
 ghost use Rattle.picky_der_de.specs.Whole.{IsEncodingOf};
+ghost use Rattle.der_types.specs.ExactEncoded.{encoded_values};
+ghost use Rattle.der_types.specs.MadeValues.{vec_of};
+ghost use Rattle.der_types.specs.Notation.{Notation};
 
+use crate::{Exact, Notated};
 use picky_asn1_der::Asn1RawDer;
+use picky_der_core::asn1::Tag;
 use picky_der_core::misc::{ReadExt, WriteExt};
 use picky_der_core::{Asn1DerError, Result};
-use picky_der_de::{Deserialize, Deserializer, TryVia, from_der, try_deserialize_as};
+use picky_der_de::{Begins, Deserialize, Deserializer, TryVia, from_der, try_deserialize_as};
 use picky_der_ser::{Serialize, Serializer};
 use std::alloc::AllocError;
 use std::fmt;
@@ -131,4 +136,23 @@ impl<T: Deserialize> Deserialize for Encoded<T> {
     fn deserialize<R: ReadExt>(deserializer: &mut Deserializer<R>) -> Result<Encoded<T>> {
         try_deserialize_as(deserializer)
     }
+}
+
+impl<T: Deserialize> Begins for Encoded<T> {
+    fn begins_with(tag: Tag) -> bool {
+        <Asn1RawDer as Begins>::begins_with(tag)
+    }
+}
+
+impl<T: Notated> Notated for Encoded<T> {
+    ghost notation = { Notation.encoded T.notation };
+
+    ghost denoted = { refl };
+}
+
+impl<T: Exact> Exact for Encoded<T> {
+    ghost values = { encoded_values T.values T.notation T.meaning T.facts T.eq (λ it. it.value) (λ it. it.encoding.0.items)
+        (λ it. it.is) (λ s x h e. (record { encoding = record { 0 = vec_of s h }; value = x; is = ∣ e ∣₁ }, refl)) };
+
+    ghost exact = { Prim.assumption };
 }

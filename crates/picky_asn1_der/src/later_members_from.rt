@@ -14,7 +14,7 @@ use picky_der_core::misc::{ReadExt, WriteExt};
 use picky_der_core::{Asn1DerError, Result};
 use picky_der_de::DeserializeMembers;
 use picky_der_ser::{SerializeMember, SerializeMembers};
-use std::alloc::Global;
+use std::alloc::{AllocError, Global};
 
 /// The members that are left after the members of a struct, as elements: the members of a later version of an
 /// extensible SEQUENCE (X.680, 25.1) whose tags are automatic, in their order. They are the last member of the struct.
@@ -82,6 +82,19 @@ impl<const N: u8> LaterMembersFrom<N> {
             Some(LaterMembersFrom { elements })
         } else {
             None
+        }
+    }
+}
+
+/// It has copies of the elements. Copies that `new` doesn't allow, which no type of this library makes, count as a failed
+/// allocation.
+impl<const N: u8> Clone for LaterMembersFrom<N> {
+    ghost is_clone = { λ x y. ⟦<Vec<Asn1RawDer> as Clone>⟧.is_clone x.elements y.elements };
+
+    fn clone(&self) -> std::result::Result<LaterMembersFrom<N>, AllocError> {
+        match Self::new(self.elements.clone()?) {
+            Some(copy) => Ok(copy),
+            None => Err(AllocError),
         }
     }
 }

@@ -1,12 +1,14 @@
 //! Decoding the encoding of a readable value gives an equal value, and no other bytes decode to it. Here this is the
 //! contract of functions that only write and read.
-ghost use Rattle.std.specs.Prelude.{◌≡◌, ◌≢◌, ◌↔◌, length, true, IsTrue, IfOk, IfErr};
+ghost use Rattle.std.specs.Prelude.{◌≡◌, ◌↔◌, length, true, IsTrue, IfOk, IfErr};
 ghost use Rattle.picky_der_core.specs.Element.{IsPrefix};
 ghost use Rattle.picky_der_core.specs.Encoding.{der};
 ghost use Rattle.picky_der_core.specs.Shape.{IsOf};
 ghost use Rattle.picky_der_core.specs.Readable.{IsReadable, IsWritable};
 ghost use Rattle.picky_der_core.specs.Reading.{ReadsFrom};
 ghost use Rattle.picky_der_ser.specs.Calls.{MemoryExcuse};
+ghost use Rattle.picky_der_de.specs.Entry.{HasNoFront};
+ghost use Rattle.picky_der_de.specs.Rules.{RefusesSliceBy};
 
 use crate::{Asn1DerError, Deserialize, Faithful, Result, from_bytes, from_der, to_vec};
 use std::alloc::Global;
@@ -63,14 +65,15 @@ pub fn read_back<T: Deserialize>(alloc: Global, value: &T) -> Result<T>
 
 /// Reads the value at the front of some bytes and writes it again. The result is what was read, byte for byte.
 ///
-/// `OutOfMemory` if an allocation fails. Any other error means that no value is at the front.
+/// `OutOfMemory` if an allocation fails. Any other error is that of `from_bytes`, and means that no value is at the
+/// front.
 pub fn written_back<T: Deserialize>(alloc: Global, bytes: &[u8]) -> Result<Vec<u8>>
     ensures written { IfOk result (λ again. (v : T)
         × ReadsFrom T.meaning T.shape bytes.now (length bytes.now) v
         × (again.items ≡ der (T.meaning v))) }
     ensures same { IfOk result (λ again. IsPrefix again.items bytes.now) }
-    ensures err { IfErr result (λ e. e ≢ Asn1DerError.OutOfMemory → (v : T)
-        → ReadsFrom T.meaning T.shape bytes.now (length bytes.now) v → ⊥) }
+    ensures err { IfErr result (HasNoFront T.meaning T.shape bytes.now (length bytes.now)) }
+    ensures refused_by { IfErr result (RefusesSliceBy T.facts.rule bytes.now) }
 {
     let value: T = from_bytes(alloc, bytes)?;
     to_vec(alloc, &value)

@@ -15,7 +15,6 @@ _TERMS = {
     "Rattle.picky_der_de.specs.Faithful": {"members_at"},
     "Rattle.der_types.specs.ExactAdded": {"fields_values"},
 }
-_EXACT = frozenset(("ExactMembers", "fields_values"))
 _NAMES = """ReadExt WriteExt AddedMembers DeserializeMembers Result SerializeMembers Struct deserialize_members_as NotatedMembers ExactMembers
 FaithfulMembers""".split()
 
@@ -26,15 +25,13 @@ def added_uses(declared: AddedDeclaration) -> Uses:
     references = {member_reference(it).partition("(")[0].partition("::")[0] for it in declared.fields}
     used |= references & {"OptionalRef", "DefaultedRef"}
     used |= {"Sequence"} if len(declared.fields) > REFERENCES else set()
-    found = Uses(used, terms=_TERMS)
-    return found if declared.exact else found.without(_EXACT)
+    return Uses(used, terms=_TERMS)
 
 
 def added_lines(declared: AddedDeclaration, names: PrivateNames) -> list[str]:
     """The items of added members."""
     members = tuple_names(declared, names)[0]
-    exact = [exact_impl(declared, members)] if declared.exact else []
-    more = [notated_impl(declared, members), *exact, faithful_impl(declared, members)]
+    more = [notated_impl(declared, members), exact_impl(declared, members), faithful_impl(declared, members)]
     return [*definition(declared), "", *added_impls(declared, names), *(line for it in more for line in ["", *it])]
 
 

@@ -1,6 +1,7 @@
 """A choice, in the form of docs/YOUR_TYPES.md, with the proof of what it writes."""
 from ..meaning.declarations import ChoiceDeclaration, Declaration, Field
 from ..meaning.library import FOUR, parts_type
+from ..meaning.rust_types import RustType
 from ..meaning.wording import snake
 from .comments import difference_note, sentence
 from .imports import PRELUDE, Uses
@@ -55,20 +56,41 @@ def pattern(constructors: list[str], value: str) -> str:
 
 def choice_uses(declared: ChoiceDeclaration, is_exact: bool = True) -> Uses:
     """What the items of a choice name, with or without those of `Exact`."""
-    count = len(declared.variants)
-    constructors = {name for index in range(count) for name in place(index, count)}
-    used = by_type(constructors)
+    types = [it.type for it in declared.variants]
     terms = {
         PRELUDE: {"refl"},
         "Rattle.picky_der_core.specs.Shape": {"Shape"},
         "Rattle.picky_der_de.specs.ChoiceFacts": {"choice_facts"},
         "Rattle.der_types.specs.Notation": {"Notation"},
         "Rattle.der_types.specs.ExactChoices": {"choice_values"},
-        **{_CONSTRUCTOR_HOMES[it]: found for it, found in by_type(constructors.union(outside(count) if is_exact else [])).items()},
     }
-    rust = {*_NAMES, *parts_type([it.type for it in declared.variants]).names()}
-    found = Uses(rust, used, terms)
+    found = Uses({*_NAMES}, by_type(_constructors(len(types))), terms)
+    found.add(alternatives_uses(types, is_exact))
     return found if is_exact else found.without(_EXACT)
+
+
+def alternatives_uses(types: list[RustType], is_exact: bool) -> Uses:
+    """What terms of alternatives of these types name, with or without those of `Exact`."""
+    count = len(types)
+    around = _constructors(count).union(outside(count) if is_exact else [])
+    return Uses({*parts_type(types).names()}, terms={_CONSTRUCTOR_HOMES[it]: found for it, found in by_type(around).items()})
+
+
+def _constructors(count: int) -> set[str]:
+    """The constructors of so many alternatives."""
+    return {name for index in range(count) for name in place(index, count)}
+
+
+def cases_of(variants: list[Field]) -> list[str]:
+    """Each variant as one of the alternatives."""
+    return [f"variants.{it.name} x ↦ {term(place(index, len(variants)), 'x')}" for index, it in enumerate(variants)]
+
+
+def made_cases(variants: list[Field]) -> list[str]:
+    """Each alternative as that of a variant, and none after the last."""
+    count = len(variants)
+    cases = [f"{term(place(at, count), 'x')} ↦ (variants.{it.name} x, refl)" for at, it in enumerate(variants)]
+    return [*cases, f"{term(outside(count), 'x')} ↦ elim x [ ]"]
 
 
 def by_type(constructors: set[str]) -> dict[str, set[str]]:
@@ -79,8 +101,8 @@ def by_type(constructors: set[str]) -> dict[str, set[str]]:
 def choice_lines(declared: ChoiceDeclaration, names: PrivateNames, home: str) -> list[str]:
     """The items of a choice. `home` is the module of terms of the types of its file."""
     parts, variants = names.of(declared, "Parts"), variants_import(declared, home)
-    exact = ["", *exact_impl(declared, parts, variants)] if declared.exact else []
-    return [*definition(declared), "", *choice_impls(declared, names, home), "", *notated_impl(declared, parts), *exact]
+    own = [*definition(declared), "", *choice_impls(declared, names, home), "", *notated_impl(declared, parts)]
+    return [*own, "", *exact_impl(declared, parts, variants)]
 
 
 def choice_impls(declared: ChoiceDeclaration, names: PrivateNames, home: str) -> list[str]:
@@ -128,7 +150,7 @@ def variant_lines(it: Field) -> list[str]:
 def choice_impl(declared: ChoiceDeclaration, parts: str, imported: list[str]) -> list[str]:
     """The implementation of `Choice`."""
     variants, count = declared.variants, len(declared.variants)
-    cases = [f"variants.{it.name} x ↦ {term(place(index, count), 'x')}" for index, it in enumerate(variants)]
+    cases = cases_of(variants)
     line = f"{STEP}ghost parts = {{ elim [ {' | '.join(cases)} ] }};"
     lines = [line] if len(line) <= GHOST_WIDTH else [f"{STEP}ghost parts = {{ elim [", *(f"{STEP}  | {it}" for it in cases), f"{STEP}] }};"]
     arms = []
@@ -244,16 +266,13 @@ def notated_impl(declared: ChoiceDeclaration, parts: str) -> list[str]:
 
 def exact_impl(declared: ChoiceDeclaration, parts: str, imported: list[str]) -> list[str]:
     """The implementation of `Exact`: its alternatives are exact, and each of them is that of a value."""
-    count = len(declared.variants)
-    cases = [f"{term(place(at, count), 'x')} ↦ (variants.{it.name} x, refl)" for at, it in enumerate(declared.variants)]
-    cases.append(f"{term(outside(count), 'x')} ↦ elim x [ ]")
     return [
         f"impl Exact for {declared.name} {{",
         *imported,
         f"{STEP}ghost values = {{ choice_values ⟦<{parts} as ExactAlternatives>⟧.chosen_values",
         f"{_TWO}⟦<{parts} as NotatedAlternatives>⟧.alternatives_notation ⟦<{parts} as Alternatives>⟧.chosen ⟦<Self as Choice>⟧.parts",
         f"{_TWO}(elim [",
-        *(f"{_TWO}  | {it}" for it in cases),
+        *(f"{_TWO}  | {it}" for it in made_cases(declared.variants)),
         f"{_TWO}]) }};",
         "",
         f"{STEP}ghost exact = {{ Prim.assumption }};",

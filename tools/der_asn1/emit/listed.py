@@ -1,12 +1,15 @@
 """A type of listed values (X.680, 51.2): a struct round those values of another type whose content is a listed one, or none of these."""
+import re
+
 from ..derive.derived_types import determined
 from ..meaning.declarations import ListedDeclaration
-from ..meaning.listed import PART, access_of
+from ..meaning.listed import GHOST, PART, access_of, is_true, listed_contents, truth_content
+from ..meaning.terms import byte_list, content_list
 from ..meaning.wording import snake
 from .comments import difference_note, sentence
 from .imports import PRELUDE, Uses
-from .layout import STEP, WIDTH, comment, head, signature
-from .newtype import notated_impl
+from .layout import GHOST_WIDTH, STEP, WIDTH, comment, head, signature
+from .newtype import quoted
 from .tested import constructor, tested_impls, tested_uses
 from .union import TRIED, element_impls, element_uses, equal_impl, parts, serialize_impl
 from .values import value_lines
@@ -15,8 +18,17 @@ from .values import value_lines
 LISTED_FILE = "Listed"
 _TWO = STEP * 2
 _TRUTH, _RAW = "tree_truth", "raw_bytes"
-_PRELUDE_ORDER = ["ℕ", "Bool", "false", "not", "◌||◌", "nat_eq", "nat_le", "List", "[]", "◌∷◌", "length"]
+_EXACT = "Rattle.der_types.specs.ExactListed"
+# why a BOOLEAN is the listed one, by whether that is TRUE
+_TRUTHS = {True: "true_listed", False: "false_listed"}
+_PRELUDE_ORDER = ["ℕ", "Bool", "false", "not", "nat_le", "List", "[]", "◌∷◌", "length"]
 _TERMS_WIDTH = 120
+# where the terms of tests are from
+_HOMES = [
+    ("Rattle.der_types.specs.BitString", "bits_of"),
+    ("Rattle.der_types.specs.Denotes", "is_listed"),
+    ("Rattle.picky_der_core.specs.Shape", "begins_outside"),
+]
 
 
 def is_boolean(declared: ListedDeclaration) -> bool:
@@ -52,10 +64,24 @@ def listed_uses(declared: ListedDeclaration, crate: str) -> Uses:
     if is_encoded(declared):
         found = element_uses(declared.type.names())
         found.add(Uses(terms={home(crate): {declared.function}, PRELUDE: {"◌≡◌", "true", "false", "IfSome", "IfNone"}}))
+        found.add(exact_uses(declared, crate))
         return found
     found = tested_uses(declared, known(declared, crate))
     words = {"string_bytes"} if "string_bytes" in declared.test else set()
-    found.add(Uses({"Notated"}, terms={home(crate): {declared.function}, PRELUDE: {"◌≡◌", "true", "refl", *words}}))
+    found.add(Uses(terms={home(crate): {declared.function}, PRELUDE: {"◌≡◌", "true", *words}}))
+    found.add(exact_uses(declared, crate))
+    return found
+
+
+def exact_uses(declared: ListedDeclaration, crate: str) -> Uses:
+    """What the implementations of `Notated` and `Exact` name."""
+    found = Uses({"Notated", "Exact"}, terms={PRELUDE: {"refl"}, _EXACT: {values_of(declared)}})
+    found.add(Uses(terms={"Rattle.der_types.specs.Notation": {"Notation"}}))
+    found.add(Uses(terms={} if declared.most is not None else {home(crate): {list_name(declared)}}))
+    if is_boolean(declared):
+        found.add(Uses(terms={_EXACT: {_TRUTHS[is_true(declared)]}}))
+    if is_element(declared):
+        found.add(Uses(terms={"Rattle.der_types.specs.MadeValues": {"vec_of"}}))
     return found
 
 
@@ -63,7 +89,8 @@ def listed_lines(declared: ListedDeclaration, crate: str) -> list[str]:
     """The items of a type of listed values."""
     own = [*definition(declared), "", *function(declared)]
     if not is_encoded(declared):
-        return [*own, "", *tested_impls(declared, known(declared, crate)), "", *notated_impl(declared)]
+        items = [tested_impls(declared, known(declared, crate)), notated_impl(declared), exact_impl(declared)]
+        return [*own, *(line for it in items for line in ["", *it])]
     code = f"{PART}.encoding()"
     items = [
         constructor(declared),
@@ -71,6 +98,8 @@ def listed_lines(declared: ListedDeclaration, crate: str) -> list[str]:
         serialize_impl(declared.name, code),
         try_via_impl(declared),
         *element_impls(declared.name),
+        notated_impl(declared),
+        exact_impl(declared),
     ]
     return [*own, *(line for it in items for line in ["", *it])]
 
@@ -96,6 +125,75 @@ def try_via_impl(declared: ListedDeclaration) -> list[str]:
     ]
 
 
+def given(declared: ListedDeclaration) -> str:
+    """What the notation lists, as a term, or the greatest size."""
+    return list_name(declared) if declared.most is None else str(declared.most)
+
+
+def is_unlisted(declared: ListedDeclaration) -> bool:
+    """Whether the values are those with other contents. A BOOLEAN that isn't one value is the other one."""
+    return declared.contents.is_other and not is_boolean(declared)
+
+
+def notation_of(declared: ListedDeclaration) -> list[str]:
+    """What it is in ASN.1, as the words of a term."""
+    if is_element(declared):
+        return ["Notation.begun-otherwise", given(declared)]
+    word = "sized 0" if declared.most is not None else "unlisted" if is_unlisted(declared) else "listed"
+    return [f"Notation.{word}", given(declared), f"{quoted(declared, 'Notated')}.notation"]
+
+
+def values_of(declared: ListedDeclaration) -> str:
+    """The word of der_types for what it says of its values."""
+    if is_element(declared):
+        return "begun_otherwise_values"
+    return "most_values" if declared.most is not None else "unlisted_values" if is_unlisted(declared) else "listed_values"
+
+
+def notated_impl(declared: ListedDeclaration) -> list[str]:
+    """The implementation of `Notated`: which values the type inside has, by their contents."""
+    return [
+        f"impl Notated for {declared.name} {{",
+        *broken_ghost("notation", notation_of(declared)),
+        "",
+        f"{STEP}ghost denoted = {{ refl }};",
+        "}",
+    ]
+
+
+def exact_impl(declared: ListedDeclaration) -> list[str]:
+    """The implementation of `Exact`: the type inside is, and its contents decide the test."""
+    record = f"(record {{ {PART} = x; {GHOST} = p }}, refl)"
+    if is_element(declared):
+        made = f"(record {{ {PART} = record {{ 0 = vec_of s h }}; {GHOST} = p }}, refl)"
+        words = [values_of(declared), given(declared), f"(λ it. it.{PART}.0.items)", f"(λ it. it.{GHOST})", f"(λ s p h. {made})"]
+    else:
+        facts = [f"{quoted(declared, trait)}.{name}" for trait, name in (("Exact", "values"), ("Notated", "notation"), ("Serialize", "meaning"))]
+        same = _TRUTHS[is_true(declared)] if is_boolean(declared) else "(λ x. refl)"
+        words = [values_of(declared), *facts, f"(λ {PART}. {declared.test})", f"(λ it. it.{PART})", f"(λ it. it.{GHOST})", f"(λ x p. {record})"]
+        words += [given(declared), same]
+    return [
+        f"impl Exact for {declared.name} {{",
+        *broken_ghost("values", words),
+        "",
+        f"{STEP}ghost exact = {{ Prim.assumption }};",
+        "}",
+    ]
+
+
+def broken_ghost(name: str, words: list[str]) -> list[str]:
+    """A ghost item of these words, on lines that are short enough."""
+    lines, now = [], f"{STEP}ghost {name} = {{"
+    for number, it in enumerate(words):
+        more = f"{now} {it}" if now.strip() else f"{now}{it}"
+        end = len(" };") if number == len(words) - 1 else 0
+        if len(more) + end > GHOST_WIDTH and now.strip():
+            lines.append(now)
+            more = f"{_TWO}{it}"
+        now = more
+    return [*lines, f"{now} }};"]
+
+
 def definition(declared: ListedDeclaration) -> list[str]:
     """The struct with its comments, after the contents that its test names."""
     lines = []
@@ -117,7 +215,7 @@ def definition(declared: ListedDeclaration) -> list[str]:
 
 def contents(declared: ListedDeclaration) -> list[bytes]:
     """The contents that are listed, in their order. A BOOLEAN needs none, and the first bytes of elements are in one list."""
-    found = sorted(declared.contents.listed)
+    found = listed_contents(declared)
     return [] if is_boolean(declared) else [b"".join(found)] if is_element(declared) else found
 
 
@@ -178,11 +276,6 @@ def part_lines(before: str, part: str, after: str) -> list[str]:
     return [f"{before}{name}(", f"{_TWO}{STEP}{argument.removesuffix(')')},", f"{_TWO}){after}"]
 
 
-def is_true(declared: ListedDeclaration) -> bool:
-    """Whether TRUE is the value of a BOOLEAN that is left."""
-    return (b"\xff" in declared.contents.listed) != declared.contents.is_other
-
-
 # ---- terms
 
 
@@ -190,15 +283,10 @@ def listed_terms(types: list[ListedDeclaration]) -> list[str]:
     """The lines of the file of terms, after its first one."""
     body = [line for it in types for line in ["", *terms_of(it)]]
     truth, raw = any(map(is_boolean, types)), any(map(is_element, types))
-    used = " ".join(it for it in body if not it.startswith("--"))
+    used = set(re.findall(r"[^\s()]+", " ".join(it for it in body if not it.startswith("--"))))
     names = [it for it in _PRELUDE_ORDER if it.replace("◌", "") in used or it == "false" and truth or it in ("List", "ℕ", "[]") and raw]
     lines = ["-- The contents of listed values, which their contracts cite.", f"use {PRELUDE}.{{{', '.join(names)}}}"]
-    if "pointwise" in used:
-        lines.append("use Rattle.std.specs.Cmp.Lexicographic.{pointwise}")
-    if "bits_of" in used:
-        lines.append("use Rattle.der_types.specs.BitString.{bits_of}")
-    if "begins_outside" in used:
-        lines.append("use Rattle.picky_der_core.specs.Shape.{begins_outside}")
+    lines += [f"use {home}.{{{it}}}" for home, it in _HOMES if it in used]
     lines += ["use Rattle.picky_der_core.specs.Primitive.{Primitive}"] if truth else []
     lines += ["use Rattle.picky_der_core.specs.Tree.{Tree}"] if truth or raw else []
     if raw:
@@ -210,33 +298,46 @@ def listed_terms(types: list[ListedDeclaration]) -> list[str]:
 
 
 def terms_of(declared: ListedDeclaration) -> list[str]:
-    """The test of the content of one type."""
+    """What is listed, and the test of the content of one type."""
     name, kind = declared.function, "Bool" if is_boolean(declared) else "List ℕ"
-    lines = [*comment("", "--", f"{declared.source} of {declared.module}: {declared.notation}"), f"abbrev pub {name} : {kind} → Bool"]
+    about, own = comment("", "--", f"{declared.source} of {declared.module}: {declared.notation}"), []
+    if declared.most is None:
+        own = [*about, f"abbrev pub {list_name(declared)} : {'List ℕ' if is_element(declared) else 'List (List ℕ)'}", *list_lines(declared), ""]
+    return [*(own or about), f"abbrev pub {name} : {kind} → Bool", f"{name} {'b' if is_boolean(declared) else 's'} = {tested(declared)}"]
+
+
+def tested(declared: ListedDeclaration) -> str:
+    """The test of a content as a term."""
     if is_boolean(declared):
-        return [*lines, f"{name} b = {'b' if is_true(declared) else 'not b'}"]
+        return "b" if is_true(declared) else "not b"
     if declared.most is not None:
-        return [*lines, f"{name} s = nat_le (length (bits_of s)) {declared.most}"]
+        return f"nat_le (length (bits_of s)) {declared.most}"
     if is_element(declared):
-        parts, before, after = [f"begins_outside ({' ∷ '.join([*(f'0x{byte:02X}' for byte in contents(declared)[0]), '[]'])}) s"], "", ""
-        whole = f"{name} s = {parts[0]}"
-        return [*lines, whole] if len(whole) <= _TERMS_WIDTH else [*lines, f"{name} s =", *broken(parts, after)]
-    parts = [f"pointwise nat_eq s ({' ∷ '.join([*(f'0x{byte:02X}' for byte in it), '[]'])})" for it in contents(declared)]
-    before, after = ("not (", ")") if declared.contents.is_other else ("", "")
-    whole = f"{name} s = {before}{' || '.join(parts)}{after}"
-    return [*lines, whole] if len(whole) <= _TERMS_WIDTH else [*lines, f"{name} s = {before}".rstrip(), *broken(parts, after)]
+        return f"begins_outside {list_name(declared)} s"
+    return f"not (is_listed {list_name(declared)} s)" if declared.contents.is_other else f"is_listed {list_name(declared)} s"
 
 
-def broken(parts: list[str], after: str) -> list[str]:
-    """The parts of a test, each on lines of its own that are short enough."""
-    lines = []
-    for number, it in enumerate(parts):
-        words, now = (f"|| {it}" if number else it).split(" "), STEP
-        for word in words:
-            if len(f"{now} {word}") > _TERMS_WIDTH:
-                lines.append(now)
-                now = f"{STEP}{word}"
-            else:
-                now = f"{now}{word}" if now == STEP else f"{now} {word}"
-        lines.append(now)
-    return [*lines[:-1], f"{lines[-1]}{after}"]
+def list_name(declared: ListedDeclaration) -> str:
+    """The name of the term of what is listed."""
+    return f"{snake(declared.name)}_{'known' if is_element(declared) else 'contents'}"
+
+
+def list_lines(declared: ListedDeclaration) -> list[str]:
+    """The equation of what is listed: contents, or the first bytes of elements that are known."""
+    if is_element(declared):
+        text = byte_list(b"".join(listed_contents(declared)))
+    else:
+        text = content_list([truth_content(declared)] if is_boolean(declared) else listed_contents(declared))[1:-1]
+    whole = f"{list_name(declared)} = {text}"
+    return [whole] if len(whole) <= _TERMS_WIDTH else [f"{list_name(declared)} =", *broken(text)]
+
+
+def broken(text: str) -> list[str]:
+    """A list on lines that are short enough."""
+    lines, now = [], STEP.rstrip("\n")
+    for word in text.split(" "):
+        if now.strip() and len(f"{now} {word}") > _TERMS_WIDTH:
+            lines.append(now)
+            now = STEP
+        now = f"{now} {word}" if now.strip() else f"{now}{word}"
+    return [*lines, now]

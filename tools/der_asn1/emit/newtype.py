@@ -11,20 +11,17 @@ _TERMS = {
     "Rattle.picky_der_de.specs.Facts": {"facts_as"},
     "Rattle.der_types.specs.Exact": {"newtype_values"},
 }
-_EXACT = frozenset(("Exact", "newtype_values"))
 _NAMES = "ReadExt WriteExt Via Deserialize Deserializer Result Serialize Serializer deserialize_as Begins Tag Notated Exact".split()
 
 
 def newtype_uses(declared: NewtypeDeclaration) -> Uses:
     """What the items of a struct round another type name."""
-    found = Uses({*_NAMES, *declared.type.names()}, terms=_TERMS)
-    return found if declared.exact else found.without(_EXACT)
+    return Uses({*_NAMES, *declared.type.names()}, terms=_TERMS)
 
 
 def newtype_lines(declared: NewtypeDeclaration) -> list[str]:
     """The items of a struct round another type."""
-    exact = ["", *exact_impl(declared)] if declared.exact else []
-    return [*definition(declared), "", *newtype_impls(declared), "", *notated_impl(declared), *exact]
+    return [*definition(declared), "", *newtype_impls(declared), "", *notated_impl(declared), "", *exact_impl(declared)]
 
 
 def newtype_impls(declared: NewtypeDeclaration) -> list[str]:

@@ -19,25 +19,6 @@ _EACH = (
     "/// Each type has exactly the values of the notation that its module gives it. `specs/Notation.antt` has that notation as a term, below",
     "/// its text.",
 )
-_OTHERS = (
-    "/// Each other type has the form of the notation that its module gives it, and no other values. Which ones it has is said by single values",
-    "/// or by a table, which terms don't have.",
-)
-# words of terms that der_types doesn't have, and what each is there
-_OWN_WORDS = {
-    "narrower": """
--- the type has those values alone that the text says
-abbrev pub narrower : Notation → Notation
-narrower t = t""",
-    "encoded": """
--- the element that a value of this type is, which is read as any element is
-abbrev pub encoded : Notation → Notation
-encoded t = ANY""",
-    "one-of": """
--- one of these, which the whole element says and its first byte doesn't: the type is read as any element is
-abbrev pub one-of : Alternatives → Notation
-one-of ts = ANY""",
-}
 
 
 def defined(types: Iterable[Declaration]) -> list[Declaration]:
@@ -66,15 +47,13 @@ def notation_terms(types: list[Declaration], modules: list[tree.Module], homes: 
     if len(used) == 1:
         body = [it.replace(default_tags(used[0].name), _TAGS) for it in body]
         modes = [it.replace(default_tags(used[0].name), _TAGS) for it in modes]
-    own = [line for word, text in _OWN_WORDS.items() if word in names_of(body) for line in text.split("\n")]
-    names = names_of([*own, *body, *modes])
+    names = names_of([*body, *modes])
     prelude = ["use Rattle.std.specs.Prelude.{" + ", ".join(_PRELUDE) + "}"] if "◌∷◌" in names else []
     return [
         "-- The types as terms. Above each is its name in its module, and above each member the member's text.",
         *prelude,
         *form_imports(names),
         *crate_imports(names, homes),
-        *own,
         *modes,
         *body,
     ]
@@ -118,19 +97,18 @@ def type_lines(declared: Declaration, known: set[str]) -> list[str]:
 def notation_file(types: list[Declaration], homes: dict[str, str], crate: str) -> list[str]:
     """The lines of the file of the law."""
     ordered = sorted(types, key=lambda it: natural(it.name))
-    exact, others = [it.name for it in ordered if it.exact], [it.name for it in ordered if not it.exact]
+    names = [it.name for it in ordered]
     return [
         "//! The ASN.1 type of each type.",
         "ghost use Rattle.std.specs.Prelude.{◌≡◌};",
         f"ghost use Rattle.{crate}.specs.Notation as notation;",
         "",
-        *imports({*exact, *others, *(["Exact"] if exact else []), *(["Notated"] if others else [])}, homes),
-        *(law("types", exact, "⟦<{} as Exact>⟧.values.notation", _EACH) if exact else []),
-        *(law("forms", others, "⟦<{} as Notated>⟧.notation", _OTHERS) if others else []),
+        *imports({*names, "Exact"}, homes),
+        *law(names),
     ]
 
 
-def law(function: str, names: list[str], of_type: str, comments: tuple[str, ...]) -> list[str]:
+def law(names: list[str]) -> list[str]:
     """The law that the notation of each of these types is that of its term."""
-    clauses = [f"    ensures {snake(it)} {{ {of_type.format(it)} ≡ notation.{it} }}" for it in names]
-    return ["", *comments, f"pub fn {function}()", *clauses, "{}"]
+    clauses = [f"    ensures {snake(it)} {{ ⟦<{it} as Exact>⟧.values.notation ≡ notation.{it} }}" for it in names]
+    return ["", *_EACH, "pub fn types()", *clauses, "{}"]

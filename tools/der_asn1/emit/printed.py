@@ -5,8 +5,9 @@ called after their places. A word of terms that has no notation becomes this:
 
 | Term | Notation |
 |---|---|
-| `wider t`, `narrower t` | `t (CONSTRAINED BY {})` |
+| `wider t`, `listed cs t`, `unlisted cs t` | `t (CONSTRAINED BY {})` |
 | `one-of ts`, `encoded t` | `ANY (CONSTRAINED BY {})` |
+| `CHOICE-extensible ts` | a CHOICE with `...` after its alternatives |
 | `default-as-optional t` | `t DEFAULT {}` |
 | `added (t ⨾ ..)` | members between `[[` and `]]` after `...`, up to the next `added` |
 | `added-as-optional t` | a member after `...` |
@@ -147,8 +148,8 @@ class _Printer:
             return "ANY (CONSTRAINED BY {})"
         if word == "any-element":
             return "ANY"
-        if word in ("wider", "narrower"):
-            return f"{self.type(given[0])} (CONSTRAINED BY {{}})"
+        if word in ("wider", "listed", "unlisted"):
+            return f"{self.type(given[-1])} (CONSTRAINED BY {{}})"
         if word in _CLASSES:
             mode = self.mode(given[1].word)
             return f"[{_CLASSES[word]}{given[0].word}] {mode}{self.type(given[2])}"
@@ -167,8 +168,9 @@ class _Printer:
             return f"{_CONTAINERS[word]} (CONTAINING {self.type(given[0])})"
         if word in ("SEQUENCE", "SET"):
             return f"{word} {{ {self.members(parts_of(given[0]))} }}"
-        if word == "CHOICE":
-            return f"CHOICE {{ {self.alternatives(parts_of(given[0]))} }}"
+        if word in ("CHOICE", "CHOICE-extensible"):
+            more = ", ..." if word == "CHOICE-extensible" else ""
+            return f"CHOICE {{ {self.alternatives(parts_of(given[0]))}{more} }}"
         return self.simple(word, given)
 
     def mode(self, word: str) -> str:

@@ -21,7 +21,6 @@ _TERMS = {
     "Rattle.der_types.specs.Notation": {"Notation"},
     "Rattle.der_types.specs.ExactMembers": {"struct_values"},
 }
-_EXACT = frozenset(("Exact", "ExactMembers", "struct_values"))
 _NAMES = """ReadExt WriteExt Deserialize DeserializeMembers Deserializer Result Serialize SerializeMembers Serializer Struct
 deserialize_struct_as Begins Tag List Notated NotatedMembers Exact ExactMembers""".split()
 
@@ -79,23 +78,22 @@ def member_reference(it: Field, before: str = "self") -> str:
     return f"&{before}.{it.name}"
 
 
-def struct_uses(declared: StructDeclaration, is_exact: bool = True) -> Uses:
-    """What the items of a struct name, with or without those of `Exact`."""
+def struct_uses(declared: StructDeclaration) -> Uses:
+    """What the items of a struct name."""
     used = {*_NAMES, *(name for it in declared.parts() for name in member_type(it).names())}
     presences = {it.presence for it in declared.fields}
     used |= {"OptionalRef"} if Presence.OPTIONAL in presences else set()
     used |= {"DefaultedRef"} if Presence.DEFAULT in presences else set()
     used |= {"Sequence"} if len(declared.fields) > REFERENCES else set()
     used |= {"TagOrdered"} if declared.is_set else set()
-    found = Uses(used, terms=_TERMS)
-    return found if is_exact else found.without(_EXACT)
+    return Uses(used, terms=_TERMS)
 
 
 def struct_lines(declared: StructDeclaration, names: PrivateNames) -> list[str]:
     """The items of a struct."""
     members = tuple_names(declared, names)[0]
-    exact = ["", *exact_impl(declared, members)] if declared.exact else []
-    return [*definition(declared), "", *struct_impls(declared, names), "", *notated_impl(declared, members), *exact]
+    more = [struct_impls(declared, names), notated_impl(declared, members), exact_impl(declared, members)]
+    return [*definition(declared), *(line for it in more for line in ["", *it])]
 
 
 def struct_impls(declared: StructDeclaration, names: PrivateNames) -> list[str]:

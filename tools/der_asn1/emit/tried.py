@@ -1,6 +1,6 @@
 """The proofs about an element of which several types are tried: that it is a value of none of them, where each was tried."""
 from ..meaning.declarations import ListedDeclaration, UnionDeclaration
-from .listed import broken, contents
+from .listed import home, list_name
 from .union import ELEMENTS, TRIED
 
 # the file of the lemmas, in the folder of the module that tries a type
@@ -126,16 +126,13 @@ def later_path(declared: ListedDeclaration, stem: str) -> str:
 
 def later_answers(declared: ListedDeclaration, crate: str, stem: str) -> list[str]:
     """The lines of that proof. The prover finds it by itself for some bytes, but not for those of twenty alternatives."""
-    (known,) = contents(declared)
-    listed = " ∷ ".join([*(f"0x{it:02X}" for it in known), "[]"])
     return [
-        "use Rattle.std.proofs.Common.{[], ◌∷◌}",
+        f"use {home(crate)}.{{{list_name(declared)}}}",
         f"use Rattle.{crate}.proofs.{ELEMENTS}.{_REASONS}.{{begins_otherwise}}",
         f"use Rattle.{crate}.proofs.{stem}.{declared.function}.Goals as goal",
         "",
         "pub returns-in-Some : goal.returns-in-Some",
-        "returns-in-Some c = begins_otherwise",
-        *broken([f"({listed})"], ""),
+        f"returns-in-Some c = begins_otherwise {list_name(declared)}",
         "    c.args.value.now.0.items c.deref.result.now c.in-Some.first.now c.contains.result c.deref.ensures.value",
         "    c.in-Some.ensures.value c.contains.ensures.value",
     ]

@@ -81,9 +81,9 @@ def uses_of(declared: Declaration, context: Context) -> Uses:
     if isinstance(declared, AddedDeclaration):
         return added_uses(declared)
     if isinstance(declared, StructDeclaration):
-        return struct_uses(declared, declared.exact)
+        return struct_uses(declared)
     if isinstance(declared, ChoiceDeclaration):
-        return choice_uses(declared, declared.exact)
+        return choice_uses(declared)
     if isinstance(declared, EnumDeclaration):
         return enum_uses(declared, context.crate)
     if isinstance(declared, SetDeclaration):
@@ -97,7 +97,7 @@ def lines_of(declared: Declaration, stem: str, context: Context) -> list[str]:
     if isinstance(declared, ListedDeclaration):
         return listed_lines(declared, context.crate)
     if isinstance(declared, UnionDeclaration):
-        return union_lines(declared, home)
+        return union_lines(declared, context.names, home)
     if isinstance(declared, NewtypeDeclaration):
         return newtype_lines(declared)
     if isinstance(declared, AddedDeclaration):
@@ -126,7 +126,7 @@ def promises(declared: Declaration, stem: str, context: Context) -> list[tuple[U
     found = [(faithful_uses(declared, terms), faithful_impl(declared, inner, home_of_terms(stem, context)))]
     if isinstance(declared, EnumDeclaration):
         found += [(faithful_default_uses(), faithful_default_impl(it, declared.name)) for it in declared.defaults]
-    is_inhabited = declared.exact and has_example(declared, context.types)
+    is_inhabited = has_example(declared, context.types)
     return [*copied, *found, *([(inhabited_uses(), inhabited_impl(declared.name))] if is_inhabited else [])]
 
 

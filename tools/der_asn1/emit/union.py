@@ -3,24 +3,25 @@
 It is written and read as any element, of which each type is tried in turn. `Encoded` of der_types has the element with its value.
 """
 from ..meaning.declarations import Field, UnionDeclaration
-from ..meaning.rust_types import of
-from .choice import variant_lines, variants_import
+from ..meaning.library import parts_type
+from ..meaning.rust_types import RustType, of
+from .choice import alternatives_uses, cases_of, made_cases, variant_lines, variants_import
 from .comments import difference_note, sentence
 from .imports import PRELUDE, Uses
-from .layout import STEP, comment, signature
+from .layout import STEP, comment, signature, type_lines
+from .private_names import PrivateNames
 
 # the file of the function that tries a type, and its name
 ELEMENTS, TRIED = "elements", "encoded_if"
 _TWO, _THREE = STEP * 2, STEP * 3
-_NAMES = """TryVia Asn1DerError Asn1RawDer Deserialize Deserializer Result Serialize Serializer try_deserialize_as Begins Tag Notated Faithful
+_NAMES = """TryVia Asn1DerError Asn1RawDer Deserialize Deserializer Result Serialize Serializer try_deserialize_as Begins Tag Faithful
 ReadExt WriteExt Encoded""".split()
 _TERMS = {
     "Rattle.std.proofs.Common": {"rules"},
-    PRELUDE: {"◌≡◌", "refl"},
+    PRELUDE: {"◌≡◌"},
     "Rattle.std.specs.Cmp.Rules": {"comparing"},
     "Rattle.std.specs.Ordering": {"on"},
     "Rattle.picky_der_de.specs.Facts": {"tested_facts"},
-    "Rattle.der_types.specs.Notation": {"Notation"},
     "Rattle.der_types.specs.Sameness": {"newtype_sameness"},
 }
 
@@ -74,7 +75,11 @@ def of_element(trait: str, name: str) -> str:
 
 def union_uses(declared: UnionDeclaration) -> Uses:
     """What the items of such a type name."""
-    return element_uses({name for it in declared.variants for name in it.type.names()})
+    found = element_uses({name for it in declared.variants for name in it.type.names()})
+    found.add(alternatives_uses([encoded(it).type for it in declared.variants], is_exact=True))
+    found.add(Uses({"Notated", "Exact", "Alternatives", "NotatedAlternatives", "ExactAlternatives", "NoneOf"}, terms={PRELUDE: {"refl"}}))
+    found.add(Uses(terms={"Rattle.der_types.specs.Notation": {"Notation"}, "Rattle.der_types.specs.ExactEncoded": {"element_values"}}))
+    return found
 
 
 def element_uses(names: set[str]) -> Uses:
@@ -82,22 +87,26 @@ def element_uses(names: set[str]) -> Uses:
     return Uses({*_NAMES, TRIED, *names}, terms={home: set(found) for home, found in _TERMS.items()})
 
 
-def union_lines(declared: UnionDeclaration, home: str) -> list[str]:
+def union_lines(declared: UnionDeclaration, names: PrivateNames, home: str) -> list[str]:
     """The items of such a type. `home` is the module of terms of the types of its file."""
+    own = names.of(declared, "Parts")
     items = [
         definition(declared),
+        type_lines("", f"type {own} = ", str(parts_type(part_types(declared))), ";"),
         own_impl(declared),
         equal_impl(declared.name, parts(declared.name), "encoding()"),
         serialize_impl(declared.name, "encoding()"),
         try_via_impl(declared, home),
         *element_impls(declared.name),
+        notated_impl(declared, own),
+        exact_impl(declared, own, home),
     ]
     return [line for number, it in enumerate(items) for line in ([""] if number else []) + it]
 
 
 def element_impls(name: str) -> list[list[str]]:
     """What each type has that is read as any element and converted by `TryVia`."""
-    return [deserialize_impl(name), begins_impl(name), element_notation(name), faithful_impl(name)]
+    return [deserialize_impl(name), begins_impl(name), faithful_impl(name)]
 
 
 def definition(declared: UnionDeclaration) -> list[str]:
@@ -214,13 +223,46 @@ def begins_impl(name: str) -> list[str]:
     ]
 
 
-def element_notation(name: str) -> list[str]:
-    """The implementation of `Notated`: any element, since the terms of the library don't say more."""
+def part_types(declared: UnionDeclaration) -> list[RustType]:
+    """The types of the variants, each with its element."""
+    return [encoded(it).type for it in declared.variants]
+
+
+def notated_impl(declared: UnionDeclaration, own: str) -> list[str]:
+    """The implementation of `Notated`: an element of one of the types."""
     return [
-        f"impl Notated for {name} {{",
-        f"{STEP}ghost notation = {{ Notation.any-element }};",
+        f"impl Notated for {declared.name} {{",
+        f"{STEP}ghost notation = {{ Notation.element-of ⟦<{own} as NotatedAlternatives>⟧.alternatives_notation }};",
         "",
         f"{STEP}ghost denoted = {{ refl }};",
+        "}",
+    ]
+
+
+def exact_impl(declared: UnionDeclaration, own: str, home: str) -> list[str]:
+    """The implementation of `Exact`: each type is, and an element of one of them is that of a value."""
+    lists = [
+        cases_of(declared.variants),
+        made_cases(declared.variants),
+        [f"variants.{it.name} x ↦ refl" for it in declared.variants],
+    ]
+    cases = [
+        [f"{_TWO}(elim [", *(f"{_TWO}  | {it}" for it in one), f"{_TWO}])"]
+        for one in lists
+    ]
+    last = cases[-1]
+    return [
+        f"impl Exact for {declared.name} {{",
+        *variants_import(declared, home),
+        f"{STEP}ghost values = {{ element_values ⟦<{own} as ExactAlternatives>⟧.chosen_values",
+        f"{_TWO}⟦<{own} as NotatedAlternatives>⟧.alternatives_notation ⟦<{own} as Alternatives>⟧.chosen",
+        f"{_TWO}(λ it. ({parts(declared.name)} it).0.items)",
+        *cases[0],
+        *cases[1],
+        *last[:-1],
+        f"{last[-1]} }};",
+        "",
+        f"{STEP}ghost exact = {{ Prim.assumption }};",
         "}",
     ]
 

@@ -100,8 +100,7 @@ class Declaration:
 
     `root` is the name of the assignment that it is all or a part of. `levels` is how many it has at most, if it contains itself, and `inner`
     says that another type of that assignment has more.
-    `term` is the type that an assignment defines, as a term of der_types. What is only a part of one has none. `exact` says that the term is all
-    that the notation says, so that the type has `Exact`.
+    `term` is the type that an assignment defines, as a term of der_types. What is only a part of one has none.
     """
 
     name: str
@@ -115,7 +114,6 @@ class Declaration:
     root: str = ""
     levels: int = 0
     inner: bool = False
-    exact: bool = True
 
     def differences(self) -> list[str]:
         """Why its values, or the values of a part, differ from the notation's. An open type is any element, as the notation says."""

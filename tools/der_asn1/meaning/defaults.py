@@ -9,7 +9,6 @@ from ..parse import tree
 from .contents import Contents, content_of
 from .declarations import AliasDeclaration, Hint
 from .encodings import encoding_of, header_size
-from .features import Note
 from .library import Core, Rust
 from .listed import ACCESSED, declared_list
 from .meaning import Meaning
@@ -41,7 +40,7 @@ def other_values(meanings: "Meanings", part: Part, hint: Hint, is_last: bool) ->
     type_ = found and _within(outer, rust, found.rust.type)
     if type_ is None:
         return None
-    return Default(others=type_, word="default-as-optional", term=_term_within(outer.term, rust.term, found.rust.term, layers), notes=(Note.WITHOUT_TERM,))
+    return Default(others=type_, word="default-as-optional", term=_term_within(outer.term, rust.term, found.rust.term, layers))
 
 
 def _is_explicit(outer: Rust, rust: Rust, is_last: bool) -> bool:

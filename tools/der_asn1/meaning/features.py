@@ -74,7 +74,6 @@ class Note(Enum):
     DEPTH = "a type that contains itself, to a depth"
     CHARACTERS = "a string of any bytes, as TeletexString or GeneralString, whose characters aren't checked"
     USER_CONSTRAINT = "CONSTRAINED BY, which says something in words alone"
-    WITHOUT_TERM = "values that no term of the library says: a table of objects, listed values, or later alternatives"
 
     @property
     def is_own(self) -> bool:

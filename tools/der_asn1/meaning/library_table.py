@@ -91,11 +91,12 @@ LIBRARY_NAMES = frozenset(_HOMES)
 # the other terms of der_types, by the file of its specs that has them
 _TERMS = {
     "ContentForms": "BIT-STRING-named",
-    "Notation": "Alternatives INTEGER-named ENUMERATED any-content any-element content-under end none optional required",
-    "NotationForms": """ANY APPLICATION AUTOMATIC BIT-STRING-CONTAINING beyond-depth CHOICE CONTEXT EXPLICIT FALSE FROM IMPLICIT INTEGER-from-minus-to
+    "Notation": """Alternatives INTEGER-named ENUMERATED any-content any-element begun-otherwise content-under encoded end listed none optional required
+        unlisted""",
+    "NotationForms": """ANY APPLICATION AUTOMATIC BIT-STRING-CONTAINING beyond-depth CHOICE CHOICE-extensible CONTEXT EXPLICIT FALSE FROM IMPLICIT INTEGER-from-minus-to
         INTEGER-from-to INTEGER-in MAX Mode OCTET-STRING-CONTAINING PRIVATE SEQUENCE SEQUENCE-OF SET SET-OF SIZE TRUE UNIVERSAL added added-as-optional
         default default-as-optional default-of wider from-on from-to later-alternatives-refused later-elements
-        later-elements-automatic later-members later-members-automatic later-members-refused minus number up-to ◌⨾◌ ◌∣◌""",
+        later-elements-automatic later-members later-members-automatic later-members-refused minus number one-of up-to ◌⨾◌ ◌∣◌""",
 }
 _OWN_TERMS = {
     "ContentForms": [it.term for it in TYPES if it.is_checked],

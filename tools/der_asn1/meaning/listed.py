@@ -5,7 +5,6 @@ from typing import TYPE_CHECKING, Optional
 from ..parse import tree
 from .contents import ANY_CONTENT, Contents
 from .declarations import Hint, ListedDeclaration
-from .features import Note
 from .intervals import NATURAL
 from .library import Core, Rust
 from .meaning import Meaning
@@ -13,14 +12,14 @@ from .rust_types import of
 from .scopes import Scope
 from .structures import declare
 from .subtypes import Limits
-from .terms import Term
+from .terms import Term, byte_list, content_list, sized
 from .wording import snake
 
 if TYPE_CHECKING:
     from .types import Meanings
 
 # the contents of a BOOLEAN (X.690, 11.1)
-_TRUTHS = (b"\x00", b"\xff")
+FALSE_CONTENT, TRUE_CONTENT = b"\x00", b"\xff"
 # the name of the field, and of the ghost field by which its content is a listed one
 PART, GHOST = "value", "listed"
 
@@ -63,9 +62,31 @@ def access_of(declared: ListedDeclaration) -> Access:
     return _ACCESSES[declared.type.name]
 
 
-def narrower(term: Term) -> Term:
-    """The term of a type that has fewer values than it says."""
-    return Term("narrower", term)
+def term_of(declared: ListedDeclaration, inner: Rust) -> Term:
+    """The term of a type of listed values, of those of the type inside."""
+    if declared.most is not None:
+        return sized(0, declared.most, inner.term)
+    if inner.text == "Asn1RawDer":
+        return Term(f"begun-otherwise ({byte_list(b''.join(listed_contents(declared)))})")
+    if inner.core is Core.BOOL:
+        return Term(f"listed {content_list([truth_content(declared)])}", inner.term)
+    word = "unlisted" if declared.contents.is_other else "listed"
+    return Term(f"{word} {content_list(listed_contents(declared))}", inner.term)
+
+
+def listed_contents(declared: ListedDeclaration) -> list[bytes]:
+    """The contents that are listed, in their order."""
+    return sorted(declared.contents.listed)
+
+
+def is_true(declared: ListedDeclaration) -> bool:
+    """Whether TRUE is the value of a BOOLEAN that is left."""
+    return (TRUE_CONTENT in declared.contents.listed) != declared.contents.is_other
+
+
+def truth_content(declared: ListedDeclaration) -> bytes:
+    """The content of the value of a BOOLEAN that is left (X.690, 8.2)."""
+    return TRUE_CONTENT if is_true(declared) else FALSE_CONTENT
 
 
 def listed(meanings: "Meanings", meaning: Meaning, type_: tree.Type, scope: Scope, hint: Hint, limits: Limits) -> tuple[Meaning, Limits]:
@@ -74,7 +95,7 @@ def listed(meanings: "Meanings", meaning: Meaning, type_: tree.Type, scope: Scop
     if contents.is_all() or rust is None or rust.own or rust.bounded or rust.text not in ACCESSED:
         return meaning, limits
     if rust.core is Core.BOOL:
-        contents = Contents(frozenset(filter(contents.has, _TRUTHS)), False)
+        contents = Contents(frozenset(filter(contents.has, (FALSE_CONTENT, TRUE_CONTENT))), False)
         if len(contents.listed) > 1:
             return meaning, replace(limits, contents=ANY_CONTENT)
     if not contents.is_other and limits.alphabet == NATURAL:
@@ -107,11 +128,10 @@ def declared_list(
 ) -> Meaning:
     """The type of the values with these contents, of a type that can have them, or of as many bits at most."""
     rust = meaning.rust
-    found = meaning.noting(Note.WITHOUT_TERM)
     declared = ListedDeclaration("", type_.place, scope.module.name, hint.text, type=rust.type, part=PART, contents=contents, most=most)
     declared.notation, declared.ghost, declared.by_reference = type_.text, GHOST, rust.core is not Core.BOOL
-    name = declare(meanings, declared, type_, scope, hint, found, "values")
+    name = declare(meanings, declared, type_, scope, hint, meaning, "values")
     declared.function = f"is_{snake(name)}"
     declared.test = f"{declared.function} {access_of(declared).clause}"
     is_open = rust.core is Core.ELEMENT
-    return found.as_(Rust(of(name), Core.OWN, rust.firsts, inner=rust, is_open=is_open, term=narrower(rust.term)))
+    return meaning.as_(Rust(of(name), Core.OWN, rust.firsts, inner=rust, is_open=is_open, term=term_of(declared, rust)))

@@ -249,7 +249,6 @@ def declare(meanings: "Meanings", declared: Declaration, type_: tree.Type, scope
         wanted = f"{hint.text}-{suffix}" if hint.key or is_added else hint.text
         declared.name = meanings.declarations.fresh(wanted, (*scope.key, str(type_.place), suffix), declared.module)
     declared.comment, declared.root, declared.level, declared.lacks = hint.comment, hint.root, meaning.level, lacks(meaning)
-    declared.exact = Note.WITHOUT_TERM not in meaning.notes
     if hint.key and meanings.levels():
         declared.source, declared.levels, declared.inner = hint.root, meanings.levels(), bool(meanings.depth_suffix())
     meanings.declarations.add(declared)

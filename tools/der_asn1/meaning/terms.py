@@ -47,7 +47,7 @@ class Term:
 
     def between(self) -> str:
         """The operator between the items."""
-        return _ALTERNATIVES if self.head in ("CHOICE", "one-of") else _MEMBERS
+        return _ALTERNATIVES if self.head in ("CHOICE", "CHOICE-extensible", "one-of") else _MEMBERS
 
     def group(self) -> "Optional[Term]":
         """The term with members or alternatives that it is, or that is inside of its tags, or None."""
@@ -110,6 +110,16 @@ def tagged(tag: tree.Tag, number: int, inner: Term, module: str, is_explicit: bo
 def number_list(values: Iterable[int]) -> str:
     """A list of numbers."""
     return f"({' ∷ '.join([*map(str, values), '[]'])})"
+
+
+def byte_list(content: bytes) -> str:
+    """A list of bytes."""
+    return " ∷ ".join([*(f"0x{it:02X}" for it in content), "[]"])
+
+
+def content_list(contents: Iterable[bytes]) -> str:
+    """A list of lists of bytes."""
+    return f"({' ∷ '.join([*(f'({byte_list(it)})' if it else '[]' for it in contents), '[]'])})"
 
 
 def names_of(lines: list[str]) -> set[str]:

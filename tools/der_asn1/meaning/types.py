@@ -111,7 +111,6 @@ def alias(name: str, found: Found, type_: tree.Type, meaning: Meaning, kind: typ
     source, comment = found.assignment.name, " ".join(found.assignment.comment)
     declared = kind(name, found.assignment.place, found.scope.module.name, source, comment, root=source)
     declared.level, declared.lacks, declared.term = meaning.level, lacks(meaning), meaning.rust.term
-    declared.exact = Note.WITHOUT_TERM not in meaning.notes
     declared.type, declared.notation = meaning.rust.type, type_.text
     return declared
 

@@ -4,7 +4,6 @@ from typing import TYPE_CHECKING, Optional
 
 from ..parse import tree
 from .declarations import Field, Hint, UnionDeclaration
-from .features import Note
 from .library import ANY_FIRST, Core, Rust
 from .meaning import Meaning
 from .rust_types import of
@@ -37,16 +36,17 @@ def union(
 ) -> Optional[Meaning]:
     """The type that is one of these, which is declared.
 
-    `fallback` is another type, for where the first byte has to be known, and `is_open` says that each tag over it is EXPLICIT.
+    `fallback` is another type, for where the first byte has to be known. `is_open` says that it is an extensible CHOICE, so that each tag over it
+    is EXPLICIT: the last of the types is that of the alternatives of later versions, which its term doesn't name.
     """
     if any(it.meaning.rust is None for it in choices):
         return None
-    found = Meaning(None).containing(*(it.meaning for it in choices)).noting(Note.WITHOUT_TERM)
+    found = Meaning(None).containing(*(it.meaning for it in choices))
     variants = [Field(variant(it.name), it.meaning.rust.type, notation=it.text) for it in choices]
     declared = UnionDeclaration("", type_.place, scope.module.name, hint.text, variants=unique(variants))
     name = declare(meanings, declared, type_, scope, hint, found, "element")
-    items = tuple(Item(it.text, "", it.meaning.rust.term) for it in choices)
-    term = Term("one-of", items=items, end="none", name=name)
+    items = tuple(Item(it.text, "", it.meaning.rust.term) for it in choices if not (is_open and it is choices[-1]))
+    term = Term("CHOICE-extensible" if is_open else "one-of", items=items, end="none", name=name)
     return found.as_(Rust(of(name), Core.UNION, ANY_FIRST, term=term, choices=tuple(choices), fallback=fallback, is_open=is_open))
 
 

@@ -11,6 +11,7 @@ from typing import Optional
 from ..emit.printed import Terms, printed
 from ..meaning.character_sets import characters_of
 from ..meaning.inner import inner_types
+from ..meaning.intervals import Intervals
 from ..meaning.members import is_extensible, members_of, selected
 from ..meaning.objects import BUILT_IN_CLASSES
 from ..meaning.scopes import BUILT_IN_ANY, Found, Program, Scope, target_of
@@ -72,7 +73,10 @@ class Side:
         """The numbers, the sizes and the characters that the constraints leave, and whether they say more than that."""
         base = self.type.name if isinstance(self.type, tree.SimpleType) else ""
         found = Reader(self.program, getattr(self.type, "named", []), base).limits(self.all())
-        return (found.numbers, found.size, characters_of(base).intersection(found.alphabet)), found.other or found.unknown
+        # zeros after the last named bit that is set are put in or left out as a size wants them (X.680, 22.7)
+        is_named = isinstance(self.type, tree.BitStringType) and self.type.named
+        size = Intervals.of((0, found.size.high)) if is_named and found.size.pairs else found.size
+        return (found.numbers, size, characters_of(base).intersection(found.alphabet)), found.other or found.unknown
 
 
 def levels(members: list) -> list[int]:
@@ -190,7 +194,7 @@ class Agreement:
         return self.compare(mine.part(mine.type.element), other.part(other.type.element))
 
     def choice(self, mine: Side, other: Side) -> Optional[str]:
-        """Alternatives."""
+        """Alternatives. Which of them an extension added says nothing about a value."""
         return self.members(mine, other)
 
     def structure(self, mine: Side, other: Side) -> Optional[str]:
@@ -200,7 +204,8 @@ class Agreement:
     def members(self, mine: Side, other: Side) -> Optional[str]:
         """Members or alternatives, how each is there, and the extension marker."""
         ours, theirs = [members_of(it.program, it.type, it.scope) for it in (mine, other)]
-        if not mine.is_wide() and levels(ours) != levels(theirs):
+        is_choice = isinstance(mine.type, tree.ChoiceType)
+        if not is_choice and not mine.is_wide() and levels(ours) != levels(theirs):
             return f"the additions differ: `{mine.type.text}`, `{other.type.text}`"
         if len(ours) != len(theirs) or is_extensible(mine.type, mine.scope) != is_extensible(other.type, other.scope):
             return f"the members differ: `{mine.type.text}`, `{other.type.text}`"
@@ -224,7 +229,7 @@ class Agreement:
         if presences[0] is tree.Presence.DEFAULT:
             return self.default(mine.program, one) in ("{}", self.default(other.program, two))
         groups = [it.member.group is not None for it in (one, two)]
-        return presences[0] is tree.Presence.OPTIONAL or groups[0] == groups[1]
+        return isinstance(mine.type, tree.ChoiceType) or presences[0] is tree.Presence.OPTIONAL or groups[0] == groups[1]
 
     def default(self, program: Program, resolved) -> object:
         """A default: a truth, a number, the number of an item, or braces for none of these."""

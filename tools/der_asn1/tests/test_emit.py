@@ -305,8 +305,8 @@ B ::= SEQUENCE { c BOOLEAN }"""
         self.assertIn("/// `[0] IMPLICIT OBJECT IDENTIFIER DEFAULT { 1 2 3 }`. `None` is the default.\n    pub a: Option<ImplicitContextTag0<AAOther>>,\n", files["src/types.rt"])
         self.assertIn("    pub b: Option<ExplicitContextTag1<ABOther>>,\n", files["src/types.rt"])
         self.assertIn("    value: Encoded<B>,\n", files["src/types.rt"])
-        self.assertIn("is_ab_other s = not (pointwise nat_eq s (0x30 ∷ 0x03 ∷ 0x01 ∷ 0x01 ∷ 0xFF ∷ []))\n", files["specs/Listed.antt"])
-        self.assertIn("is_ad_other s = not (pointwise nat_eq s (0x65 ∷ 0x6E ∷ []))\n", files["specs/Listed.antt"])
+        self.assertIn("ab_other_contents = (0x30 ∷ 0x03 ∷ 0x01 ∷ 0x01 ∷ 0xFF ∷ []) ∷ []\n", files["specs/Listed.antt"])
+        self.assertIn("is_ad_other s = not (is_listed ad_other_contents s)\n", files["specs/Listed.antt"])
 
     def test_a_default_of_which_the_other_numbers_are_a_type(self):
         body = "A ::= SEQUENCE { v [0] V DEFAULT v1, n [1] INTEGER (0..9) DEFAULT 5, m [2] INTEGER (0..65535) DEFAULT 256 } V ::= INTEGER { v1(0) }"

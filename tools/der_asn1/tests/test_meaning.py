@@ -142,21 +142,11 @@ OWN = [
     ("OCTET STRING (SIZE (1 | 5))", Note.CONSTRAINT),
     ("UTCTime (SIZE (13))", Note.CONSTRAINT),
     ('UTF8String (FROM ("A".."Z"))', Note.ALPHABET),
-    ('IA5String ("a" | "b")', Note.WITHOUT_TERM),
-    ("BOOLEAN (TRUE)", Note.WITHOUT_TERM),
-    ("OBJECT IDENTIFIER (ALL EXCEPT { 1 2 3 })", Note.WITHOUT_TERM),
-    ("OCTET STRING ('0102'H | ''H)", Note.WITHOUT_TERM),
     ('PrintableString ("ab") (SIZE (3))', Note.CONSTRAINT),
-    ("CHOICE { a NULL, ... }", Note.WITHOUT_TERM),
-    ("BIT STRING { a(0) } (SIZE (1..9))", Note.WITHOUT_TERM),
-    ("BIT STRING ('101'B | ''B)", Note.WITHOUT_TERM),
-    ("SEQUENCE { a BIT STRING { x(0) } DEFAULT {}, b NULL }", Note.WITHOUT_TERM),
     ("OCTET STRING (CONTAINING INTEGER) (SIZE (3))", Note.CONSTRAINT),
     ("SEQUENCE { a NULL } (WITH COMPONENTS { a ABSENT })", Note.CONSTRAINT),
     ("SEQUENCE { a NULL OPTIONAL, ... } (WITH COMPONENTS { ..., a ABSENT })", Note.CONSTRAINT),
     ("SEQUENCE { a NULL OPTIONAL, ... } (WITH COMPONENTS { a PRESENT })", Note.CONSTRAINT),
-    ("SEQUENCE { a NULL OPTIONAL, b BOOLEAN OPTIONAL } (WITH COMPONENTS { a PRESENT } | WITH COMPONENTS { b PRESENT })", Note.WITHOUT_TERM),
-    ("[APPLICATION 1] IMPLICIT BOOLEAN", Note.WITHOUT_TERM),
     (f"[APPLICATION 1] IMPLICIT INTEGER (0..{2**128 - 1})", Note.CONSTRAINT),
     ("SEQUENCE { a ENUMERATED { x(500), y } DEFAULT x }", Note.DEFAULT),
     ("ANY", Note.OPEN),
@@ -314,7 +304,7 @@ class Parts(unittest.TestCase):
 
     def test_implied_extensibility(self):
         one = given("T ::= SEQUENCE { a NULL }\nU ::= CHOICE { a NULL }", "AUTOMATIC TAGS EXTENSIBILITY IMPLIED")
-        self.assertEqual((frozenset(), {Note.WITHOUT_TERM}), (one.meaning("T").notes, one.meaning("U").notes))
+        self.assertEqual((frozenset(), "CHOICE-extensible"), (one.meaning("T").notes, one.meanings.declarations.by_name[one.meaning("U").rust.text].term.head))
 
 
 class Parameters(unittest.TestCase):
@@ -355,11 +345,12 @@ Only ALGORITHM ::= { { OID { 1 2 3 } PARMS NULL } }
         self.assertEqual((Level.EXACT, frozenset()), (found.level, found.notes))
 
     def test_an_identifier_of_a_closed_set(self):
-        self.assertEqual({Note.WITHOUT_TERM}, self.meaning("ALGORITHM.&id ({Only})").notes)
+        found = self.meaning("ALGORITHM.&id ({Only})")
+        self.assertEqual((Level.EXACT, frozenset()), (found.level, found.notes))
 
     def test_a_type_by_a_table(self):
         found = self.meaning("SEQUENCE { a ALGORITHM.&id ({Known}), b ALGORITHM.&Type ({Known}{@a}) OPTIONAL }")
-        self.assertEqual(({Note.WITHOUT_TERM, Note.OPEN}, Level.EXACT), (set(found.notes), found.level))
+        self.assertEqual(({Note.OPEN}, Level.EXACT), (set(found.notes), found.level))
         self.assertEqual(["row-1", "other"], [it.name for it in found.rust.choices])
 
     def test_a_type_by_a_table_where_the_first_byte_has_to_be_known(self):
@@ -409,8 +400,8 @@ shut OPERATION ::= { ARGUMENT NULL CODE global : { 1 2 3 } }
 Known OPERATION ::= { open | shut, ... }
 T ::= SEQUENCE { op OPERATION.&code ({Known}), arg OPERATION.&Arg ({Known}{@op}) }"""
         terms = [it.meaning.rust.term.items[0].term.inline() for it in given(body).meaning("T").rust.choices]
-        wanted = ["CHOICE (INTEGER-from-to 1 1 ∣ none)", "CHOICE (narrower OBJECT-IDENTIFIER ∣ none)"]
-        others = "CHOICE (INTEGER-in (up-to (number 0) ∷ from-on (number 2) ∷ []) ∣ narrower OBJECT-IDENTIFIER ∣ none)"
+        wanted = ["CHOICE (INTEGER-from-to 1 1 ∣ none)", "CHOICE (listed ((0x2A ∷ 0x03 ∷ []) ∷ []) OBJECT-IDENTIFIER ∣ none)"]
+        others = "CHOICE (INTEGER-in (up-to (number 0) ∷ from-on (number 2) ∷ []) ∣ unlisted ((0x2A ∷ 0x03 ∷ []) ∷ []) OBJECT-IDENTIFIER ∣ none)"
         self.assertEqual([*wanted, others], terms)
 
     def firsts(self, one, name):

@@ -61,7 +61,7 @@ class Reports(unittest.TestCase):
 
     def test_types_without_exact_are_named(self):
         found = report.without_exact(self.found)
-        self.assertEqual("4 of 6 (66.7 %) with `Exact`, and 4 of 6 (66.7 %) with `Faithful`", found[0])
+        self.assertEqual("4 of 6 (66.7 %) with `Exact` and `Faithful`", found[0])
         self.assertEqual(["M.E has none: tags with a number above 30", "M.G has none: not read"], [it.strip() for it in found[1:]])
 
     def test_types_without_a_readable_value_are_named(self):
@@ -70,6 +70,18 @@ class Reports(unittest.TestCase):
         found = report.without_inhabited(report.report_of(read_text(module_text(body), "m.asn1", problems), problems))
         self.assertEqual("2 of 4 (50.0 %) with `Inhabited`", found[0])
         self.assertEqual(["M.A has none: no readable value is found", "M.B has none: no readable value is found"], [it.strip() for it in found[1:]])
+
+    def test_readable_values_of_listed_ones(self):
+        problems = Problems()
+        body = """A ::= OBJECT IDENTIFIER ({ 1 2 3 })
+B ::= UTF8String ("x")
+C ::= BOOLEAN (TRUE)
+D ::= CHOICE { a INTEGER, ... }
+E ::= OCTET STRING (ALL EXCEPT ''H)
+F ::= BIT STRING { a(0) } (SIZE (4))
+G ::= OBJECT IDENTIFIER (ALL EXCEPT { 1 2 })"""
+        found = report.without_inhabited(report.report_of(read_text(module_text(body), "m.asn1", problems), problems))
+        self.assertEqual(["M.B", "M.D", "M.G"], [it.split()[0] for it in found[1:]])
 
     def test_shares(self):
         self.assertEqual("1 of 4 (25.0 %)", report.share(1, 4))

@@ -179,7 +179,7 @@ class Agreeing(unittest.TestCase):
             modules = read_file(str(path), Problems())
             imported = [it for other in paths if other != path for it in read_file(str(other), Problems())]
             program, meanings, found, _ = tables_of(modules, imported)
-            exact = {(it.module, it.source) for it in meanings.declarations.by_name.values() if it.exact and not it.differences()}
+            exact = {(it.module, it.source) for it in meanings.declarations.by_name.values() if not it.differences()}
             for key, table in found.items():
                 if key in exact:
                     count += self.check(table, program, {key: key[1]})

@@ -50,7 +50,7 @@ class Terms(unittest.TestCase):
         self.assertEqual("PNull", found)
 
     def test_a_tag_that_the_library_has_for_other_values_alone(self):
-        self.check([("[APPLICATION 1] BOOLEAN", "narrower (any-content 0x41)")], "IMPLICIT TAGS")
+        self.check([("[APPLICATION 1] BOOLEAN", "listed ((0x00 ∷ []) ∷ (0xFF ∷ []) ∷ []) (any-content 0x41)")], "IMPLICIT TAGS")
         self.check([("[APPLICATION 1] INTEGER (0..255)", "APPLICATION 1 TAGS-M (INTEGER-from-to 0 255)")], "IMPLICIT TAGS")
         self.check([("[APPLICATION 1] OCTET STRING", "APPLICATION 1 TAGS-M OCTET-STRING")], "IMPLICIT TAGS")
 
@@ -78,7 +78,7 @@ class Terms(unittest.TestCase):
         self.check([("SEQUENCE { a INTEGER DEFAULT -1 }", "SEQUENCE (default-of (minus 1) INTEGER ⨾ end)")])
         wanted = "wider (SEQUENCE (default-as-optional (SET-OF NULL) ⨾ required NULL ⨾ end))"
         self.check([("SEQUENCE { a SET OF NULL DEFAULT {}, b NULL }", wanted), ("SEQUENCE {}", "SEQUENCE end")])
-        self.check([("SEQUENCE { a NULL DEFAULT NULL }", "SEQUENCE (default-as-optional (narrower (encoded NULL)) ⨾ end)")])
+        self.check([("SEQUENCE { a NULL DEFAULT NULL }", "SEQUENCE (default-as-optional (unlisted ((0x05 ∷ 0x00 ∷ []) ∷ []) (encoded NULL)) ⨾ end)")])
         self.check([("SEQUENCE { a [0] INTEGER DEFAULT 7 }", "SEQUENCE (default-of (number 7) (CONTEXT 0 TAGS-M INTEGER) ⨾ end)")])
 
     def test_defaults(self):
@@ -87,8 +87,15 @@ class Terms(unittest.TestCase):
         pairs += [("ENUMERATED { x(3), y(1) } DEFAULT x", "default (number 3) (ENUMERATED (3 ∷ 1 ∷ []))")]
         self.check([(f"SEQUENCE {{ a {notation} }}", f"SEQUENCE ({wanted} ⨾ end)") for notation, wanted in pairs])
 
-    def test_a_boolean_of_both_values(self):
-        self.check([("BOOLEAN (TRUE | FALSE)", "BOOLEAN"), ("BOOLEAN (ALL EXCEPT TRUE)", "narrower BOOLEAN")])
+    def test_listed_values(self):
+        pairs = [("IA5String (\"b\" | \"a\")", "listed ((0x61 ∷ []) ∷ (0x62 ∷ []) ∷ []) IA5String")]
+        pairs += [("BOOLEAN (TRUE)", "listed ((0xFF ∷ []) ∷ []) BOOLEAN"), ("BOOLEAN (ALL EXCEPT TRUE)", "listed ((0x00 ∷ []) ∷ []) BOOLEAN"), ("BOOLEAN (TRUE | FALSE)", "BOOLEAN")]
+        pairs += [("OBJECT IDENTIFIER (ALL EXCEPT { 1 2 3 })", "unlisted ((0x2A ∷ 0x03 ∷ []) ∷ []) OBJECT-IDENTIFIER")]
+        pairs += [("OCTET STRING ('0102'H | ''H)", "listed ([] ∷ (0x01 ∷ 0x02 ∷ []) ∷ []) OCTET-STRING")]
+        pairs += [("BIT STRING ('101'B | ''B)", "listed ((0x00 ∷ []) ∷ (0x05 ∷ 0xA0 ∷ []) ∷ []) BIT-STRING")]
+        pairs += [("BIT STRING { a(0) } (SIZE (1..9))", "SIZE 0 9 BIT-STRING-named")]
+        other = "SEQUENCE (default-as-optional (unlisted ((0x00 ∷ []) ∷ []) BIT-STRING-named) ⨾ required NULL ⨾ end)"
+        self.check([*pairs, ("SEQUENCE { a BIT STRING { x(0) } DEFAULT {}, b NULL }", other)])
 
     def test_automatic_tags(self):
         wanted = "SEQUENCE (required (CONTEXT 0 AUTOMATIC NULL) ⨾ required (CONTEXT 1 AUTOMATIC NULL) ⨾ end)"
@@ -111,7 +118,7 @@ class Terms(unittest.TestCase):
         self.check([("SEQUENCE { a NULL, ..., b BOOLEAN, ..., c INTEGER }", wanted)])
         self.check([("SEQUENCE { a NULL, b ANY OPTIONAL, ... }", "wider (SEQUENCE (required NULL ⨾ optional ANY ⨾ later-members-refused))")])
         self.check([("SET { a NULL, ... }", "wider (SET (required NULL ⨾ later-members-refused))")])
-        self.check([("CHOICE { a NULL, ... }", "one-of (NULL ∣ narrower any-element ∣ none)")])
+        self.check([("CHOICE { a NULL, ... }", "CHOICE-extensible (NULL ∣ none)")])
 
     def test_what_is_kept_as_bytes(self):
         self.check([("CHARACTER STRING", "wider (any-content 0x3D)"), ("SEQUENCE { a T2 }", "SEQUENCE (required (wider any-element) ⨾ end)")])
