@@ -1,5 +1,6 @@
 //! Which traits the types of the library have: a generic function for each trait, and for each family of types a
-//! function that calls them for all of its types. Eight types may be named as one tuple, which has what all of them have.
+//! function that calls them for all of its types. Eight types may be named as one tuple, which has what all of them
+//! have.
 
 mod algorithms;
 mod cms;

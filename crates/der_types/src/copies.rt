@@ -1,6 +1,6 @@
-//! Copies of several values at once, for the `Clone` of a struct. A derived `Clone` returns at each field whose copy fails,
-//! after it has dropped the copies before, so that its proof grows with the square of their number. With these functions it
-//! doesn't.
+//! Copies of several values at once, for the `Clone` of a struct. A derived `Clone` returns at each field whose copy
+//! fails, after it has dropped the copies before, so that its proof grows with the square of their number. With these
+//! functions it doesn't.
 ghost use Rattle.std.specs.Prelude.{IfOk};
 
 use std::alloc::AllocError;
