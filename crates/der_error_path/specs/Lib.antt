@@ -1,0 +1,5 @@
+pub mod Awaited
+pub mod Begins
+pub mod Inside
+pub mod Passed
+pub mod Steps
