@@ -5,6 +5,7 @@ ghost use Rattle.picky_der_core.specs.Tag.{is_tag_number, number_of};
 ghost use Rattle.picky_der_core.specs.Wrapper.{wrapper_number, wrapper_tag};
 ghost use Rattle.der_error_path.specs.Begins.{can_begin, kind_begins, one_begins, own_tag};
 
+use crate::node::node_at;
 use der_schema::{Alternative, Kind, Node};
 use picky_der_core::asn1::{Tag, Wrapper};
 
@@ -14,7 +15,7 @@ use picky_der_core::asn1::{Tag, Wrapper};
 pub(crate) fn begins(nodes: &[Node], index: u16, tag: Tag) -> bool
     ensures { result ≡ can_begin nodes.now index tag }
 {
-    let Some(node) = nodes.get(usize::from(index)).copied() else {
+    let Some(node) = node_at(nodes, index) else {
         return false;
     };
     if tag.number() > Tag::MAX_NUMBER {
@@ -33,7 +34,7 @@ fn kind_begins(nodes: &[Node], index: u16, kind: Kind, tag: Tag) -> bool
         Kind::AnyElement | Kind::WellFormedElement => true,
         Kind::Choice(alternatives) => one_begins(nodes, alternatives, index, tag),
         Kind::Wrapped { wrapper, .. } => wrapper_begins(wrapper, tag),
-        Kind::ContentUnder { tag: own, .. } => tag == Tag::from(own) && tag.is_primitive(),
+        Kind::ContentUnder { tag: own, .. } => tag == Tag::from(own) && !tag.is_constructed(),
         kind => match (own_tag(kind), kind.inner()) {
             (Some(own), _) => tag == own,
             (None, Some(inner)) => inner < index && begins(nodes, inner, tag),
