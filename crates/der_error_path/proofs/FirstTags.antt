@@ -87,7 +87,8 @@ module _ (tag : ℕ) (ok : is_tag_number (number_of tag) ≡ true) where
             ap (λ t. contains (firsts (shape_of t)) tag) (not_earlier nodes i node h j l)
 
     alternatives : (others : List Alternative)
-        → contains (firsts_of (shapes_of (alternatives_from (before nodes i) others))) tag ≡ one_begins nodes i tag others
+        → contains (firsts_of (shapes_of (alternatives_from (before nodes i) others))) tag
+        ≡ one_begins nodes i tag others
     alternatives [] = refl
     alternatives (a ∷ more) =
         let one : List ℕ = firsts (shape_of (type_at (before nodes i) a.node)) in

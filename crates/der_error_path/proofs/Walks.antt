@@ -1,6 +1,7 @@
 -- What was found of a path by names.
-use Rattle.std.proofs.Common.{◌≡◌, ℕ, ◌+◌, ◌<◌, ◌≤◌, ◌⊎◌, inl, inr, List, [], ◌∷◌, ◌++◌, length, take, Option, None, Some}
-use Rattle.std.proofs.Common.{refl, sym, ap, ◌∙◌, subst, arith, append_assoc, append-nil, length-append}
+use Rattle.std.proofs.Common.{◌≡◌, ℕ, ◌+◌, ◌<◌, ◌≤◌, ◌⊎◌, inl, inr, List, [], ◌∷◌, ◌++◌, length, take}
+use Rattle.std.proofs.Common.{Option, None, Some, refl, sym, ap, ◌∙◌, subst, arith, append_assoc, append-nil}
+use Rattle.std.proofs.Common.{length-append}
 use Rattle.std.proofs.Common.{get_or}
 use Rattle.std.proofs.lemmas.List.{take-append-le, take_all}
 use Rattle.std.proofs.lemmas.Slice.{first_rest}
@@ -90,7 +91,8 @@ pub record IsReached (nodes : List Node) (here : Awaited) (around : List ℕ) (n
       → (inner : ℕ) × IsPath content inner left
 
 pub reached_by : (nodes : List Node) (here : Awaited) (around : List ℕ) (number : ℕ) (left : List ℕ) (now : Awaited)
-    (rest : List ℕ) (place count : ℕ) → IsPath around place (number ∷ left) → ArePassedAs nodes here around count now rest
+    (rest : List ℕ) (place count : ℕ) → IsPath around place (number ∷ left)
+    → ArePassedAs nodes here around count now rest
     → count ≤ number → (count ≡ number) ⊎ BeginsWithNone rest → IsReached nodes here around number left now rest
 reached_by nodes here around number left now rest place count path passed few all =
     let g = goes_by around place number left path in

@@ -1,5 +1,6 @@
 -- What may come in the content of an element, by the node of its type.
-use Rattle.std.specs.Prelude.{◌≡◌, ℕ, ◌<◌, Bool, true, false, List, [], ◌∷◌, Option, None, Some, if◌then◌else◌, slice_get}
+use Rattle.std.specs.Prelude.{◌≡◌, ℕ, ◌<◌, Bool, true, false, List, [], ◌∷◌, Option, None, Some}
+use Rattle.std.specs.Prelude.{slice_get, if◌then◌else◌}
 use Rattle.picky_der_core.specs.Wrapper.{keeps_header}
 use Rattle.der_schema.specs.Kinds.{inner_of}
 use Rattle.der_schema.specs.declared.node.Alternative.{Alternative}
@@ -34,8 +35,8 @@ pub data Awaits (nodes : List Node) (tag : ℕ) : ℕ → Awaited → Type 0 whe
   said : (index : ℕ) (node : Node) (a : Awaited) → slice_get nodes index ≡ Some node → content_of node.kind ≡ Some a
       → Awaits nodes tag index a
   inner : (index : ℕ) (node : Node) (within : ℕ) (a : Awaited) → slice_get nodes index ≡ Some node
-      → content_of node.kind ≡ None → inner_with nodes tag node.kind ≡ Some within → within < index → Awaits nodes tag within a
-      → Awaits nodes tag index a
+      → content_of node.kind ≡ None → inner_with nodes tag node.kind ≡ Some within → within < index
+      → Awaits nodes tag within a → Awaits nodes tag index a
   end : (index : ℕ) (node : Node) → slice_get nodes index ≡ Some node → content_of node.kind ≡ None
       → ((within : ℕ) → inner_with nodes tag node.kind ≡ Some within → within < index → ⊥)
       → Awaits nodes tag index Awaited.unknown

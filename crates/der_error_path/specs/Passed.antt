@@ -9,8 +9,9 @@ use Rattle.der_error_path.specs.Awaited.{Awaited, awaited_after, required_in}
 -- these bytes are left.
 pub data ArePassedAs (nodes : List Node) (first : Awaited) (content : List ℕ) : ℕ → Awaited → List ℕ → Type 0 where
   none : ArePassedAs nodes first content 0 first content
-  more : (count : ℕ) (here : Awaited) (rest : List ℕ) (tag : ℕ) (inner after : List ℕ) → ArePassedAs nodes first content count here rest
-      → BeginsWith rest tag inner after → ArePassedAs nodes first content (count + 1) (awaited_after nodes tag here) after
+  more : (count : ℕ) (here : Awaited) (rest : List ℕ) (tag : ℕ) (inner after : List ℕ)
+      → ArePassedAs nodes first content count here rest → BeginsWith rest tag inner after
+      → ArePassedAs nodes first content (count + 1) (awaited_after nodes tag here) after
 
 -- this member has to come at the end of a content
 pub record IsMissing (nodes : List Node) (first : Awaited) (content : List ℕ) (m : Member) : Type 0 where

@@ -33,8 +33,8 @@ mistake_of nodes s = tag_mistake nodes s.part s.node s.identifier
 
 -- The element of this step is the one with this tag and content, before these other bytes. Its tag is one of its type,
 -- and that may come in its content.
-pub record IsElementOf (nodes : List Node) (s : Step) (rest : List ℕ) (tag : ℕ) (content after : List ℕ) (inner : Awaited)
-    : Type 0 where
+pub record IsElementOf (nodes : List Node) (s : Step) (rest : List ℕ) (tag : ℕ) (content after : List ℕ)
+    (inner : Awaited) : Type 0 where
   pub fits : mistake_of nodes s ≡ None
   pub element : BeginsWith rest tag content after
   pub inside : AwaitsInNode nodes tag s.node inner
@@ -49,7 +49,8 @@ pub data IsMistake (nodes : List Node) (here : Awaited) (rest : List ℕ) (s : S
       → IsElementOf nodes s rest tag content after inner → IsMissing nodes inner content m
       → IsMistake nodes here rest s (mistake.Missing m.name)
   -- it is a member that has a default
-  default : (value : DefaultValue) → default_in nodes s.identifier here ≡ Some value → IsMistake nodes here rest s mistake.Default
+  default : (value : DefaultValue) → default_in nodes s.identifier here ≡ Some value
+      → IsMistake nodes here rest s mistake.Default
   -- it is in a SET OF
   order : are_sorted here ≡ true → IsMistake nodes here rest s mistake.Order
 
@@ -58,11 +59,11 @@ pub data IsMistake (nodes : List Node) (here : Awaited) (rest : List ℕ) (s : S
 -- mistake is in the content of the last element.
 pub data AreSteps (nodes : List Node) : Awaited → List ℕ → List ℕ → List Step → Mistake → Type 0 where
   all : (first : Awaited) (content : List ℕ) → AreSteps nodes first content [] [] mistake.Content
-  last : (first : Awaited) (content : List ℕ) (number : ℕ) (numbers : List ℕ) (here : Awaited) (rest : List ℕ) (s : Step)
-      (m : Mistake) → ArePassedAs nodes first content number here rest → IsStep nodes here rest number s
+  last : (first : Awaited) (content : List ℕ) (number : ℕ) (numbers : List ℕ) (here : Awaited) (rest : List ℕ)
+      (s : Step) (m : Mistake) → ArePassedAs nodes first content number here rest → IsStep nodes here rest number s
       → IsMistake nodes here rest s m → AreSteps nodes first content (number ∷ numbers) (s ∷ []) m
-  more : (first : Awaited) (content : List ℕ) (number : ℕ) (numbers : List ℕ) (here : Awaited) (rest : List ℕ) (s : Step)
-      (tag : ℕ) (within after : List ℕ) (inner : Awaited) (steps : List Step) (m : Mistake)
+  more : (first : Awaited) (content : List ℕ) (number : ℕ) (numbers : List ℕ) (here : Awaited) (rest : List ℕ)
+      (s : Step) (tag : ℕ) (within after : List ℕ) (inner : Awaited) (steps : List Step) (m : Mistake)
       → ArePassedAs nodes first content number here rest → IsStep nodes here rest number s
       → IsElementOf nodes s rest tag within after inner → AreSteps nodes inner within numbers steps m
       → AreSteps nodes first content (number ∷ numbers) (s ∷ steps) m

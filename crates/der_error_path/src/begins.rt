@@ -69,8 +69,8 @@ fn wrapper_begins(wrapper: Wrapper, tag: Tag) -> bool
     }
 }
 
-// The only tag of values of this kind (X.680, table 1). It is `None` for a kind whose values have several tags, or those
-// of what is inside.
+// The only tag of values of this kind (X.680, table 1). It is `None` for a kind whose values have several tags, or
+// those of what is inside.
 fn own_tag(kind: Kind) -> Option<Tag>
     ensures { result ≡ own_tag kind }
 {
