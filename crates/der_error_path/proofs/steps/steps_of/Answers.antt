@@ -42,26 +42,38 @@ loop-left-preserved c =
     let bytes = c.args.bytes.now in
     let numbers = c.args.numbers.now in
     let steps = c.loop-left.steps.items in
-    let w = split_walk nodes root bytes numbers steps (awaited c.loop-left.expected) c.loop-left.around.now
-    c.loop-left.left.now c.in-len1-up.len_at_least i.leads i.on_path (awaited p.result.here) p.result.rest.now
-    p.result.count p.ensures.passed p.ensures.most p.ensures.all in
+    let here = awaited c.loop-left.expected in
+    let around = c.loop-left.around.now in
+    let now = awaited p.result.here in
+    let rest = p.result.rest.now in
+    let walk = split_walk nodes root bytes numbers steps here around c.loop-left.left.now c.in-len1-up.len_at_least
+    i.leads i.on_path now rest p.result.count p.ensures.passed p.ensures.most p.ensures.all in
     let s = c.step_to-step.result in
-    let step = step_at p.result.rest.now c.in-len1-up-rest.len_at_least nodes (awaited p.result.here) _ s
-    c.step_to-step.ensures.step in
+    let step = step_at rest c.in-len1-up-rest.len_at_least nodes now _ s c.step_to-step.ensures.step in
     let e = c.in-Ok.within.0 in
     let is = c.in-Ok.ensures.ok in
     let found : IsFound nodes root bytes numbers (steps ++ (s ∷ [])) c.if-end-position.found =
     elim c.if-end-position.branch [
-      | then-end-position w ↦ ?
-      | else-end-position w ↦ ?
+      | then-end-position w ↦
+          let depth : w.len.result ≡ length (steps ++ (s ∷ [])) =
+          omega (arith, w.len.ensures, c.push.new.self.ok.0, ap length c.in_ok-push.ensures.items) in
+          subst (IsFound nodes root bytes numbers (steps ++ (s ∷ []))) (sym w.found-is)
+          (deeper nodes root bytes numbers steps here around _ _ walk.leads now rest s walk.reached.passed step
+          w.len.result depth c.loop-left.found w.found_in-found.result i.found w.found_in-found.ensures)
+      | else-end-position w ↦
+          subst (IsFound nodes root bytes numbers (steps ++ (s ∷ []))) (sym w.found-is)
+          (keeps nodes root bytes numbers steps here around _ _ walk.leads now rest s walk.reached.passed step
+          c.loop-left.found i.found)
     ] in
     rw c.in_ok-push.ensures.items (record {
-      leads = leads_on nodes root bytes numbers steps (awaited c.loop-left.expected) c.loop-left.around.now _ _ w.leads
-          (awaited p.result.here) p.result.rest.now s w.reached.passed step e.tag e.content.now e.after.now
-          (awaited c.in-Ok.within.1) is;
-      on_path = w.reached.then e.tag e.content.now e.after.now is.element;
+      leads = leads_on nodes root bytes numbers steps here around _ _ walk.leads now rest s walk.reached.passed step
+          e.tag e.content.now e.after.now (awaited c.in-Ok.within.1) is;
+      on_path = walk.reached.then e.tag e.content.now e.after.now is.element;
       found = found;
     })
 
 pub returns-in-None : goal.returns-in-None
-returns-in-None c = ?
+returns-in-None c =
+    ends c.args.schema.nodes.now _ c.args.bytes.now c.args.numbers.now c.loop-left.steps.items
+    (awaited c.loop-left.expected) c.loop-left.around.now c.loop-left.left.now (omega (arith, c.in_default.len_below))
+    c.loop-left.invariant.leads
