@@ -1,5 +1,5 @@
-//! Where in a message an error is: by the names of its type if there is a schema of it, or by numbers. The only error of
-//! each function is a failed allocation.
+//! Where in a message an error is: by the names of its type if there is a schema of it, or by numbers. The only error
+//! of each function is a failed allocation.
 
 use crate::MessageType;
 use der_error_path::path_of_error;
