@@ -15,7 +15,7 @@ pub struct Explanation {
     /// The offset of the element at which it was found.
     pub offset: usize,
     /// The place and the reason in words, as `refused at 402: another element or value than the type has`. After it
-    /// comes the path of the element, as `; tbsCertificate.signature.algorithm: expected OBJECT IDENTIFIER, found NULL`.
+    /// comes the path of the element, as `; tbsCertificate.signature.algorithm: expected OBJECT IDENTIFIER, found SET`.
     pub text: String,
 }
 
