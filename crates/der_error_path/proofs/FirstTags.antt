@@ -1,10 +1,10 @@
 -- With which tags values of a node's type begin, by the kind of the node.
-use Rattle.std.proofs.Common.{◌≡◌, ℕ, ◌+◌, ◌<◌, ◌≤◌, Bool, true, false, not, ◌&&◌, ◌||◌, List, [], ◌∷◌, ◌++◌, length}
-use Rattle.std.proofs.Common.{◌⊎◌, inl, inr, refl, sym, ap, ◌∙◌, subst, arith, rules, tests}
+use Rattle.std.proofs.Common.{◌≡◌, ℕ, ◌<◌, ◌≤◌, Bool, true, false, not, ◌&&◌, ◌||◌, List, [], ◌∷◌}
+use Rattle.std.proofs.Common.{inl, inr, refl, sym, ap, ◌∙◌, rules, tests}
 use Rattle.std.proofs.Math.Bool.{or-false, and-false}
 use Rattle.std.proofs.lemmas.List.Folds.{list_any-append}
 use Rattle.std.proofs.lemmas.Option.{slice_get_cases, none-some}
-use Rattle.std.specs.Prelude.{Option, None, Some, slice_get, ◌==◌, nat_lt, if◌then◌else◌}
+use Rattle.std.specs.Prelude.{None, Some, slice_get, ◌==◌, nat_lt, if◌then◌else◌}
 use Rattle.picky_der_core.specs.FirstLaws.{contains-tags_below}
 use Rattle.picky_der_core.specs.Shape.{contains, firsts, firsts_of, tag_with_number}
 use Rattle.picky_der_core.specs.Tag.{number_of, IsTagNumber, is_tag_number, is_constructed}

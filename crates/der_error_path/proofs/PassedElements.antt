@@ -2,10 +2,10 @@
 use Rattle.std.proofs.Common.{◌≡◌, ℕ, ◌+◌, ◌-◌, ◌<◌, ◌≤◌, ◌⊎◌, inl, inr, List, [], ◌∷◌, ◌++◌, length}
 use Rattle.std.proofs.Common.{refl, sym, ap, ◌∙◌, subst, arith, append_assoc, length-append}
 use Rattle.std.specs.List.{AllByRecursion, concat}
-use Rattle.picky_der_core.specs.Element.{tlv, IsElement}
+use Rattle.picky_der_core.specs.Element.{IsElement}
 use Rattle.picky_der_core.specs.ElementLaws.{tlv_prefix}
 use Rattle.der_path.specs.Elements.{BeginsWith, BeginsWithNone}
-use Rattle.der_path.specs.Members.{ArePassed, IsMemberAt, IsInside}
+use Rattle.der_path.specs.Members.{ArePassed, IsMemberAt}
 use Rattle.der_path.specs.Paths.{IsPath}
 use Rattle.der_schema.specs.declared.node.Node.{Node}
 use Rattle.der_error_path.specs.Awaited.{Awaited}

@@ -1,6 +1,6 @@
 -- What was found of a path by names.
 use Rattle.std.proofs.Common.{◌≡◌, ℕ, ◌+◌, ◌<◌, ◌≤◌, ◌⊎◌, inl, inr, List, [], ◌∷◌, ◌++◌, length, take}
-use Rattle.std.proofs.Common.{Option, None, Some, refl, sym, ap, ◌∙◌, subst, arith, append_assoc, append-nil}
+use Rattle.std.proofs.Common.{Option, None, Some, sym, subst, arith, append_assoc, append-nil}
 use Rattle.std.proofs.Common.{length-append}
 use Rattle.std.proofs.Common.{get_or}
 use Rattle.std.proofs.lemmas.List.{take-append-le, take_all}
@@ -15,7 +15,7 @@ use Rattle.der_error_path.specs.declared.steps.Step.{Step}
 use Rattle.der_error_path.specs.Awaited.{Awaited}
 use Rattle.der_error_path.specs.Passed.{ArePassedAs}
 use Rattle.der_error_path.specs.Steps.{AreSteps, IsElementOf, IsMistake, IsStep}
-use Rattle.der_error_path.proofs.PassedElements.{GoesBy, goes_by, reached, some_left}
+use Rattle.der_error_path.proofs.PassedElements.{goes_by, reached, some_left}
 
 module _ (nodes : List Node) (first : Awaited) (bytes numbers : List ℕ) where
   -- the steps go on as those in this content

@@ -1,5 +1,5 @@
 -- What may come in the content of an element, by the node of its type.
-use Rattle.std.specs.Prelude.{◌≡◌, ℕ, ◌<◌, Bool, true, false, List, [], ◌∷◌, Option, None, Some}
+use Rattle.std.specs.Prelude.{◌≡◌, ℕ, ◌<◌, true, false, List, [], ◌∷◌, Option, None, Some}
 use Rattle.std.specs.Prelude.{slice_get, if◌then◌else◌}
 use Rattle.picky_der_core.specs.Wrapper.{keeps_header}
 use Rattle.der_schema.specs.Kinds.{inner_of}

@@ -1,5 +1,5 @@
 use Rattle.std.proofs.Common.{◌≡◌, ◌<◌, ◌≤◌, true, false, sym, ◌∙◌, arith, rules, tests}
-use Rattle.std.specs.Prelude.{Option, Some, None, slice_get}
+use Rattle.std.specs.Prelude.{Some, None, slice_get}
 use Rattle.picky_der_core.specs.Tag.{number_of, is_tag_number}
 use Rattle.der_error_path.proofs.FirstTags.{long_tag, no_node, node_begins}
 use Rattle.der_error_path.proofs.begins.+begins.Goals as goal

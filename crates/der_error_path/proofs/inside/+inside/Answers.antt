@@ -1,6 +1,6 @@
-use Rattle.std.proofs.Common.{◌≡◌, ℕ, ◌<◌, sym, ap, ◌∙◌, arith}
+use Rattle.std.proofs.Common.{◌≡◌, sym, ap, ◌∙◌, arith}
 use Rattle.std.proofs.lemmas.Option.{none-some, same_Some}
-use Rattle.std.specs.Prelude.{Option, Some, None, option_map, slice_get}
+use Rattle.std.specs.Prelude.{Some, None, option_map, slice_get}
 use Rattle.der_error_path.specs.Awaited.{awaited}
 use Rattle.der_error_path.specs.Inside.{Awaits, content_of, inner_with}
 use Rattle.der_error_path.proofs.inside.+inside.Goals as goal

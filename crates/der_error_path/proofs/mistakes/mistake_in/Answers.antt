@@ -1,5 +1,5 @@
 use Rattle.std.proofs.Common.{◌≡◌, true, ap, sym, subst, ◌∙◌}
-use Rattle.std.specs.Prelude.{Option, Some}
+use Rattle.std.specs.Prelude.{Some}
 use Rattle.der_error_path.specs.Awaited.{are_sorted, awaited, default_in}
 use Rattle.der_error_path.specs.Steps.{IsMistake}
 use Rattle.der_error_path.specs.declared.path.Mistake.TheVariants as mistake

@@ -1,5 +1,5 @@
 use Rattle.std.proofs.Common.{◌+◌, subst, sym, arith}
-use Rattle.der_error_path.specs.Awaited.{awaited, awaited_after}
+use Rattle.der_error_path.specs.Awaited.{awaited}
 use Rattle.der_error_path.specs.Passed.{ArePassedAs}
 use Rattle.der_error_path.proofs.passed.pass.Goals as goal
 

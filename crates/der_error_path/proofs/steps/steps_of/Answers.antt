@@ -1,12 +1,7 @@
-use Rattle.std.proofs.Common.{◌≡◌, ℕ, ◌<◌, List, [], ◌∷◌, ◌++◌, length, get_or, refl, sym, ap, subst, ◌∙◌, arith}
-use Rattle.std.proofs.Common.{Option, Some, None}
-use Rattle.std.specs.Prelude.{slice_range}
-use Rattle.std.proofs.lemmas.Slice.{first_rest}
-use Rattle.der_path.specs.Paths.{IsPath}
+use Rattle.std.proofs.Common.{◌≡◌, [], ◌∷◌, ◌++◌, length, get_or, sym, ap, subst, arith}
 use Rattle.der_error_path.specs.Awaited.{Awaited, awaited}
-use Rattle.der_error_path.specs.Steps.{AreSteps, IsElementOf, IsMistake, IsStep}
-use Rattle.der_error_path.proofs.Walks.{LeadsTo, IsFound, starts, ends, ends_in, leads_on, keeps, deeper, IsReached}
-use Rattle.der_error_path.proofs.Walks.{reached_by, split_walk, step_at}
+use Rattle.der_error_path.proofs.Walks.{IsFound, ends, ends_in, leads_on, keeps, deeper}
+use Rattle.der_error_path.proofs.Walks.{split_walk, step_at}
 use Rattle.der_error_path.proofs.steps.steps_of.Goals.{then-end-position, else-end-position}
 use Rattle.der_error_path.proofs.steps.steps_of.Goals as goal
 
