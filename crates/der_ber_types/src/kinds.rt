@@ -74,9 +74,8 @@ pub(crate) fn own_tag(kind: Kind) -> Option<Tag>
         Kind::UtcTime => Some(Tag::UTC_TIME),
         Kind::Sequence(_) | Kind::SequenceOf(_) => Some(Tag::SEQUENCE),
         Kind::SetOf(_) => Some(Tag::SET),
-        Kind::RestrictedString(tag) | Kind::AnyContent(tag) | Kind::ContentUnder { tag, .. } => Some(
-            Tag::from(tag),
-        ),
+        Kind::RestrictedString(tag) | Kind::AnyContent(tag) | Kind::ContentUnder { tag, .. } =>
+            Some(Tag::from(tag)),
         Kind::Wrapped { wrapper, .. } => wrapper_tag(wrapper),
         _ => None,
     }

@@ -28,5 +28,5 @@ pub fn to_der(alloc: Global, schema: Schema, bytes: &[u8]) -> Result<Vec<u8>, To
     ensures err { IfErr result (IsRefusedByType bytes.now) }
 {
     let whole = with_whole_strings(alloc, bytes)?;
-    one_in_der(alloc, schema.nodes, schema.root, &whole)
+    Ok(one_in_der(alloc, schema.nodes, schema.root, &whole)?)
 }
