@@ -1,9 +1,12 @@
 -- Elements that are cut from the front one by one.
 use Rattle.std.proofs.Common.{◌≡◌, ℕ, List, [], ◌∷◌, ◌++◌, map, sym, ap, subst, ◌∙◌, append_assoc}
+use Rattle.std.proofs.Common.{◌+◌, ◌-◌, ◌<◌, length, take, drop, arith, length-append}
+use Rattle.std.proofs.Math.Seq.{take-append_seam, drop-append_seam}
 use Rattle.std.specs.Borrow.{Bor}
 use Rattle.std.specs.List.{AllByRecursion, concat}
 use Rattle.std.proofs.lemmas.List.{map-append}
-use Rattle.picky_der_core.specs.Element.{IsElement}
+use Rattle.picky_der_core.specs.Element.{IsElement, tlv}
+use Rattle.der_path.specs.Elements.{BeginsWith}
 
 all_and_one : (es : List (List ℕ)) (e : List ℕ) → AllByRecursion IsElement es → IsElement e
     → AllByRecursion IsElement (es ++ (e ∷ []))
@@ -27,3 +30,19 @@ one_more xs ys x bytes rest after same elements is element e =
       subst (AllByRecursion IsElement) (sym all) (all_and_one es x.now elements element),
       is ∙ ap (λ b. concat es ++ b) e ∙ sym (concat_and_one es x.now after) ∙ ap (λ a. concat a ++ after) (sym all),
     )
+
+-- the first element is what is before the bytes after it
+pub cut_off : (rest after : List ℕ) (tag : ℕ) (content : List ℕ) (size : ℕ) → BeginsWith rest tag content after
+    → size ≡ length rest - length after
+    → (take size rest ≡ tlv tag content) × (drop size rest ≡ after)
+cut_off rest after tag content size begins is =
+    let element = tlv tag content in
+    let all : length rest ≡ length element + length after = ap length begins.is ∙ length-append element after in
+    let same : size ≡ length element = omega (arith, all, is) in
+    rw (same, begins.is) (take-append_seam element after, drop-append_seam element after)
+
+pub smaller_after : (rest after : List ℕ) (tag : ℕ) (content : List ℕ) → BeginsWith rest tag content after
+    → length after < length rest
+unfolding tlv
+smaller_after rest after tag content begins =
+    omega (arith, ap length begins.is ∙ length-append (tlv tag content) after)

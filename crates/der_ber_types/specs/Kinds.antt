@@ -1,5 +1,5 @@
 -- What a kind of types says of its elements.
-use Rattle.std.specs.Prelude.{◌≡◌, ℕ, ◌+◌, ◌*◌, ◌/◌, ◌%◌, ◌<◌, Option, Some, None, ⊤, ⊥}
+use Rattle.std.specs.Prelude.{◌≡◌, ℕ, ◌-◌, Option, Some, None}
 use Rattle.picky_der_core.specs.declared.asn1.wrapper.Wrapper.{Wrapper}
 use Rattle.picky_der_core.specs.declared.asn1.wrapper.Wrapper.TheVariants as wrapper
 use Rattle.picky_der_core.specs.Wrapper.{wrapper_tag, HasTagNumber}
@@ -30,12 +30,24 @@ same_content k = same_type k
 -- what is in an element of a kind that has a content of its own
 abbrev pub inside_here : Kind → Inside
 inside_here kind.Boolean = inside.Boolean
+inside_here kind.OctetString = inside.Octets
+inside_here kind.Utf8String = inside.Octets
+inside_here kind.Character = inside.Octets
+inside_here (kind.RestrictedString tag) = inside.Octets
+inside_here kind.GeneralizedTime = inside.Octets
+inside_here kind.LaterTime = inside.Octets
+inside_here kind.UtcTime = inside.Octets
 inside_here (kind.Sequence members) = inside.Members members
 inside_here (kind.SequenceOf i) = inside.Each i
 inside_here (kind.SetOf i) = inside.Set i
 inside_here (kind.Wrapped (wrapper.Explicit number) i) = inside.One i
 inside_here (kind.Wrapped (wrapper.Application number) i) = inside.One i
 inside_here _ = inside.Same
+
+-- the tag in DER of an element with this in it: a string is primitive (10.2)
+abbrev pub tag_in_der : Inside → ℕ → ℕ
+tag_in_der inside.Parts tag = tag - 0x20
+tag_in_der _ tag = tag
 
 abbrev pub IsWrapperTag : Wrapper → ℕ → Type 0
 IsWrapperTag w tag = HasTagNumber w × (tag ≡ wrapper_tag w)

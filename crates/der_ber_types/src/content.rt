@@ -7,8 +7,9 @@ ghost use Rattle.der_ber_types.specs.Content.{
   IsOne,
   AreMembers,
   IsTruth,
+  AreParts,
 };
-ghost use Rattle.der_ber_types.specs.Pushed.{IsPushed};
+ghost use Rattle.der_ber_types.specs.Pushed.{IsPushed, IsMemberPushed};
 
 use crate::error::TypeError;
 use crate::inside::{Inside, inside_of};
@@ -70,19 +71,33 @@ fn members_in_der(
     let mut der = Vec::new(alloc);
     let mut rest = bytes;
     for member in members {
-        match push_element(alloc, nodes, member.node, rest, &mut der)? {
-            Some(after) => rest = after,
-            None => {
-                if member.presence == Presence::Required {
-                    return Err(TypeError::OtherType);
-                }
-            }
-        }
+        rest = push_member(alloc, nodes, member, rest, &mut der)?;
     }
     if rest.is_empty() {
         Ok(der)
     } else {
         Err(TypeError::OtherType)
+    }
+}
+
+// Appends the DER of a member, if it is at the front of bytes, and returns the bytes after it.
+#[cycle(writing)]
+fn push_member<'a>(
+    alloc: Global,
+    nodes: &[Node],
+    member: &Member,
+    bytes: &'a [u8],
+    der: &mut Vec<u8>,
+) -> Result<&'a [u8], TypeError>
+    ensures ok { IfOk result (λ after.
+        IsMemberPushed nodes.now member.now bytes.now after.now der.old.items der.new.items) }
+{
+    match push_element(alloc, nodes, member.node, bytes, der)? {
+        Some(after) => Ok(after),
+        None => match member.presence {
+            Presence::Required => Err(TypeError::OtherType),
+            _ => Ok(bytes),
+        },
     }
 }
 
@@ -106,7 +121,7 @@ fn push_element<'a>(
         return Ok(None);
     };
     let content = content_in_der(alloc, nodes, inside, element.content)?;
-    push_header(der, element.tag, content.len())?;
+    push_header(der, inside.tag_in_der(element.tag), content.len())?;
     der.extend_from_slice(&content)?;
     Ok(Some(element.after))
 }
@@ -122,7 +137,8 @@ fn content_in_der(
     ensures { IfOk result (λ der. IsContent nodes.now inside content.now der.items) }
 {
     match inside {
-        Inside::Same => Ok(copied(alloc, content)?),
+        Inside::Same | Inside::Octets => Ok(copied(alloc, content)?),
+        Inside::Parts => joined(alloc, content),
         Inside::Boolean => truth(alloc, content),
         Inside::Members(members) => members_in_der(alloc, nodes, members, content),
         Inside::Each(index) => each_in_der(alloc, nodes, index, content),
@@ -141,6 +157,25 @@ fn copied(alloc: Global, bytes: &[u8]) -> Result<Vec<u8>, AllocError>
     let mut copy = Vec::with_capacity(alloc, bytes.len())?;
     copy.extend_from_slice(bytes)?;
     Ok(copy)
+}
+
+// The contents of the octet strings of which the bytes are made, one after another.
+fn joined(alloc: Global, bytes: &[u8]) -> Result<Vec<u8>, TypeError>
+    ensures { IfOk result (λ der. AreParts bytes.now der.items) }
+{
+    let mut der = Vec::new(alloc);
+    let mut rest = bytes;
+    while !rest.is_empty() {
+        let Some(part) = first_element(rest) else {
+            return Err(TypeError::OtherType);
+        };
+        if part.tag.inner() != 0x04 {
+            return Err(TypeError::OtherType);
+        }
+        der.extend_from_slice(part.content)?;
+        rest = part.after;
+    }
+    Ok(der)
 }
 
 // The content of a BOOLEAN in DER: FF for TRUE (X.690, 11.1), which is any byte but 00 in BER (8.2.2).

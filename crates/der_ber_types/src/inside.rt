@@ -1,6 +1,7 @@
 //! What is in an element of a type.
-ghost use Rattle.std.specs.Prelude.{IfSome};
-ghost use Rattle.der_ber_types.specs.Inside.{HasInside, IsInside, IsInsideOne};
+ghost use Rattle.std.specs.Prelude.{◌≡◌, slice_get, IfSome};
+ghost use Rattle.der_ber_types.specs.Kinds.{tag_in_der};
+ghost use Rattle.der_ber_types.specs.Inside.{HasInside, IsInside, IsInsideOne, IsInsideOwn};
 
 use crate::kinds::{inside_here, own_tag, same_content, same_type};
 use der_schema::{Alternative, Kind, Member, Node};
@@ -11,6 +12,10 @@ use picky_der_core::asn1::Tag;
 pub(crate) enum Inside {
     // A content that stays as it is.
     Same,
+    // That of a string whose parts are octet strings, in one.
+    Octets,
+    // The parts of such a string.
+    Parts,
     // TRUE or FALSE.
     Boolean,
     // The members of a SEQUENCE.
@@ -23,13 +28,32 @@ pub(crate) enum Inside {
     One(u16),
 }
 
+impl Inside {
+    // The tag in DER of an element with this tag and this in it: a string is primitive (X.690, 10.2).
+    pub(crate) fn tag_in_der(self, tag: Tag) -> Tag
+        ensures { result ≡ tag_in_der self tag }
+    {
+        match self {
+            Inside::Parts => Tag::from(tag.inner().saturating_sub(0x20)),
+            _ => tag,
+        }
+    }
+}
+
+// The node at an index, or `None` past the end of the table.
+fn node_at(nodes: &[Node], index: u16) -> Option<Node>
+    ensures { result ≡ slice_get nodes.now index }
+{
+    nodes.get(usize::from(index)).copied()
+}
+
 // What is in an element with this tag that is of a node's type, or `None` if none of it has the tag. A node that
 // doesn't come after one that it names has no values.
 #[cycle(inside)]
 pub(crate) fn inside_of(nodes: &[Node], index: u16, tag: Tag) -> Option<Inside>
     ensures { IfSome result (IsInside nodes.now index tag) }
 {
-    let Some(node) = nodes.get(usize::from(index)) else {
+    let Some(node) = node_at(nodes, index) else {
         return None;
     };
     let kind = node.kind;
@@ -44,14 +68,25 @@ pub(crate) fn inside_of(nodes: &[Node], index: u16, tag: Tag) -> Option<Inside>
                     None
                 }
             }
-            None => {
-                if own_tag(kind) == Some(tag) {
-                    content_of(nodes, index)
-                } else {
-                    None
-                }
-            }
+            None => with_own_tag(nodes, index, own_tag(kind)?, tag),
         },
+    }
+}
+
+// The same of a type whose elements have a tag of their own. A string in parts has the constructed one of the same
+// number (X.690, 8.7.3.2, 8.14.4).
+fn with_own_tag(nodes: &[Node], index: u16, own: Tag, tag: Tag) -> Option<Inside>
+    ensures { IfSome result (IsInsideOwn nodes.now index own tag) }
+{
+    if own == tag {
+        return content_of(nodes, index);
+    }
+    if !tag.is_constructed() || tag.inner().checked_sub(0x20) != Some(own.inner()) {
+        return None;
+    }
+    match content_of(nodes, index) {
+        Some(Inside::Octets) => Some(Inside::Parts),
+        _ => None,
     }
 }
 
@@ -79,7 +114,7 @@ fn inside_of_one(
 fn content_of(nodes: &[Node], index: u16) -> Option<Inside>
     ensures { IfSome result (HasInside nodes.now index) }
 {
-    let Some(node) = nodes.get(usize::from(index)) else {
+    let Some(node) = node_at(nodes, index) else {
         return None;
     };
     match same_content(node.kind) {

@@ -42,6 +42,13 @@ pub(crate) fn inside_here(kind: Kind) -> Inside
 {
     match kind {
         Kind::Boolean => Inside::Boolean,
+        Kind::OctetString
+        | Kind::Utf8String
+        | Kind::Character
+        | Kind::RestrictedString(_)
+        | Kind::GeneralizedTime
+        | Kind::LaterTime
+        | Kind::UtcTime => Inside::Octets,
         Kind::Sequence(members) => Inside::Members(members),
         Kind::SequenceOf(node) => Inside::Each(node),
         Kind::SetOf(node) => Inside::Set(node),

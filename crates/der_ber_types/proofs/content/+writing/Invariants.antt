@@ -3,16 +3,19 @@ use Rattle.der_ber_types.specs.Content.{AreEach, AreMembers}
 use Rattle.der_ber_types.proofs.content.+writing.Given as goal
 
 abbrev pub decreases-content_in_der : goal.decreases-content_in_der
-decreases-content_in_der l = 4 * length l.content.now + 3
+decreases-content_in_der l = 4 * length l.content.now + 4
 
 abbrev pub decreases-one_in_der : goal.decreases-one_in_der
-decreases-one_in_der l = 4 * length l.bytes.now + 2
+decreases-one_in_der l = 4 * length l.bytes.now + 3
 
 abbrev pub decreases-each_in_der : goal.decreases-each_in_der
-decreases-each_in_der l = 4 * length l.bytes.now + 2
+decreases-each_in_der l = 4 * length l.bytes.now + 3
 
 abbrev pub decreases-members_in_der : goal.decreases-members_in_der
-decreases-members_in_der l = 4 * length l.bytes.now + 2
+decreases-members_in_der l = 4 * length l.bytes.now + 3
+
+abbrev pub decreases-push_member : goal.decreases-push_member
+decreases-push_member l = 4 * length l.bytes.now + 2
 
 abbrev pub decreases-push_element : goal.decreases-push_element
 decreases-push_element l = 4 * length l.bytes.now + 1

@@ -4,8 +4,8 @@ use Rattle.picky_der_core.specs.Order.{in_ascending_order}
 use Rattle.picky_der_ser.proofs.ListBytes.{joined-sorted}
 use Rattle.der_ber_types.proofs.order.in_order.Goals as goal
 
-pub returns-in_ok-concat : goal.returns-in_ok-concat
-returns-in_ok-concat c =
+pub returns : goal.returns
+returns c =
     let xs = c.in_ok-elements.elements.items in
     let e = c.in_ok-sort.ensures in
     let joined = c.in_ok-concat.ensures.ok in
