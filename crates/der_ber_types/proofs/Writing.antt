@@ -6,7 +6,7 @@ use Rattle.picky_der_core.specs.Element.{tlv}
 use Rattle.der_schema.specs.declared.node.Member.{Member}
 use Rattle.der_schema.specs.declared.node.Node.{Node}
 use Rattle.der_schema.specs.declared.node.Presence.TheVariants.{Required}
-use Rattle.std.proofs.Common.{Bool, true, ◌==◌, eqb-true, absurd, Vec, Global, Result, Ok, Err, IfOk, ◌⊎◌, inl, inr}
+use Rattle.std.proofs.Common.{Bool, true, ◌==◌, eqb-true, Vec, Global, Result, Ok, Err, IfOk, ◌⊎◌, inl, inr}
 use Rattle.der_ber_types.specs.declared.error.TypeError.{TypeError}
 use Rattle.der_ber_types.specs.declared.inside.Inside.{Inside}
 use Rattle.der_ber_types.specs.declared.inside.Inside.TheVariants as inside

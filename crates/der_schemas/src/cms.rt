@@ -4,10 +4,40 @@
 ghost use Rattle.std.specs.Prelude.{◌≡◌};
 ghost use Rattle.der_schema.specs.NotationOf.{notation_of};
 
-use der_cms::SignedData;
+use der_cms::{DigestedData, EncryptedData, EnvelopedData, SignedData};
 use der_schema::{Alternative, DefaultValue, Item, Kind, Member, Node, Presence, Schema};
 use der_types::Notated;
 use picky_der_core::asn1::Wrapper;
+
+/// The schema of `DigestedData`.
+pub fn digested_data() -> Schema
+    ensures { notation_of result.nodes.now result.root ≡ ⟦<DigestedData as Notated>⟧.notation }
+{
+    Schema {
+        nodes: &NODES,
+        root: 114,
+    }
+}
+
+/// The schema of `EncryptedData`.
+pub fn encrypted_data() -> Schema
+    ensures { notation_of result.nodes.now result.root ≡ ⟦<EncryptedData as Notated>⟧.notation }
+{
+    Schema {
+        nodes: &NODES,
+        root: 115,
+    }
+}
+
+/// The schema of `EnvelopedData`.
+pub fn enveloped_data() -> Schema
+    ensures { notation_of result.nodes.now result.root ≡ ⟦<EnvelopedData as Notated>⟧.notation }
+{
+    Schema {
+        nodes: &NODES,
+        root: 112,
+    }
+}
 
 /// The schema of `SignedData`.
 pub fn signed_data() -> Schema
@@ -20,7 +50,7 @@ pub fn signed_data() -> Schema
 }
 
 // each type comes after those that it names
-static NODES: [Node; 74] = [
+static NODES: [Node; 116] = [
     Node {
         name: Some("CMSVersion"),
         kind: Kind::Integer,
@@ -763,6 +793,525 @@ static NODES: [Node; 74] = [
                 name: "signerInfos",
                 presence: Presence::Required,
                 node: 72,
+            },
+        ]),
+    },
+    Node {
+        name: Some("OriginatorInfo"),
+        kind: Kind::Sequence(&[
+            Member {
+                name: "certs",
+                presence: Presence::Optional,
+                node: 47,
+            },
+            Member {
+                name: "crls",
+                presence: Presence::Optional,
+                node: 57,
+            },
+        ]),
+    },
+    Node {
+        name: None,
+        kind: Kind::Wrapped {
+            wrapper: Wrapper::ImplicitList(0xA0),
+            node: 74,
+        },
+    },
+    Node {
+        name: Some("RecipientIdentifier"),
+        kind: Kind::Choice(&[
+            Alternative {
+                name: "issuerAndSerialNumber",
+                node: 58,
+            },
+            Alternative {
+                name: "subjectKeyIdentifier",
+                node: 60,
+            },
+        ]),
+    },
+    Node {
+        name: Some("KeyEncryptionAlgorithmIdentifier"),
+        kind: Kind::Reference(3),
+    },
+    Node {
+        name: Some("EncryptedKey"),
+        kind: Kind::OctetString,
+    },
+    Node {
+        name: Some("KeyTransRecipientInfo"),
+        kind: Kind::Sequence(&[
+            Member {
+                name: "version",
+                presence: Presence::Required,
+                node: 0,
+            },
+            Member {
+                name: "rid",
+                presence: Presence::Required,
+                node: 76,
+            },
+            Member {
+                name: "keyEncryptionAlgorithm",
+                presence: Presence::Required,
+                node: 77,
+            },
+            Member {
+                name: "encryptedKey",
+                presence: Presence::Required,
+                node: 78,
+            },
+        ]),
+    },
+    Node {
+        name: Some("OriginatorPublicKey"),
+        kind: Kind::Sequence(&[
+            Member {
+                name: "algorithm",
+                presence: Presence::Required,
+                node: 3,
+            },
+            Member {
+                name: "publicKey",
+                presence: Presence::Required,
+                node: 25,
+            },
+        ]),
+    },
+    Node {
+        name: None,
+        kind: Kind::Wrapped {
+            wrapper: Wrapper::ImplicitList(0xA1),
+            node: 80,
+        },
+    },
+    Node {
+        name: Some("OriginatorIdentifierOrKey"),
+        kind: Kind::Choice(&[
+            Alternative {
+                name: "issuerAndSerialNumber",
+                node: 58,
+            },
+            Alternative {
+                name: "subjectKeyIdentifier",
+                node: 60,
+            },
+            Alternative {
+                name: "originatorKey",
+                node: 81,
+            },
+        ]),
+    },
+    Node {
+        name: None,
+        kind: Kind::Wrapped {
+            wrapper: Wrapper::Explicit(0),
+            node: 82,
+        },
+    },
+    Node {
+        name: Some("UserKeyingMaterial"),
+        kind: Kind::OctetString,
+    },
+    Node {
+        name: None,
+        kind: Kind::Wrapped {
+            wrapper: Wrapper::Explicit(1),
+            node: 84,
+        },
+    },
+    Node {
+        name: Some("OtherKeyAttribute"),
+        kind: Kind::Sequence(&[
+            Member {
+                name: "keyAttrId",
+                presence: Presence::Required,
+                node: 1,
+            },
+            Member {
+                name: "keyAttr",
+                presence: Presence::Optional,
+                node: 2,
+            },
+        ]),
+    },
+    Node {
+        name: Some("RecipientKeyIdentifier"),
+        kind: Kind::Sequence(&[
+            Member {
+                name: "subjectKeyIdentifier",
+                presence: Presence::Required,
+                node: 59,
+            },
+            Member {
+                name: "date",
+                presence: Presence::Optional,
+                node: 21,
+            },
+            Member {
+                name: "other",
+                presence: Presence::Optional,
+                node: 86,
+            },
+        ]),
+    },
+    Node {
+        name: None,
+        kind: Kind::Wrapped {
+            wrapper: Wrapper::ImplicitList(0xA0),
+            node: 87,
+        },
+    },
+    Node {
+        name: Some("KeyAgreeRecipientIdentifier"),
+        kind: Kind::Choice(&[
+            Alternative {
+                name: "issuerAndSerialNumber",
+                node: 58,
+            },
+            Alternative {
+                name: "rKeyId",
+                node: 88,
+            },
+        ]),
+    },
+    Node {
+        name: Some("RecipientEncryptedKey"),
+        kind: Kind::Sequence(&[
+            Member {
+                name: "rid",
+                presence: Presence::Required,
+                node: 89,
+            },
+            Member {
+                name: "encryptedKey",
+                presence: Presence::Required,
+                node: 78,
+            },
+        ]),
+    },
+    Node {
+        name: Some("RecipientEncryptedKeys"),
+        kind: Kind::SequenceOf(90),
+    },
+    Node {
+        name: Some("KeyAgreeRecipientInfo"),
+        kind: Kind::Sequence(&[
+            Member {
+                name: "version",
+                presence: Presence::Required,
+                node: 0,
+            },
+            Member {
+                name: "originator",
+                presence: Presence::Required,
+                node: 83,
+            },
+            Member {
+                name: "ukm",
+                presence: Presence::Optional,
+                node: 85,
+            },
+            Member {
+                name: "keyEncryptionAlgorithm",
+                presence: Presence::Required,
+                node: 77,
+            },
+            Member {
+                name: "recipientEncryptedKeys",
+                presence: Presence::Required,
+                node: 91,
+            },
+        ]),
+    },
+    Node {
+        name: None,
+        kind: Kind::Wrapped {
+            wrapper: Wrapper::ImplicitList(0xA1),
+            node: 92,
+        },
+    },
+    Node {
+        name: Some("KEKIdentifier"),
+        kind: Kind::Sequence(&[
+            Member {
+                name: "keyIdentifier",
+                presence: Presence::Required,
+                node: 7,
+            },
+            Member {
+                name: "date",
+                presence: Presence::Optional,
+                node: 21,
+            },
+            Member {
+                name: "other",
+                presence: Presence::Optional,
+                node: 86,
+            },
+        ]),
+    },
+    Node {
+        name: Some("KEKRecipientInfo"),
+        kind: Kind::Sequence(&[
+            Member {
+                name: "version",
+                presence: Presence::Required,
+                node: 0,
+            },
+            Member {
+                name: "kekid",
+                presence: Presence::Required,
+                node: 94,
+            },
+            Member {
+                name: "keyEncryptionAlgorithm",
+                presence: Presence::Required,
+                node: 77,
+            },
+            Member {
+                name: "encryptedKey",
+                presence: Presence::Required,
+                node: 78,
+            },
+        ]),
+    },
+    Node {
+        name: None,
+        kind: Kind::Wrapped {
+            wrapper: Wrapper::ImplicitList(0xA2),
+            node: 95,
+        },
+    },
+    Node {
+        name: Some("KeyDerivationAlgorithmIdentifier"),
+        kind: Kind::Reference(3),
+    },
+    Node {
+        name: None,
+        kind: Kind::Wrapped {
+            wrapper: Wrapper::ImplicitList(0xA0),
+            node: 97,
+        },
+    },
+    Node {
+        name: Some("PasswordRecipientInfo"),
+        kind: Kind::Sequence(&[
+            Member {
+                name: "version",
+                presence: Presence::Required,
+                node: 0,
+            },
+            Member {
+                name: "keyDerivationAlgorithm",
+                presence: Presence::Optional,
+                node: 98,
+            },
+            Member {
+                name: "keyEncryptionAlgorithm",
+                presence: Presence::Required,
+                node: 77,
+            },
+            Member {
+                name: "encryptedKey",
+                presence: Presence::Required,
+                node: 78,
+            },
+        ]),
+    },
+    Node {
+        name: None,
+        kind: Kind::Wrapped {
+            wrapper: Wrapper::ImplicitList(0xA3),
+            node: 99,
+        },
+    },
+    Node {
+        name: Some("OtherRecipientInfo"),
+        kind: Kind::Sequence(&[
+            Member {
+                name: "oriType",
+                presence: Presence::Required,
+                node: 1,
+            },
+            Member {
+                name: "oriValue",
+                presence: Presence::Required,
+                node: 2,
+            },
+        ]),
+    },
+    Node {
+        name: None,
+        kind: Kind::Wrapped {
+            wrapper: Wrapper::ImplicitList(0xA4),
+            node: 101,
+        },
+    },
+    Node {
+        name: Some("RecipientInfo"),
+        kind: Kind::Choice(&[
+            Alternative {
+                name: "ktri",
+                node: 79,
+            },
+            Alternative {
+                name: "kari",
+                node: 93,
+            },
+            Alternative {
+                name: "kekri",
+                node: 96,
+            },
+            Alternative {
+                name: "pwri",
+                node: 100,
+            },
+            Alternative {
+                name: "ori",
+                node: 102,
+            },
+        ]),
+    },
+    Node {
+        name: None,
+        kind: Kind::SetOf(103),
+    },
+    Node {
+        name: Some("RecipientInfos"),
+        kind: Kind::Sized {
+            least: 1,
+            most: 18446744073709551615,
+            node: 104,
+        },
+    },
+    Node {
+        name: Some("ContentEncryptionAlgorithmIdentifier"),
+        kind: Kind::Reference(3),
+    },
+    Node {
+        name: Some("EncryptedContent"),
+        kind: Kind::OctetString,
+    },
+    Node {
+        name: None,
+        kind: Kind::Wrapped {
+            wrapper: Wrapper::Implicit(0),
+            node: 107,
+        },
+    },
+    Node {
+        name: Some("EncryptedContentInfo"),
+        kind: Kind::Sequence(&[
+            Member {
+                name: "contentType",
+                presence: Presence::Required,
+                node: 6,
+            },
+            Member {
+                name: "contentEncryptionAlgorithm",
+                presence: Presence::Required,
+                node: 106,
+            },
+            Member {
+                name: "encryptedContent",
+                presence: Presence::Optional,
+                node: 108,
+            },
+        ]),
+    },
+    Node {
+        name: Some("UnprotectedAttributes"),
+        kind: Kind::Sized {
+            least: 1,
+            most: 18446744073709551615,
+            node: 64,
+        },
+    },
+    Node {
+        name: None,
+        kind: Kind::Wrapped {
+            wrapper: Wrapper::ImplicitList(0xA1),
+            node: 110,
+        },
+    },
+    Node {
+        name: Some("EnvelopedData"),
+        kind: Kind::Sequence(&[
+            Member {
+                name: "version",
+                presence: Presence::Required,
+                node: 0,
+            },
+            Member {
+                name: "originatorInfo",
+                presence: Presence::Optional,
+                node: 75,
+            },
+            Member {
+                name: "recipientInfos",
+                presence: Presence::Required,
+                node: 105,
+            },
+            Member {
+                name: "encryptedContentInfo",
+                presence: Presence::Required,
+                node: 109,
+            },
+            Member {
+                name: "unprotectedAttrs",
+                presence: Presence::Optional,
+                node: 111,
+            },
+        ]),
+    },
+    Node {
+        name: Some("Digest"),
+        kind: Kind::OctetString,
+    },
+    Node {
+        name: Some("DigestedData"),
+        kind: Kind::Sequence(&[
+            Member {
+                name: "version",
+                presence: Presence::Required,
+                node: 0,
+            },
+            Member {
+                name: "digestAlgorithm",
+                presence: Presence::Required,
+                node: 4,
+            },
+            Member {
+                name: "encapContentInfo",
+                presence: Presence::Required,
+                node: 9,
+            },
+            Member {
+                name: "digest",
+                presence: Presence::Required,
+                node: 113,
+            },
+        ]),
+    },
+    Node {
+        name: Some("EncryptedData"),
+        kind: Kind::Sequence(&[
+            Member {
+                name: "version",
+                presence: Presence::Required,
+                node: 0,
+            },
+            Member {
+                name: "encryptedContentInfo",
+                presence: Presence::Required,
+                node: 109,
+            },
+            Member {
+                name: "unprotectedAttrs",
+                presence: Presence::Optional,
+                node: 111,
             },
         ]),
     },

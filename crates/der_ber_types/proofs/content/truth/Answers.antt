@@ -1,4 +1,4 @@
-use Rattle.std.proofs.Common.{◌≡◌, ◌≢◌, ◌≤◌, ◌<◌, ◌++◌, ◌∷◌, ℕ, List, [], length, get_or, ap, sym, refl, ◌∙◌, absurd, arith}
+use Rattle.std.proofs.Common.{◌≡◌, ◌≢◌, ◌≤◌, ◌<◌, ◌++◌, ◌∷◌, ℕ, List, [], length, get_or, ap, sym, refl, ◌∙◌, arith}
 use Rattle.der_ber_types.specs.Content.{IsTruth}
 use Rattle.der_ber_types.proofs.content.truth.Goals as goal
 use Rattle.der_ber_types.proofs.content.truth.Goals.{then-value-eq0, else-value-eq0}
