@@ -5,7 +5,7 @@ use Rattle.std.proofs.Math.Seq.{take-append_seam, drop-append_seam}
 use Rattle.std.specs.Borrow.{Bor}
 use Rattle.std.specs.List.{AllByRecursion, concat}
 use Rattle.std.proofs.lemmas.List.{map-append}
-use Rattle.picky_der_core.specs.Element.{IsElement, tlv}
+use Rattle.picky_der_core.specs.Element.{IsElement, tlv, length_octets}
 use Rattle.der_path.specs.Elements.{BeginsWith}
 
 all_and_one : (es : List (List ℕ)) (e : List ℕ) → AllByRecursion IsElement es → IsElement e
@@ -46,3 +46,14 @@ pub smaller_after : (rest after : List ℕ) (tag : ℕ) (content : List ℕ) →
 unfolding tlv
 smaller_after rest after tag content begins =
     omega (arith, ap length begins.is ∙ length-append (tlv tag content) after)
+
+pub smaller_content : (bytes after : List ℕ) (tag : ℕ) (content : List ℕ) → BeginsWith bytes tag content after
+    → length content < length bytes
+unfolding tlv
+smaller_content bytes after tag content begins =
+    omega (
+      arith,
+      ap length begins.is,
+      length-append (tlv tag content) after,
+      length-append (length_octets (length content)) content,
+    )

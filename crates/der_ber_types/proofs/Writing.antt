@@ -2,7 +2,8 @@
 use Rattle.std.proofs.Common.{◌≡◌, ◌≢◌, ℕ, ◌+◌, ◌<◌, ◌≤◌, List, [], ◌∷◌, ◌++◌, length, sym, ap, refl, ◌∙◌, append_assoc}
 use Rattle.std.proofs.Common.{arith, length-append, append-nil, drop, get_or, subst}
 use Rattle.std.proofs.lemmas.List.{drop_all, drop_more}
-use Rattle.picky_der_core.specs.Element.{tlv}
+use Rattle.picky_der_core.specs.Element.{tlv, length_octets}
+use Rattle.der_path.specs.Elements.{BeginsWith}
 use Rattle.der_schema.specs.declared.node.Member.{Member}
 use Rattle.der_schema.specs.declared.node.Node.{Node}
 use Rattle.der_schema.specs.declared.node.Presence.TheVariants.{Required}
@@ -11,6 +12,8 @@ use Rattle.der_ber_types.specs.declared.error.TypeError.{TypeError}
 use Rattle.der_ber_types.specs.declared.inside.Inside.{Inside}
 use Rattle.der_ber_types.specs.declared.inside.Inside.TheVariants as inside
 use Rattle.der_ber_types.specs.Content.{IsContent, IsOne, AreEach, AreMembers, AreParts}
+use Rattle.der_ber_types.specs.Inside.{IsInside}
+use Rattle.der_ber_types.specs.Kinds.{tag_in_der}
 use Rattle.der_ber_types.specs.Pushed.{IsPushed, IsMemberPushed}
 
 one-has_bytes : (nodes : List Node) (i : ℕ) (element in_der : List ℕ) → IsOne nodes i element in_der
@@ -122,3 +125,26 @@ pub content-of : (nodes : List Node) (x y : Inside) (bytes : List ℕ) (r : Resu
     → IfOk r (λ v. P v.items) → IfOk r (λ v. IsContent nodes x bytes v.items)
 content-of nodes x y bytes (Ok v) P e f h = rw e (f v.items h)
 content-of nodes x y bytes (Err error) P e f h = tt
+
+-- ---- an element
+
+-- its tag, the length and the content were appended
+pub pushed : (nodes : List Node) (i tag : ℕ) (x : Inside) (content in_der bytes after old mid new slice : List ℕ)
+    (t n : ℕ) → BeginsWith bytes tag content after → IsInside nodes i tag x → IsContent nodes x content in_der
+    → t ≡ tag_in_der x tag → n ≡ length in_der → mid ≡ old ++ (t ∷ length_octets n) → new ≡ mid ++ slice
+    → slice ≡ in_der → IsPushed nodes i bytes after old new
+unfolding tlv
+pushed nodes i tag x content in_der bytes after old mid new slice t n begins inside is_content own size first whole same =
+    let own_tag = tag_in_der x tag in
+    let all : new ≡ old ++ tlv own_tag in_der =
+    whole ∙ ap (λ s. s ++ slice) first ∙ ap (λ s. (old ++ (t ∷ length_octets n)) ++ s) same
+    ∙ append_assoc old (t ∷ length_octets n) in_der
+    ∙ ap (λ m. old ++ (t ∷ (length_octets m ++ in_der))) size
+    ∙ ap (λ u. old ++ (u ∷ (length_octets (length in_der) ++ in_der))) own in
+    record {
+      element = tlv tag content;
+      in_der = tlv own_tag in_der;
+      is_one = IsOne.element i tag x content in_der _ _ inside is_content refl refl;
+      is = begins.is;
+      appended = all;
+    }

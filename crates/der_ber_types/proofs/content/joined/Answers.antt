@@ -14,7 +14,9 @@ loop-rest-preserved c =
     let rest = c.loop-rest.rest.now in
     let content = c.in-Some.part.content.now in
     let after = c.in-Some.part.after.now in
-    let first : rest ≡ tlv 0x04 content ++ after = ? in
+    let tag : c.in-Some.part.tag ≡ 0x04 = omega (arith, c.inner.ensures, c.if-inner-ne4.false) in
+    let first : rest ≡ tlv 0x04 content ++ after =
+    subst (λ n. rest ≡ tlv n content ++ after) tag c.in-Some.ensures.is in
     part-more c.args.bytes.now rest content after c.loop-rest.der.items c.extend_from_slice.new.self.items
     c.loop-rest.invariant first c.in_ok-extend_from_slice.ensures.items
 
