@@ -5,3 +5,4 @@ pub mod Order
 pub mod Content
 pub mod Pushed
 pub mod ToDer
+pub mod Message

@@ -151,7 +151,7 @@ fn content_in_der(
 }
 
 // The same bytes.
-fn copied(alloc: Global, bytes: &[u8]) -> Result<Vec<u8>, AllocError>
+pub(crate) fn copied(alloc: Global, bytes: &[u8]) -> Result<Vec<u8>, AllocError>
     ensures { IfOk result (λ copy. copy.items ≡ bytes.now) }
 {
     let mut copy = Vec::with_capacity(alloc, bytes.len())?;
@@ -191,7 +191,11 @@ fn truth(alloc: Global, content: &[u8]) -> Result<Vec<u8>, TypeError>
 }
 
 // Appends a tag and a length.
-fn push_header(bytes: &mut Vec<u8>, tag: Tag, content_len: usize) -> Result<(), AllocError>
+pub(crate) fn push_header(
+    bytes: &mut Vec<u8>,
+    tag: Tag,
+    content_len: usize,
+) -> Result<(), AllocError>
     ensures { OnOk result (bytes.new.items ≡ bytes.old.items ++ tag ∷ length_octets content_len) }
 {
     bytes.push(tag.inner())?;

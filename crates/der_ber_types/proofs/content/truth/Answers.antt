@@ -18,9 +18,9 @@ returns c =
     let items = c.in_ok-push.ensures.items in
     let none = c.new-der.ensures.items in
     elim c.if-value-eq0.branch [
-      then-value-eq0 w ↦
-        let bytes : content ≡ 0x00 ∷ [] = value ∙ ap (λ n. n ∷ []) w.if-value-eq0.true in
-        rw (bytes, written _ _ _ 0x00 items none w.push-is) IsTruth.false
+      | then-value-eq0 w ↦
+          let bytes : content ≡ 0x00 ∷ [] = value ∙ ap (λ n. n ∷ []) w.if-value-eq0.true in
+          rw (bytes, written _ _ _ 0x00 items none w.push-is) IsTruth.false
       | else-value-eq0 w ↦
-        rw (value, written _ _ _ 0xFF items none w.push-is) (IsTruth.true (get_or content 0 0) w.if-value-eq0.false)
+          rw (value, written _ _ _ 0xFF items none w.push-is) (IsTruth.true (get_or content 0 0) w.if-value-eq0.false)
     ]
