@@ -134,7 +134,7 @@ pub pushed : (nodes : List Node) (i tag : ℕ) (x : Inside) (content in_der byte
     → t ≡ tag_in_der x tag → n ≡ length in_der → mid ≡ old ++ (t ∷ length_octets n) → new ≡ mid ++ slice
     → slice ≡ in_der → IsPushed nodes i bytes after old new
 unfolding tlv
-pushed nodes i tag x content in_der bytes after old mid new slice t n begins inside is_content own size first whole same =
+pushed nodes i tag x content in_der bytes after old mid new slice t n begins inside is own size first whole same =
     let own_tag = tag_in_der x tag in
     let all : new ≡ old ++ tlv own_tag in_der =
     whole ∙ ap (λ s. s ++ slice) first ∙ ap (λ s. (old ++ (t ∷ length_octets n)) ++ s) same
@@ -144,7 +144,7 @@ pushed nodes i tag x content in_der bytes after old mid new slice t n begins ins
     record {
       element = tlv tag content;
       in_der = tlv own_tag in_der;
-      is_one = IsOne.element i tag x content in_der _ _ inside is_content refl refl;
+      is_one = IsOne.element i tag x content in_der _ _ inside is refl refl;
       is = begins.is;
       appended = all;
     }

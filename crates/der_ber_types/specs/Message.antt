@@ -14,7 +14,8 @@ message_bytes identifier content = tlv 0x30 (tlv 0x06 identifier ++ tlv 0xA0 con
 -- the schema of the first type with this identifier
 abbrev pub schema_in : List ContentType → List ℕ → Option Schema
 schema_in [] identifier = None
-schema_in (t ∷ ts) identifier = if pointwise nat_eq t.identifier.now identifier then Some t.schema else schema_in ts identifier
+schema_in (t ∷ ts) identifier =
+    if pointwise nat_eq t.identifier.now identifier then Some t.schema else schema_in ts identifier
 
 -- The bytes are a message, and the others are the same with the content in DER by its type, if that is known.
 pub data IsMessage (types : List ContentType) (bytes der : List ℕ) : Type 0 where

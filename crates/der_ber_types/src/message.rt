@@ -23,8 +23,8 @@ pub struct ContentType {
 }
 
 /// Returns the DER of a message in BER that is a SEQUENCE of an OBJECT IDENTIFIER and of a content in the explicit tag
-/// `[0]`, as the `ContentInfo` of CMS is (RFC 5652, 3). The content becomes what `to_der` returns of it, by the first of
-/// the types that has the identifier. If none has it, the content only has the lengths of DER and whole strings.
+/// `[0]`, as the `ContentInfo` of CMS is (RFC 5652, 3). The content becomes what `to_der` returns of it, by the first
+/// of the types that has the identifier. If none has it, the content only has the lengths of DER and whole strings.
 ///
 /// The errors are those of `to_der`.
 pub fn message_to_der(

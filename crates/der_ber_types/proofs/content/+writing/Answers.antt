@@ -38,7 +38,8 @@ content_in_der-returns-in_ok-elements-in-Set t c =
     let content = c.args.content.now in
     let elements = c.deref.result.now in
     let each : AreEach c.args.nodes.now c.in-Set.index content elements =
-    subst (AreEach c.args.nodes.now c.in-Set.index content) (sym c.deref.ensures.value) c.in_ok-elements-in-Set.ensures in
+    subst (AreEach c.args.nodes.now c.in-Set.index content) (sym c.deref.ensures.value)
+    c.in_ok-elements-in-Set.ensures in
     content-of c.args.nodes.now c.args.inside _ content c.in_order.result (AreInOrder elements) c.in-Set.is
     (λ der. IsContent.set c.in-Set.index content elements der each) c.in_order.ensures
 
@@ -99,7 +100,8 @@ members_in_der-returns-then-is_empty t c =
 pub push_element-content_in_der-requires : goal.push_element-content_in_der-requires
 push_element-content_in_der-requires t c =
     let element = c.in-Some.element in
-    let smaller = smaller_content c.args.bytes.now element.after.now element.tag element.content.now c.in-Some.ensures in
+    let smaller =
+    smaller_content c.args.bytes.now element.after.now element.tag element.content.now c.in-Some.ensures in
     (omega (arith, c.decreases, smaller), tt)
 
 pub push_element-returns : goal.push_element-returns

@@ -24,7 +24,8 @@ decreases-push_element l = 4 * length l.bytes.now + 1
 abbrev pub invariant-each_in_der-loop-rest : goal.invariant-each_in_der-loop-rest
 invariant-each_in_der-loop-rest l = record {
   fewer : length l.rest ≤ length l.bytes;
-  so_far : (others : List ℕ) → AreEach l.nodes l.index l.rest others → AreEach l.nodes l.index l.bytes (l.der.items ++ others);
+  so_far : (others : List ℕ) → AreEach l.nodes l.index l.rest others
+      → AreEach l.nodes l.index l.bytes (l.der.items ++ others);
 }
 
 abbrev pub decreases-each_in_der-loop-rest : goal.decreases-each_in_der-loop-rest
