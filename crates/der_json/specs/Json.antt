@@ -104,7 +104,7 @@ mutual
 
   -- The bytes are those of the members that are there, and this is the object with them and those before.
   pub data AreMembers : List Node → List Member → List ℕ → Members → Data → Type 0 where
-    end : (nodes : List Node) (ms : Members) → AreMembers nodes [] [] ms (object ms)
+    end-of-members : (nodes : List Node) (ms : Members) → AreMembers nodes [] [] ms (object ms)
     there : (nodes : List Node) (m : Member) (others : List Member) (first rest : List ℕ) (d : Data) (before : Members)
         (whole : Data)
         → IsJson nodes m.node true first d → AreMembers nodes others rest (put m.name.now d before) whole
@@ -115,7 +115,7 @@ mutual
 
   -- The bytes are those of values of the type of the node, with this JSON.
   pub data AreItems : List Node → ℕ → List ℕ → List Data → Type 0 where
-    end : (nodes : List Node) (i : ℕ) → AreItems nodes i [] []
+    end-of-items : (nodes : List Node) (i : ℕ) → AreItems nodes i [] []
     item : (nodes : List Node) (i : ℕ) (first rest : List ℕ) (d : Data) (ds : List Data)
         → IsJson nodes i true first d → AreItems nodes i rest ds → AreItems nodes i (first ++ rest) (d ∷ ds)
 

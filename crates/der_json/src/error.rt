@@ -36,3 +36,10 @@ impl From<AllocError> for JsonError {
         JsonError::OutOfMemory
     }
 }
+
+/// Out of memory. The value that could not be stored is dropped.
+impl<T: Drop> From<AllocFailed<T>> for JsonError {
+    fn from(_: AllocFailed<T>) -> Self {
+        JsonError::OutOfMemory
+    }
+}

@@ -17,7 +17,7 @@ use std::alloc::Global;
 
 /// Returns the JSON of the message that these bytes are the encoding of, by the schema of its type.
 pub fn to_json(alloc: Global, schema: Schema, bytes: &[u8]) -> Result<Value, JsonError>
-    ensures { IfOk result (λ value. IsJson schema.entry.nodes.now schema.entry.root true bytes.now (view value)) }
+    ensures { IfOk result (λ value. IsJson schema.nodes.now schema.root true bytes.now (view value)) }
 {
     let nodes = schema.nodes;
     Reader { alloc, nodes }.value(nodes.len(), schema.root, true, Part { bytes, place: 0 })
@@ -33,7 +33,7 @@ struct Reader {
 impl Reader {
     // The kind of the node at this index, or `Schema` if it doesn't come before this many nodes.
     fn kind_before(self, limit: usize, index: u16) -> Result<Kind, JsonError>
-        ensures kind { IfOk result (λ kind. IsOfKind self.entry.nodes.now index kind) }
+        ensures kind { IfOk result (λ kind. IsOfKind self.nodes.now index kind) }
         ensures before { OnOk result (index < limit) }
     {
         if usize::from(index) >= limit {
@@ -54,7 +54,7 @@ impl Reader {
         has_header: bool,
         part: Part<'_>,
     ) -> Result<Value, JsonError>
-        ensures { IfOk result (λ value. IsJson self.entry.nodes.now index has_header part.entry.bytes.now (view value)) }
+        ensures { IfOk result (λ value. IsJson self.nodes.now index has_header part.entry.bytes.now (view value)) }
     {
         let kind = self.kind_before(limit, index)?;
         let before = usize::from(index);
@@ -97,7 +97,7 @@ impl Reader {
         members: &'static [Member],
         content: Part<'_>,
     ) -> Result<Value, JsonError>
-        ensures { IfOk result (λ value. AreMembers self.entry.nodes.now members.now content.entry.bytes.now no_members
+        ensures { IfOk result (λ value. AreMembers self.nodes.now members.now content.entry.bytes.now no_members
             (view value)) }
     {
         let mut object = Map::new(self.alloc);
@@ -119,7 +119,7 @@ impl Reader {
     // The array of the items whose encodings are the content.
     #[cycle(values)]
     fn array(self, limit: usize, item: u16, content: Part<'_>) -> Result<Value, JsonError>
-        ensures { IfOk result (λ value. IsArray self.entry.nodes.now item content.entry.bytes.now (view value)) }
+        ensures { IfOk result (λ value. IsArray self.nodes.now item content.entry.bytes.now (view value)) }
     {
         let mut list = Vec::new(self.alloc);
         let mut rest = content;
@@ -141,7 +141,7 @@ impl Reader {
         has_header: bool,
         part: Part<'_>,
     ) -> Result<Value, JsonError>
-        ensures { IfOk result (λ value. IsAlternative self.entry.nodes.now alternatives.now has_header part.entry.bytes.now
+        ensures { IfOk result (λ value. IsAlternative self.nodes.now alternatives.now has_header part.entry.bytes.now
             (view value)) }
     {
         let Some(first) = part.bytes.first() else {
