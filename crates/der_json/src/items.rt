@@ -35,10 +35,12 @@ pub(crate) fn item_value(
 fn name_of(items: &'static [Item], number: u64) -> Option<&'static str>
     ensures { option_map (λ name. name.now) result ≡ item_name items.now number }
 {
-    for item in items {
+    let mut left = items;
+    while let [item, others @ ..] = left {
         if item.number == number {
             return Some(item.name);
         }
+        left = others;
     }
     None
 }
