@@ -1,5 +1,6 @@
 -- What the JSON of a value is, from that of its parts.
-use Rattle.std.proofs.Common.{◌≡◌, ℕ, Bool, true, false, List, [], ◌∷◌, ◌++◌, Option, Some, Result, IfOk, sym, ap, ◌∙◌, refl, subst}
+use Rattle.std.proofs.Common.{◌≡◌, ℕ, Bool, true, false, List, [], ◌∷◌, ◌++◌, Option, Some, Result, IfOk, sym, ap, ◌∙◌}
+use Rattle.std.proofs.Common.{refl, subst}
 use Rattle.std.proofs.Common.{append_assoc, append-nil, map}
 use Rattle.std.proofs.lemmas.List.{map-append}
 use Rattle.std.specs.Prelude.{slice_get}
@@ -17,7 +18,8 @@ use Rattle.der_schema.specs.declared.node.Kind.TheVariants as kind
 use Rattle.der_schema.specs.declared.node.Member.{Member}
 use Rattle.der_schema.specs.declared.node.Node.{Node}
 use Rattle.der_json.specs.Contents.{IsPlain}
-use Rattle.der_json.specs.Json.{AreItems, AreMembers, IsAlternative, IsAny, IsArray, IsJson, IsOfKind, alternatives_in, is_any}
+use Rattle.der_json.specs.Json.{AreItems, AreMembers, IsAlternative, IsAny, IsArray, IsJson, IsOfKind, alternatives_in}
+use Rattle.der_json.specs.Json.{is_any}
 use Rattle.der_json.specs.Json.{list_of, members_in, same_as, wrapped_data}
 
 module _ {E : Type 0} (r : Result Value E) (nodes : List Node) (i : ℕ) (header : Bool) (bytes : List ℕ) where
@@ -34,7 +36,8 @@ module _ {E : Type 0} (r : Result Value E) (nodes : List Node) (i : ℕ) (header
         (λ v h. IsJson.same nodes i j header k bytes (view v) of is h)
 
     pub of_sequence : (members : List Member) (content : List ℕ) → members_in k ≡ Some members
-        → bytes ≡ plain_encoding header 0x30 content → IfOk r (λ v. AreMembers nodes members content no_members (view v))
+        → bytes ≡ plain_encoding header 0x30 content
+        → IfOk r (λ v. AreMembers nodes members content no_members (view v))
         → IsGiven
     of_sequence members content is encoded =
         IfOk-weaker r (λ v. AreMembers nodes members content no_members (view v))
@@ -46,7 +49,7 @@ module _ {E : Type 0} (r : Result Value E) (nodes : List Node) (i : ℕ) (header
     of_list j tag content is encoded =
         IfOk-weaker r (λ v. IsArray nodes j content (view v)) (λ v. IsJson nodes i header bytes (view v))
         (λ v h. subst (λ d. IsJson nodes i header bytes d) (sym h.is)
-            (IsJson.list nodes i j tag header k content bytes h.items of is encoded h.each))
+        (IsJson.list nodes i j tag header k content bytes h.items of is encoded h.each))
 
     pub of_choice : (alternatives : List Alternative) → alternatives_in k ≡ Some alternatives
         → IfOk r (λ v. IsAlternative nodes alternatives header bytes (view v)) → IsGiven
@@ -54,7 +57,7 @@ module _ {E : Type 0} (r : Result Value E) (nodes : List Node) (i : ℕ) (header
         IfOk-weaker r (λ v. IsAlternative nodes alternatives header bytes (view v))
         (λ v. IsJson nodes i header bytes (view v))
         (λ v h. subst (λ d. IsJson nodes i header bytes d) (sym h.is)
-            (IsJson.choice nodes i h.place header k alternatives h.alternative bytes h.inside of is h.there h.json))
+        (IsJson.choice nodes i h.place header k alternatives h.alternative bytes h.inside of is h.there h.json))
 
     pub of_any : is_any k ≡ true → IfOk r (λ v. IsAny bytes (view v)) → IsGiven
     of_any is = IfOk-weaker r (λ v. IsAny bytes (view v)) (λ v. IsJson nodes i header bytes (view v))
@@ -66,7 +69,7 @@ module _ {E : Type 0} (r : Result Value E) (nodes : List Node) (i : ℕ) (header
   of_wrapped w j inner d of encoded json =
       IfOk-weaker r (λ v. view v ≡ wrapped_data w d) (λ v. IsJson nodes i header bytes (view v))
       (λ v e. subst (λ it. IsJson nodes i header bytes it) (sym e)
-          (IsJson.wrapped nodes i j header w inner bytes d of encoded json))
+      (IsJson.wrapped nodes i j header w inner bytes d of encoded json))
 
   pub of_content_under : (tag j : ℕ) (content : List ℕ) → IsOfKind nodes i (kind.ContentUnder tag j)
       → bytes ≡ plain_encoding header tag content → IfOk r (λ v. IsJson nodes j false content (view v)) → IsGiven
@@ -86,7 +89,7 @@ one_more_item nodes i first after rest content v list more parts json is before 
     (AreItems.item nodes i first after (view v) later json items) in
     let same : map view list ++ (view v ∷ later) ≡ map view more ++ later =
     sym (ap (λ l. map view l ++ later) is ∙ ap (λ l. l ++ later) (map-append view list (v ∷ []))
-        ∙ append_assoc (map view list) (view v ∷ []) later) in
+    ∙ append_assoc (map view list) (view v ∷ []) later) in
     subst (AreItems nodes i content) same (before (view v ∷ later) here)
 
 pub all_items : (nodes : List Node) (i : ℕ) (rest content : List ℕ) (list : List Value) → rest ≡ []

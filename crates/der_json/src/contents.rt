@@ -1,24 +1,23 @@
 //! Values without parts.
-ghost use Rattle.std.specs.Prelude.{◌≡◌, ◌⊎◌, true, IfOk, string_bytes};
-ghost use Rattle.std.specs.Str.{encode_utf8_all};
-ghost use Rattle.serde_json.specs.Data.{null, string};
+ghost use Rattle.std.specs.Prelude.{◌≡◌, ◌⊎◌, IfOk};
+ghost use Rattle.hex.specs.Hex.{encode_upper};
+ghost use Rattle.serde_json.specs.Data.{string};
 ghost use Rattle.serde_json.specs.View.{view};
-ghost use Rattle.der_types.specs.CharacterStrings.{characters, is_string_content};
-ghost use Rattle.der_types.specs.ContentTypes.{string_character, string_width};
 ghost use Rattle.der_types.specs.ObjectIdentifier.{arcs_of, is_object_identifier};
 ghost use Rattle.der_types.specs.RelativeOid.{is_relative_oid};
 ghost use Rattle.der_types.specs.Subidentifiers.{numbers_after};
-ghost use Rattle.der_types.specs.TimeContents.{is_generalized_time, is_utc_time};
-ghost use Rattle.der_json.specs.Contents.{IsArcsJson, IsBitsJson, IsContentJson, IsPlain, IsStringJson, IsTextJson};
-ghost use Rattle.der_json.specs.Contents.{plain_tag};
+ghost use Rattle.der_json.specs.Contents.{IsArcsJson, IsBitsJson, IsContentJson, IsPlain, IsTextJson, plain_tag};
+ghost use Rattle.der_json.specs.Numbers.{IsItemJson, IsNumberJson};
 
 use crate::JsonError;
 use crate::items::item_value;
 use crate::numbers::number_value;
 use crate::part::Part;
 use crate::strings::string_value;
-use der_schema::Kind;
-use der_types::{BitString, ObjectIdentifier, RelativeOid, is_generalized_time, is_utc_time};
+use der_schema::{Item, Kind};
+use der_types::{
+    BitString, Contents, ObjectIdentifier, RelativeOid, is_generalized_time, is_utc_time,
+};
 use hex::encode_upper;
 use picky_der_core::asn1::Tag;
 use serde_json::{Map, Value, put};
@@ -70,8 +69,7 @@ fn content_value(alloc: Global, kind: Kind, content: Part<'_>) -> Result<Value, 
     match kind {
         Kind::Boolean => boolean_value(content),
         Kind::Integer | Kind::NamedInteger(_) | Kind::Unsigned(_) | Kind::Signed(_) => number_value(
-            alloc,
-            content,
+            alloc, content,
         ),
         Kind::Enumerated(items) => item_value(alloc, items, content),
         Kind::ExtensibleEnumerated(items) => known_item_value(alloc, items, content),

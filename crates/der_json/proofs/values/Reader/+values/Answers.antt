@@ -1,4 +1,5 @@
-use Rattle.std.proofs.Common.{◌≡◌, Bool, true, false, List, [], ◌∷◌, ◌++◌, Some, length, map, drop, sym, ap, ◌∙◌, refl, subst, arith, append_assoc}
+use Rattle.std.proofs.Common.{◌≡◌, Bool, true, false, List, [], ◌∷◌, ◌++◌, Some, length, map, drop, sym, ap, ◌∙◌, refl}
+use Rattle.std.proofs.Common.{subst, arith, append_assoc}
 use Rattle.std.proofs.lemmas.List.{map-append}
 use Rattle.serde_json.specs.View.{view}
 use Rattle.serde_json.specs.Data.{Data}
@@ -7,7 +8,8 @@ use Rattle.der_json.specs.Json.{AreItems, AreMembers, IsArray, IsJson, IsOfKind}
 use Rattle.der_json.proofs.ValueLemmas.{of_any, of_choice, of_content_under, of_list, of_plain, of_same, of_sequence}
 use Rattle.der_json.proofs.ValueLemmas.{of_wrapped, one_more_item, all_items}
 use Rattle.der_json.proofs.values.Reader.+values.Goals as goal
-use Rattle.der_json.proofs.values.Reader.+values.Goals.{object-then-not-is_absent+in_ok-first+in_ok-value+in_ok-put, object-else-not-is_absent}
+use Rattle.der_json.proofs.values.Reader.+values.Goals.{object-then-not-is_absent+in_ok-first+in_ok-value+in_ok-put}
+use Rattle.der_json.proofs.values.Reader.+values.Goals.{object-else-not-is_absent}
 
 pub array-loop-rest-preserved : goal.array-loop-rest-preserved
 array-loop-rest-preserved t c =
@@ -17,12 +19,13 @@ array-loop-rest-preserved t c =
 
 pub array-returns : goal.array-returns
 array-returns t c =
-    all_items c.args.self.nodes.now c.args.item c.loop-rest.rest.bytes.now c.args.content.bytes.now c.loop-rest.list.items
+    all_items c.args.self.nodes.now c.args.item c.loop-rest.rest.bytes.now c.args.content.bytes.now
+    c.loop-rest.list.items
     c.loop-rest-test.ensures c.loop-rest.invariant
 
 pub object-loop-member-preserved : goal.object-loop-member-preserved
 object-loop-member-preserved t c = λ whole h. elim c.if-not-is_absent.branch [
-  object-then-not-is_absent+in_ok-first+in_ok-value+in_ok-put w ↦
+  | object-then-not-is_absent+in_ok-first+in_ok-value+in_ok-put w ↦
       let there = w.in_ok-value.ensures in
       let put = w.in_ok-put.ensures.ok in
       let first = w.in_ok-first.ensures.parts in
@@ -31,7 +34,7 @@ object-loop-member-preserved t c = λ whole h. elim c.if-not-is_absent.branch [
       let absent = c.is_absent.ensures in
       let gone = w.if-not-is_absent in
       ?
-  ]
+]
 
 pub object-returns : goal.object-returns
 object-returns t c =
@@ -70,12 +73,13 @@ value-returns-in-Choice t c =
 pub value-returns-in_ok-value-in-Wrapped : goal.value-returns-in_ok-value-in-Wrapped
 value-returns-in_ok-value-in-Wrapped t c =
     of_wrapped c.wrapped_value.result c.args.self.nodes.now c.args.index c.args.has_header c.args.part.bytes.now
-    c.in-Wrapped.wrapper c.in-Wrapped.node c.in_ok-inner-in-Wrapped.inner.bytes.now (view c.in_ok-value-in-Wrapped.value)
+    c.in-Wrapped.wrapper c.in-Wrapped.node c.in_ok-inner-in-Wrapped.inner.bytes.now
+    (view c.in_ok-value-in-Wrapped.value)
     (c.in_ok-kind.ensures.kind ∙ ap Some c.in-Wrapped.is) c.in_ok-inner-in-Wrapped.ensures
     (subst
-        (λ header. IsJson c.args.self.nodes.now c.in-Wrapped.node header c.in_ok-inner-in-Wrapped.inner.bytes.now
-            (view c.in_ok-value-in-Wrapped.value))
-        c.keeps_header.ensures c.in_ok-value-in-Wrapped.ensures)
+    (λ header. IsJson c.args.self.nodes.now c.in-Wrapped.node header c.in_ok-inner-in-Wrapped.inner.bytes.now
+    (view c.in_ok-value-in-Wrapped.value))
+    c.keeps_header.ensures c.in_ok-value-in-Wrapped.ensures)
     c.wrapped_value.ensures
 
 pub value-returns-in_ok-content-in-ContentUnder : goal.value-returns-in_ok-content-in-ContentUnder
