@@ -1,11 +1,12 @@
 -- What the JSON of a value is, from that of its parts.
 use Rattle.std.proofs.Common.{◌≡◌, ℕ, Bool, true, false, List, [], ◌∷◌, ◌++◌, Option, Some, Result, IfOk, sym, ap, ◌∙◌}
 use Rattle.std.proofs.Common.{refl, subst}
-use Rattle.std.proofs.Common.{append_assoc, append-nil, map}
+use Rattle.std.proofs.Common.{suc, ◌+◌, ◌<◌, ◌≤◌, add-one, append_assoc, append-nil, arith, drop, drop-cons, get_or}
+use Rattle.std.proofs.Common.{drop_of_length-le, length, map}
 use Rattle.std.proofs.lemmas.List.{map-append}
 use Rattle.std.specs.Prelude.{slice_get}
 use Rattle.std.proofs.lemmas.Result.{IfOk-weaker}
-use Rattle.serde_json.specs.Data.{Data, array, no_members}
+use Rattle.serde_json.specs.Data.{Data, Members, array, no_members, object, put}
 use Rattle.serde_json.specs.View.{items_of, view}
 use Rattle.serde_json.specs.declared.value.Value.{Value}
 use Rattle.picky_der_core.specs.Element.{tlv}
@@ -19,8 +20,7 @@ use Rattle.der_schema.specs.declared.node.Member.{Member}
 use Rattle.der_schema.specs.declared.node.Node.{Node}
 use Rattle.der_json.specs.Contents.{IsPlain}
 use Rattle.der_json.specs.Json.{AreItems, AreMembers, IsAlternative, IsAny, IsArray, IsJson, IsOfKind, alternatives_in}
-use Rattle.der_json.specs.Json.{is_any}
-use Rattle.der_json.specs.Json.{list_of, members_in, same_as, wrapped_data}
+use Rattle.der_json.specs.Json.{can_be_absent, is_any, list_of, members_in, same_as, wrapped_data}
 
 module _ {E : Type 0} (r : Result Value E) (nodes : List Node) (i : ℕ) (header : Bool) (bytes : List ℕ) where
   abbrev IsGiven : Type 0
@@ -102,3 +102,47 @@ all_items nodes i rest content list none before =
       each = subst (AreItems nodes i content) (append-nil (map view list)) items;
       is = refl;
     }
+
+-- ---- members
+
+-- what the object with the members that are left is, it is that of all members
+abbrev pub LeadsOn : List Node → List Member → List ℕ → List Member → List ℕ → Members → Type 0
+LeadsOn nodes members content left rest now =
+    (whole : Data) → AreMembers nodes left rest now whole → AreMembers nodes members content no_members whole
+
+pub one_more_member : (nodes : List Node) (members : List Member) (i : ℕ) (m : Member)
+    (first after rest content : List ℕ) (d : Data) (before now : Members) → i < length members
+    → get_or members i m ≡ m → rest ≡ first ++ after → IsJson nodes m.node true first d → now ≡ put m.name.now d before
+    → LeadsOn nodes members content (drop i members) rest before
+    → LeadsOn nodes members content (drop (i + 1) members) after now
+one_more_member nodes members i m first after rest content d before now h at parts json is goes whole others =
+    let left : drop i members ≡ m ∷ drop (i + 1) members =
+    drop-cons members i m h ∙ ap (λ it. it ∷ drop (suc i) members) at
+    ∙ ap (λ k. m ∷ drop k members) (sym (add-one i)) in
+    let these : AreMembers nodes (m ∷ drop (i + 1) members) (first ++ after) before whole =
+    AreMembers.there nodes m (drop (i + 1) members) first after d before whole json
+    (subst (λ ms. AreMembers nodes (drop (i + 1) members) after ms whole) is others) in
+    goes whole (subst (λ ms. AreMembers nodes ms rest before whole) (sym left)
+        (subst (λ bytes. AreMembers nodes (m ∷ drop (i + 1) members) bytes before whole) (sym parts) these))
+
+pub one_absent_member : (nodes : List Node) (members : List Member) (i : ℕ) (m : Member) (rest content : List ℕ)
+    (before : Members) → i < length members → get_or members i m ≡ m → can_be_absent m.presence ≡ true
+    → LeadsOn nodes members content (drop i members) rest before
+    → LeadsOn nodes members content (drop (i + 1) members) rest before
+one_absent_member nodes members i m rest content before h at absent goes whole others =
+    let left : drop i members ≡ m ∷ drop (i + 1) members =
+    drop-cons members i m h ∙ ap (λ it. it ∷ drop (suc i) members) at
+    ∙ ap (λ k. m ∷ drop k members) (sym (add-one i)) in
+    goes whole (subst (λ ms. AreMembers nodes ms rest before whole) (sym left)
+        (AreMembers.absent nodes m (drop (i + 1) members) rest before whole absent others))
+
+pub all_members : (nodes : List Node) (members : List Member) (i : ℕ) (rest content : List ℕ) (now : Members)
+    → length members ≤ i → rest ≡ [] → LeadsOn nodes members content (drop i members) rest now
+    → AreMembers nodes members content no_members (object now)
+all_members nodes members i rest content now end none goes =
+    goes (object now) (subst (λ ms. AreMembers nodes ms rest now (object now)) (sym (drop_of_length-le members i end))
+        (subst (λ bytes. AreMembers nodes [] bytes now (object now)) (sym none) (AreMembers.end-of-members nodes now)))
+
+pub empty_of : (s : List ℕ) → length s ≡ 0 → s ≡ []
+empty_of [] e = refl
+empty_of (b ∷ bs) e = absurd (omega arith)
