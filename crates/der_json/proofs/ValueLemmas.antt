@@ -123,7 +123,7 @@ one_more_member nodes members i m first after rest content d before now h at par
     AreMembers.there nodes m (drop (i + 1) members) first after d before whole json
     (subst (λ ms. AreMembers nodes (drop (i + 1) members) after ms whole) is others) in
     goes whole (subst (λ ms. AreMembers nodes ms rest before whole) (sym left)
-        (subst (λ bytes. AreMembers nodes (m ∷ drop (i + 1) members) bytes before whole) (sym parts) these))
+    (subst (λ bytes. AreMembers nodes (m ∷ drop (i + 1) members) bytes before whole) (sym parts) these))
 
 pub one_absent_member : (nodes : List Node) (members : List Member) (i : ℕ) (m : Member) (rest content : List ℕ)
     (before : Members) → i < length members → get_or members i m ≡ m → can_be_absent m.presence ≡ true
@@ -134,14 +134,14 @@ one_absent_member nodes members i m rest content before h at absent goes whole o
     drop-cons members i m h ∙ ap (λ it. it ∷ drop (suc i) members) at
     ∙ ap (λ k. m ∷ drop k members) (sym (add-one i)) in
     goes whole (subst (λ ms. AreMembers nodes ms rest before whole) (sym left)
-        (AreMembers.absent nodes m (drop (i + 1) members) rest before whole absent others))
+    (AreMembers.absent nodes m (drop (i + 1) members) rest before whole absent others))
 
 pub all_members : (nodes : List Node) (members : List Member) (i : ℕ) (rest content : List ℕ) (now : Members)
     → length members ≤ i → rest ≡ [] → LeadsOn nodes members content (drop i members) rest now
     → AreMembers nodes members content no_members (object now)
 all_members nodes members i rest content now end none goes =
     goes (object now) (subst (λ ms. AreMembers nodes ms rest now (object now)) (sym (drop_of_length-le members i end))
-        (subst (λ bytes. AreMembers nodes [] bytes now (object now)) (sym none) (AreMembers.end-of-members nodes now)))
+    (subst (λ bytes. AreMembers nodes [] bytes now (object now)) (sym none) (AreMembers.end-of-members nodes now)))
 
 pub empty_of : (s : List ℕ) → length s ≡ 0 → s ≡ []
 empty_of [] e = refl
