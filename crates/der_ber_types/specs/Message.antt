@@ -3,7 +3,6 @@ use Rattle.std.specs.Prelude.{◌≡◌, ℕ, List, [], ◌∷◌, ◌++◌, Opt
 use Rattle.std.specs.Cmp.Lexicographic.{pointwise}
 use Rattle.picky_der_core.specs.Element.{tlv}
 use Rattle.der_schema.specs.declared.node.Schema.{Schema}
-use Rattle.der_ber.specs.WholeStrings.{IsMadeWhole}
 use Rattle.der_ber_types.specs.declared.message.ContentType.{ContentType}
 use Rattle.der_ber_types.specs.Content.{IsOne}
 
@@ -24,9 +23,3 @@ pub data IsMessage (types : List ContentType) (bytes der : List ℕ) : Type 0 wh
       → der ≡ message_bytes identifier in_der → IsMessage types bytes der
   other : (identifier content : List ℕ) → bytes ≡ message_bytes identifier content
       → schema_in types identifier ≡ None → der ≡ bytes → IsMessage types bytes der
-
--- the bytes are one in BER
-pub record IsMessageBer (types : List ContentType) (bytes der : List ℕ) : Type 0 where
-  pub whole : List ℕ
-  pub has_lengths : IsMadeWhole bytes whole
-  pub is_message : IsMessage types whole der

@@ -11,7 +11,7 @@ ghost use Rattle.der_ber_types.specs.Content.{
 };
 ghost use Rattle.der_ber_types.specs.Pushed.{IsPushed, IsMemberPushed};
 
-use crate::error::TypeError;
+use crate::TypeError;
 use crate::inside::{Inside, inside_of};
 use crate::order::in_order;
 use der_path::first_element;

@@ -10,5 +10,5 @@ mod message;
 mod order;
 
 pub use by_type::to_der;
-pub use error::ToDerError;
+pub use error::TypeError;
 pub use message::{ContentType, message_to_der};

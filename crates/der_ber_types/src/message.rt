@@ -1,13 +1,10 @@
 //! DER of a message whose content has the type that an identifier names.
-ghost use Rattle.std.specs.Prelude.{◌≡◌, ◌++◌, IfOk, IfErr, IfSome, OnOk};
+ghost use Rattle.std.specs.Prelude.{◌≡◌, ◌++◌, IfOk, IfSome, OnOk};
 ghost use Rattle.picky_der_core.specs.Element.{tlv};
-ghost use Rattle.der_ber_types.specs.Errors.{IsRefusedByType};
-ghost use Rattle.der_ber_types.specs.Message.{IsMessageBer, IsMessage, message_bytes, schema_in};
+ghost use Rattle.der_ber_types.specs.Message.{IsMessage, message_bytes, schema_in};
 
-use crate::ToDerError;
+use crate::TypeError;
 use crate::content::{copied, one_in_der, push_header};
-use crate::error::TypeError;
-use der_ber::with_whole_strings;
 use der_path::first_element;
 use der_schema::Schema;
 use picky_der_core::asn1::Tag;
@@ -22,25 +19,17 @@ pub struct ContentType {
     pub schema: Schema,
 }
 
-/// Returns the DER of a message in BER that is a SEQUENCE of an OBJECT IDENTIFIER and of a content in the explicit tag
-/// `[0]`, as the `ContentInfo` of CMS is (RFC 5652, 3). The content becomes what `to_der` returns of it, by the first
-/// of the types that has the identifier. If none has it, the content only has the lengths of DER and whole strings.
+/// Returns the DER of a message that is a SEQUENCE of an OBJECT IDENTIFIER and of a content in the explicit tag `[0]`, as
+/// the `ContentInfo` of CMS is (RFC 5652, 3). The bytes have the lengths of DER and whole universal strings, as
+/// `with_whole_strings` of `der_ber` returns them. The content becomes what `to_der` returns of it, by the first of the
+/// types that has the identifier. If none has it, the message stays.
 ///
 /// The errors are those of `to_der`.
 pub fn message_to_der(
     alloc: Global,
     types: &[ContentType],
     bytes: &[u8],
-) -> Result<Vec<u8>, ToDerError>
-    ensures ok { IfOk result (λ der. IsMessageBer types.now bytes.now der.items) }
-    ensures err { IfErr result (IsRefusedByType bytes.now) }
-{
-    let whole = with_whole_strings(alloc, bytes)?;
-    Ok(message_in_der(alloc, types, &whole)?)
-}
-
-// The same of a message with the lengths of DER and whole strings.
-fn message_in_der(alloc: Global, types: &[ContentType], bytes: &[u8]) -> Result<Vec<u8>, TypeError>
+) -> Result<Vec<u8>, TypeError>
     ensures { IfOk result (λ der. IsMessage types.now bytes.now der.items) }
 {
     let Some(message) = message_of(bytes) else {

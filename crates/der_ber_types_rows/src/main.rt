@@ -1,8 +1,9 @@
-//! For each row on standard input, a type and bytes, writes to standard output what `to_der` returns for them, or
-//! `message_to_der` for a message.
+//! For each row on standard input, a type and bytes, writes to standard output what `to_der` returns for them with whole
+//! strings, or `message_to_der` for a message.
 #![tactic(auto)]
 
-use der_ber_types::{ContentType, ToDerError, message_to_der, to_der};
+use der_ber::{BerError, with_whole_strings};
+use der_ber_types::{ContentType, TypeError, message_to_der, to_der};
 use der_cms::values;
 use der_fixtures::{bytes_of, text_of};
 use der_schema::Schema;
@@ -63,14 +64,20 @@ fn result_of(alloc: Global, row: &str) -> Result<String, AllocError> {
     let Ok(bytes) = bytes_of(alloc, text) else {
         return String::from_str(alloc, "no bytes");
     };
+    let whole = match with_whole_strings(alloc, &bytes) {
+        Ok(whole) => whole,
+        Err(BerError::Broken { position, rule }) => {
+            return format!(in alloc; "{position} {rule:?}");
+        }
+        Err(BerError::OutOfMemory) => return Err(AllocError),
+    };
     let result = match schema_of(name) {
-        Some(schema) => to_der(alloc, schema, &bytes),
-        None => message_to_der(alloc, &contents(), &bytes),
+        Some(schema) => to_der(alloc, schema, &whole),
+        None => message_to_der(alloc, &contents(), &whole),
     };
     match result {
         Ok(der) => text_of(alloc, &der),
-        Err(ToDerError::Broken { position, rule }) => format!(in alloc; "{position} {rule:?}"),
-        Err(ToDerError::OtherType) => String::from_str(alloc, "OtherType"),
-        Err(ToDerError::OutOfMemory) => Err(AllocError),
+        Err(TypeError::OtherType) => String::from_str(alloc, "OtherType"),
+        Err(TypeError::OutOfMemory) => Err(AllocError),
     }
 }
