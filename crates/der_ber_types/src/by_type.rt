@@ -14,8 +14,8 @@ use std::alloc::Global;
 ///
 /// An element of any type, as an ANY, stays. So does a default that is written, which `from_der` then refuses.
 ///
-/// `OtherType` if the bytes aren't one element of the type: a member is missing, there is one more, or a tag is another.
-/// So it is for a BIT STRING in parts under an implicit tag, and a SET of different members in another order.
+/// `OtherType` if the bytes aren't one element of the type: a member is missing, there is one more, or a tag is
+/// another. So it is for a BIT STRING in parts under an implicit tag, and a SET of different members in another order.
 /// `OutOfMemory` if an allocation fails.
 ///
 /// Each level of the type copies its content, and a set is sorted. Otherwise the time and the memory are linear in the

@@ -19,8 +19,8 @@ pub struct ContentType {
     pub schema: Schema,
 }
 
-/// Returns the DER of a message that is a SEQUENCE of an OBJECT IDENTIFIER and of a content in the explicit tag `[0]`, as
-/// the `ContentInfo` of CMS is (RFC 5652, 3). The bytes have the lengths of DER and whole universal strings, as
+/// Returns the DER of a message that is a SEQUENCE of an OBJECT IDENTIFIER and of a content in the explicit tag `[0]`,
+/// as the `ContentInfo` of CMS is (RFC 5652, 3). The bytes have the lengths of DER and whole universal strings, as
 /// `with_whole_strings` of `der_ber` returns them. The content becomes what `to_der` returns of it, by the first of the
 /// types that has the identifier. If none has it, the message stays.
 ///

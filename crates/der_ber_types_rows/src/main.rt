@@ -1,5 +1,5 @@
-//! For each row on standard input, a type and bytes, writes to standard output what `to_der` returns for them with whole
-//! strings, or `message_to_der` for a message.
+//! For each row on standard input, a type and bytes, writes to standard output what `to_der` returns for them with
+//! whole strings, or `message_to_der` for a message.
 #![tactic(auto)]
 
 use der_ber::{BerError, with_whole_strings};
