@@ -3,4 +3,3 @@ pub mod Inside
 pub mod Order
 pub mod Content
 pub mod Pushed
-pub mod Message
