@@ -2,11 +2,13 @@
 //! whole strings.
 #![tactic(auto)]
 
+mod cms;
+
 use der_ber::{BerError, with_whole_strings};
 use der_ber_types::{TypeError, to_der};
 use der_fixtures::{bytes_of, text_of};
 use der_schema::Schema;
-use der_schemas::{cms, x509};
+use der_schemas::x509;
 use std::alloc::{AllocError, Global};
 use std::io;
 
