@@ -9,7 +9,7 @@ ghost use Rattle.der_types.specs.ExactMembers.{struct_values};
 ghost use Rattle.der_types.specs.SampleTrees.{exact_example};
 
 use der_types::{
-    Exact, ExactMembers, InRange, Integer, Notated, NotatedMembers, OtherThan, WithSize,
+    Exact, ExactMembers, InRange, Integer, Notated, NotatedMembers, OtherThan, WithSize, copies,
 };
 use picky_asn1_der::asn1::{ByteBuf, Tag};
 use picky_asn1_der::de::{Begins, Faithful, FaithfulMembers, Inhabited};
@@ -19,6 +19,7 @@ use picky_asn1_der::{
     Deserialize, DeserializeMembers, Deserializer, List, Result, Serialize, SerializeMembers,
     Serializer, Struct, deserialize_struct_as,
 };
+use std::alloc::AllocError;
 
 /// `GCMParameters` of CMS-AES-CCM-and-AES-GCM, as a SEQUENCE.
 #[derive(Debug, Drop, PartialEq, Eq)]
@@ -87,6 +88,19 @@ impl Exact for GcmParameters {
         (λ m. (record { aes_nonce = m.0; aes_ic_vlen = m.1.0 }, refl {a = m})) };
 
     ghost exact = { Prim.assumption };
+}
+
+impl Clone for GcmParameters {
+    ghost is_clone = { λ x y. ⟦<ByteBuf as Clone>⟧.is_clone x.aes_nonce y.aes_nonce
+        × ⟦<Option<OtherThan<AesGcmIcVlen, 12>> as Clone>⟧.is_clone x.aes_ic_vlen y.aes_ic_vlen };
+
+    fn clone(&self) -> std::result::Result<GcmParameters, AllocError> {
+        let (aes_nonce, aes_ic_vlen) = copies::two(&self.aes_nonce, &self.aes_ic_vlen)?;
+        Ok(GcmParameters {
+            aes_nonce,
+            aes_ic_vlen,
+        })
+    }
 }
 
 impl Faithful for GcmParameters {
@@ -172,6 +186,19 @@ impl Exact for CcmParameters {
         (λ m. (record { aes_nonce = m.0; aes_ic_vlen = m.1.0 }, refl {a = m})) };
 
     ghost exact = { Prim.assumption };
+}
+
+impl Clone for CcmParameters {
+    ghost is_clone = { λ x y. ⟦<WithSize<ByteBuf, 7, 13> as Clone>⟧.is_clone x.aes_nonce y.aes_nonce
+        × ⟦<Option<AesCcmIcVlen> as Clone>⟧.is_clone x.aes_ic_vlen y.aes_ic_vlen };
+
+    fn clone(&self) -> std::result::Result<CcmParameters, AllocError> {
+        let (aes_nonce, aes_ic_vlen) = copies::two(&self.aes_nonce, &self.aes_ic_vlen)?;
+        Ok(CcmParameters {
+            aes_nonce,
+            aes_ic_vlen,
+        })
+    }
 }
 
 impl Faithful for CcmParameters {

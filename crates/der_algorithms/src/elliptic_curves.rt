@@ -15,7 +15,7 @@ ghost use Rattle.der_types.specs.SampleTrees.{exact_example};
 use crate::FieldId;
 use der_types::{
     BitString, Exact, ExactAlternatives, ExactMembers, Integer, Notated, NotatedAlternatives,
-    NotatedMembers, ObjectIdentifier,
+    NotatedMembers, ObjectIdentifier, copies,
 };
 use picky_asn1_der::OneOf::{Other, This};
 use picky_asn1_der::asn1::{ByteBuf, Tag};
@@ -28,10 +28,11 @@ use picky_asn1_der::{
     Alternatives, Choice, Deserialize, DeserializeMembers, Deserializer, List, NoneOf, OneOf,
     Result, Serialize, SerializeMembers, Serializer, Struct, deserialize_struct_as,
 };
+use std::alloc::AllocError;
 
 /// The parameters of a key: a curve in full, by its name, or that of the issuer. `EcpkParameters`
 /// of PKIX1Algorithms88, as a CHOICE.
-#[derive(Debug, Drop, PartialEq, Eq)]
+#[derive(Debug, Clone, Drop, PartialEq, Eq)]
 pub enum EcpkParameters {
     /// `ECParameters`.
     EcParameters(EcParameters),
@@ -242,6 +243,34 @@ impl Exact for EcParameters {
     ghost exact = { Prim.assumption };
 }
 
+impl Clone for EcParameters {
+    ghost is_clone = { λ x y. ⟦<EcpVer as Clone>⟧.is_clone x.version y.version
+        × ⟦<FieldId as Clone>⟧.is_clone x.field_id y.field_id
+        × ⟦<Curve as Clone>⟧.is_clone x.curve y.curve
+        × ⟦<EcPoint as Clone>⟧.is_clone x.base y.base
+        × ⟦<Integer as Clone>⟧.is_clone x.order y.order
+        × ⟦<Option<Integer> as Clone>⟧.is_clone x.cofactor y.cofactor };
+
+    fn clone(&self) -> std::result::Result<EcParameters, AllocError> {
+        let (version, field_id, curve, base, order, cofactor) = copies::six(
+            &self.version,
+            &self.field_id,
+            &self.curve,
+            &self.base,
+            &self.order,
+            &self.cofactor,
+        )?;
+        Ok(EcParameters {
+            version,
+            field_id,
+            curve,
+            base,
+            order,
+            cofactor,
+        })
+    }
+}
+
 impl Faithful for EcParameters {
     ghost sameness = { struct_sameness ⟦<EcParametersParts as FaithfulMembers>⟧.sameness ⟦<Self as Struct>⟧.parts };
 
@@ -321,6 +350,17 @@ impl Exact for Curve {
         (λ m. (record { a = m.0; b = m.1; seed = m.2.0 }, refl {a = m})) };
 
     ghost exact = { Prim.assumption };
+}
+
+impl Clone for Curve {
+    ghost is_clone = { λ x y. ⟦<FieldElement as Clone>⟧.is_clone x.a y.a
+        × ⟦<FieldElement as Clone>⟧.is_clone x.b y.b
+        × ⟦<Option<BitString> as Clone>⟧.is_clone x.seed y.seed };
+
+    fn clone(&self) -> std::result::Result<Curve, AllocError> {
+        let (a, b, seed) = copies::three(&self.a, &self.b, &self.seed)?;
+        Ok(Curve { a, b, seed })
+    }
 }
 
 impl Faithful for Curve {

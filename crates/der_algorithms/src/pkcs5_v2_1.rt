@@ -15,7 +15,7 @@ ghost use Rattle.der_types.specs.SampleTrees.{exact_example};
 use der_elements::AnyElement;
 use der_types::{
     AtLeast, Exact, ExactAlternatives, ExactMembers, Integer, Notated, NotatedAlternatives,
-    NotatedMembers, Plus, WithSize,
+    NotatedMembers, Plus, WithSize, copies,
 };
 use der_x509::AlgorithmIdentifier;
 use picky_asn1_der::OneOf::{Other, This};
@@ -29,6 +29,7 @@ use picky_asn1_der::{
     Alternatives, Choice, Deserialize, DeserializeMembers, Deserializer, List, NoneOf, OneOf,
     Result, Serialize, SerializeMembers, Serializer, Struct, deserialize_struct_as,
 };
+use std::alloc::AllocError;
 
 /// `PBKDF2-params` of PKCS5v2-1, as a SEQUENCE.
 ///
@@ -122,6 +123,28 @@ impl Exact for Pbkdf2Params {
     ghost exact = { Prim.assumption };
 }
 
+impl Clone for Pbkdf2Params {
+    ghost is_clone = { λ x y. ⟦<Pbkdf2Salt as Clone>⟧.is_clone x.salt y.salt
+        × ⟦<AtLeast<Integer, Plus<1>> as Clone>⟧.is_clone x.iteration_count y.iteration_count
+        × ⟦<Option<AtLeast<Integer, Plus<1>>> as Clone>⟧.is_clone x.key_length y.key_length
+        × ⟦<Option<AlgorithmIdentifier> as Clone>⟧.is_clone x.prf y.prf };
+
+    fn clone(&self) -> std::result::Result<Pbkdf2Params, AllocError> {
+        let (salt, iteration_count, key_length, prf) = copies::four(
+            &self.salt,
+            &self.iteration_count,
+            &self.key_length,
+            &self.prf,
+        )?;
+        Ok(Pbkdf2Params {
+            salt,
+            iteration_count,
+            key_length,
+            prf,
+        })
+    }
+}
+
 impl Faithful for Pbkdf2Params {
     ghost sameness = { struct_sameness ⟦<Pbkdf2ParamsParts as FaithfulMembers>⟧.sameness ⟦<Self as Struct>⟧.parts };
 
@@ -134,7 +157,7 @@ impl Inhabited for Pbkdf2Params {
 
 /// RFC 8018 gives this type no name. The other source is the members of an AlgorithmIdentifier:
 /// there is no such algorithm yet. `PBKDF2-Salt` of PKCS5v2-1, as a CHOICE.
-#[derive(Debug, Drop, PartialEq, Eq)]
+#[derive(Debug, Clone, Drop, PartialEq, Eq)]
 pub enum Pbkdf2Salt {
     /// `OCTET STRING`.
     Specified(ByteBuf),
@@ -293,6 +316,19 @@ impl Exact for PbeParameter {
     ghost exact = { Prim.assumption };
 }
 
+impl Clone for PbeParameter {
+    ghost is_clone = { λ x y. ⟦<WithSize<ByteBuf, 8, 8> as Clone>⟧.is_clone x.salt y.salt
+        × ⟦<Integer as Clone>⟧.is_clone x.iteration_count y.iteration_count };
+
+    fn clone(&self) -> std::result::Result<PbeParameter, AllocError> {
+        let (salt, iteration_count) = copies::two(&self.salt, &self.iteration_count)?;
+        Ok(PbeParameter {
+            salt,
+            iteration_count,
+        })
+    }
+}
+
 impl Faithful for PbeParameter {
     ghost sameness = { struct_sameness ⟦<PbeParameterParts as FaithfulMembers>⟧.sameness ⟦<Self as Struct>⟧.parts };
 
@@ -372,6 +408,22 @@ impl Exact for Pbes2Params {
     ghost exact = { Prim.assumption };
 }
 
+impl Clone for Pbes2Params {
+    ghost is_clone = { λ x y. ⟦<AlgorithmIdentifier as Clone>⟧.is_clone x.key_derivation_func y.key_derivation_func
+        × ⟦<AlgorithmIdentifier as Clone>⟧.is_clone x.encryption_scheme y.encryption_scheme };
+
+    fn clone(&self) -> std::result::Result<Pbes2Params, AllocError> {
+        let (key_derivation_func, encryption_scheme) = copies::two(
+            &self.key_derivation_func,
+            &self.encryption_scheme,
+        )?;
+        Ok(Pbes2Params {
+            key_derivation_func,
+            encryption_scheme,
+        })
+    }
+}
+
 impl Faithful for Pbes2Params {
     ghost sameness = { struct_sameness ⟦<Pbes2ParamsParts as FaithfulMembers>⟧.sameness ⟦<Self as Struct>⟧.parts };
 
@@ -449,6 +501,22 @@ impl Exact for Pbmac1Params {
         (λ m. (record { key_derivation_func = m.0; message_auth_scheme = m.1 }, refl {a = m})) };
 
     ghost exact = { Prim.assumption };
+}
+
+impl Clone for Pbmac1Params {
+    ghost is_clone = { λ x y. ⟦<AlgorithmIdentifier as Clone>⟧.is_clone x.key_derivation_func y.key_derivation_func
+        × ⟦<AlgorithmIdentifier as Clone>⟧.is_clone x.message_auth_scheme y.message_auth_scheme };
+
+    fn clone(&self) -> std::result::Result<Pbmac1Params, AllocError> {
+        let (key_derivation_func, message_auth_scheme) = copies::two(
+            &self.key_derivation_func,
+            &self.message_auth_scheme,
+        )?;
+        Ok(Pbmac1Params {
+            key_derivation_func,
+            message_auth_scheme,
+        })
+    }
 }
 
 impl Faithful for Pbmac1Params {
@@ -532,6 +600,19 @@ impl Exact for Rc2CbcParameter {
         (λ m. (record { rc2_parameter_version = m.0.0; iv = m.1 }, refl {a = m})) };
 
     ghost exact = { Prim.assumption };
+}
+
+impl Clone for Rc2CbcParameter {
+    ghost is_clone = { λ x y. ⟦<Option<Integer> as Clone>⟧.is_clone x.rc2_parameter_version y.rc2_parameter_version
+        × ⟦<WithSize<ByteBuf, 8, 8> as Clone>⟧.is_clone x.iv y.iv };
+
+    fn clone(&self) -> std::result::Result<Rc2CbcParameter, AllocError> {
+        let (rc2_parameter_version, iv) = copies::two(&self.rc2_parameter_version, &self.iv)?;
+        Ok(Rc2CbcParameter {
+            rc2_parameter_version,
+            iv,
+        })
+    }
 }
 
 impl Faithful for Rc2CbcParameter {

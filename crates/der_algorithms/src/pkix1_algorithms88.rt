@@ -10,7 +10,7 @@ ghost use Rattle.der_types.specs.SampleTrees.{exact_example};
 
 use der_elements::AnyElement;
 use der_types::{
-    BitString, Exact, ExactMembers, Integer, Notated, NotatedMembers, ObjectIdentifier,
+    BitString, Exact, ExactMembers, Integer, Notated, NotatedMembers, ObjectIdentifier, copies,
 };
 use picky_asn1_der::asn1::Tag;
 use picky_asn1_der::de::{Begins, Faithful, FaithfulMembers, Inhabited};
@@ -20,6 +20,7 @@ use picky_asn1_der::{
     Deserialize, DeserializeMembers, Deserializer, List, Result, Serialize, SerializeMembers,
     Serializer, Struct, deserialize_struct_as,
 };
+use std::alloc::AllocError;
 
 /// `DSAPublicKey` of PKIX1Algorithms88: `INTEGER`.
 pub type DsaPublicKey = Integer;
@@ -90,6 +91,17 @@ impl Exact for DssParms {
         (λ m. (record { p = m.0; q = m.1; g = m.2 }, refl {a = m})) };
 
     ghost exact = { Prim.assumption };
+}
+
+impl Clone for DssParms {
+    ghost is_clone = { λ x y. ⟦<Integer as Clone>⟧.is_clone x.p y.p
+        × ⟦<Integer as Clone>⟧.is_clone x.q y.q
+        × ⟦<Integer as Clone>⟧.is_clone x.g y.g };
+
+    fn clone(&self) -> std::result::Result<DssParms, AllocError> {
+        let (p, q, g) = copies::three(&self.p, &self.q, &self.g)?;
+        Ok(DssParms { p, q, g })
+    }
 }
 
 impl Faithful for DssParms {
@@ -166,6 +178,15 @@ impl Exact for DssSigValue {
         (λ m. (record { r = m.0; s = m.1 }, refl {a = m})) };
 
     ghost exact = { Prim.assumption };
+}
+
+impl Clone for DssSigValue {
+    ghost is_clone = { λ x y. ⟦<Integer as Clone>⟧.is_clone x.r y.r × ⟦<Integer as Clone>⟧.is_clone x.s y.s };
+
+    fn clone(&self) -> std::result::Result<DssSigValue, AllocError> {
+        let (r, s) = copies::two(&self.r, &self.s)?;
+        Ok(DssSigValue { r, s })
+    }
 }
 
 impl Faithful for DssSigValue {
@@ -274,6 +295,31 @@ impl Exact for DomainParameters {
     ghost exact = { Prim.assumption };
 }
 
+impl Clone for DomainParameters {
+    ghost is_clone = { λ x y. ⟦<Integer as Clone>⟧.is_clone x.p y.p
+        × ⟦<Integer as Clone>⟧.is_clone x.g y.g
+        × ⟦<Integer as Clone>⟧.is_clone x.q y.q
+        × ⟦<Option<Integer> as Clone>⟧.is_clone x.j y.j
+        × ⟦<Option<ValidationParms> as Clone>⟧.is_clone x.validation_parms y.validation_parms };
+
+    fn clone(&self) -> std::result::Result<DomainParameters, AllocError> {
+        let (p, g, q, j, validation_parms) = copies::five(
+            &self.p,
+            &self.g,
+            &self.q,
+            &self.j,
+            &self.validation_parms,
+        )?;
+        Ok(DomainParameters {
+            p,
+            g,
+            q,
+            j,
+            validation_parms,
+        })
+    }
+}
+
 impl Faithful for DomainParameters {
     ghost sameness = { struct_sameness ⟦<DomainParametersParts as FaithfulMembers>⟧.sameness ⟦<Self as Struct>⟧.parts };
 
@@ -350,6 +396,16 @@ impl Exact for ValidationParms {
     ghost exact = { Prim.assumption };
 }
 
+impl Clone for ValidationParms {
+    ghost is_clone = { λ x y. ⟦<BitString as Clone>⟧.is_clone x.seed y.seed
+        × ⟦<Integer as Clone>⟧.is_clone x.pgen_counter y.pgen_counter };
+
+    fn clone(&self) -> std::result::Result<ValidationParms, AllocError> {
+        let (seed, pgen_counter) = copies::two(&self.seed, &self.pgen_counter)?;
+        Ok(ValidationParms { seed, pgen_counter })
+    }
+}
+
 impl Faithful for ValidationParms {
     ghost sameness = { struct_sameness ⟦<ValidationParmsParts as FaithfulMembers>⟧.sameness ⟦<Self as Struct>⟧.parts };
 
@@ -424,6 +480,15 @@ impl Exact for EcdsaSigValue {
         (λ m. (record { r = m.0; s = m.1 }, refl {a = m})) };
 
     ghost exact = { Prim.assumption };
+}
+
+impl Clone for EcdsaSigValue {
+    ghost is_clone = { λ x y. ⟦<Integer as Clone>⟧.is_clone x.r y.r × ⟦<Integer as Clone>⟧.is_clone x.s y.s };
+
+    fn clone(&self) -> std::result::Result<EcdsaSigValue, AllocError> {
+        let (r, s) = copies::two(&self.r, &self.s)?;
+        Ok(EcdsaSigValue { r, s })
+    }
 }
 
 impl Faithful for EcdsaSigValue {
@@ -503,6 +568,19 @@ impl Exact for FieldId {
         (λ m. (record { field_type = m.0; parameters = m.1 }, refl {a = m})) };
 
     ghost exact = { Prim.assumption };
+}
+
+impl Clone for FieldId {
+    ghost is_clone = { λ x y. ⟦<ObjectIdentifier as Clone>⟧.is_clone x.field_type y.field_type
+        × ⟦<AnyElement as Clone>⟧.is_clone x.parameters y.parameters };
+
+    fn clone(&self) -> std::result::Result<FieldId, AllocError> {
+        let (field_type, parameters) = copies::two(&self.field_type, &self.parameters)?;
+        Ok(FieldId {
+            field_type,
+            parameters,
+        })
+    }
 }
 
 impl Faithful for FieldId {
@@ -591,6 +669,21 @@ impl Exact for CharacteristicTwo {
     ghost exact = { Prim.assumption };
 }
 
+impl Clone for CharacteristicTwo {
+    ghost is_clone = { λ x y. ⟦<Integer as Clone>⟧.is_clone x.m y.m
+        × ⟦<ObjectIdentifier as Clone>⟧.is_clone x.basis y.basis
+        × ⟦<AnyElement as Clone>⟧.is_clone x.parameters y.parameters };
+
+    fn clone(&self) -> std::result::Result<CharacteristicTwo, AllocError> {
+        let (m, basis, parameters) = copies::three(&self.m, &self.basis, &self.parameters)?;
+        Ok(CharacteristicTwo {
+            m,
+            basis,
+            parameters,
+        })
+    }
+}
+
 impl Faithful for CharacteristicTwo {
     ghost sameness = { struct_sameness ⟦<CharacteristicTwoParts as FaithfulMembers>⟧.sameness
         ⟦<Self as Struct>⟧.parts };
@@ -673,6 +766,17 @@ impl Exact for Pentanomial {
         (λ m. (record { k1 = m.0; k2 = m.1; k3 = m.2 }, refl {a = m})) };
 
     ghost exact = { Prim.assumption };
+}
+
+impl Clone for Pentanomial {
+    ghost is_clone = { λ x y. ⟦<Integer as Clone>⟧.is_clone x.k1 y.k1
+        × ⟦<Integer as Clone>⟧.is_clone x.k2 y.k2
+        × ⟦<Integer as Clone>⟧.is_clone x.k3 y.k3 };
+
+    fn clone(&self) -> std::result::Result<Pentanomial, AllocError> {
+        let (k1, k2, k3) = copies::three(&self.k1, &self.k2, &self.k3)?;
+        Ok(Pentanomial { k1, k2, k3 })
+    }
 }
 
 impl Faithful for Pentanomial {

@@ -8,7 +8,7 @@ ghost use Rattle.der_types.specs.Notation.{Notation};
 ghost use Rattle.der_types.specs.ExactMembers.{struct_values};
 ghost use Rattle.der_types.specs.SampleTrees.{exact_example};
 
-use der_types::{Exact, ExactMembers, Integer, Notated, NotatedMembers, OtherThan};
+use der_types::{Exact, ExactMembers, Integer, Notated, NotatedMembers, OtherThan, copies};
 use der_x509::AlgorithmIdentifier;
 use picky_asn1_der::asn1::{
     ExplicitContextTag0, ExplicitContextTag1, ExplicitContextTag2, ExplicitContextTag3, Tag,
@@ -20,6 +20,7 @@ use picky_asn1_der::{
     Deserialize, DeserializeMembers, Deserializer, List, Result, Serialize, SerializeMembers,
     Serializer, Struct, deserialize_struct_as,
 };
+use std::alloc::AllocError;
 
 /// `RSASSA-PSS-params` of PKIX1-PSS-OAEP-Algorithms, as a SEQUENCE.
 ///
@@ -134,6 +135,28 @@ impl Exact for RsassaPssParams {
     ghost exact = { Prim.assumption };
 }
 
+impl Clone for RsassaPssParams {
+    ghost is_clone = { λ x y. ⟦<Option<ExplicitContextTag0<AlgorithmIdentifier>> as Clone>⟧.is_clone x.hash_algorithm y.hash_algorithm
+        × ⟦<Option<ExplicitContextTag1<AlgorithmIdentifier>> as Clone>⟧.is_clone x.mask_gen_algorithm y.mask_gen_algorithm
+        × ⟦<Option<ExplicitContextTag2<OtherThan<Integer, 20>>> as Clone>⟧.is_clone x.salt_length y.salt_length
+        × ⟦<Option<ExplicitContextTag3<OtherThan<Integer, 1>>> as Clone>⟧.is_clone x.trailer_field y.trailer_field };
+
+    fn clone(&self) -> std::result::Result<RsassaPssParams, AllocError> {
+        let (hash_algorithm, mask_gen_algorithm, salt_length, trailer_field) = copies::four(
+            &self.hash_algorithm,
+            &self.mask_gen_algorithm,
+            &self.salt_length,
+            &self.trailer_field,
+        )?;
+        Ok(RsassaPssParams {
+            hash_algorithm,
+            mask_gen_algorithm,
+            salt_length,
+            trailer_field,
+        })
+    }
+}
+
 impl Faithful for RsassaPssParams {
     ghost sameness = { struct_sameness ⟦<RsassaPssParamsParts as FaithfulMembers>⟧.sameness ⟦<Self as Struct>⟧.parts };
 
@@ -236,6 +259,25 @@ impl Exact for RsaesOaepParams {
         (λ m. (record { hash_func = m.0.0; mask_gen_func = m.1.0; p_source_func = m.2.0 }, refl {a = m})) };
 
     ghost exact = { Prim.assumption };
+}
+
+impl Clone for RsaesOaepParams {
+    ghost is_clone = { λ x y. ⟦<Option<ExplicitContextTag0<AlgorithmIdentifier>> as Clone>⟧.is_clone x.hash_func y.hash_func
+        × ⟦<Option<ExplicitContextTag1<AlgorithmIdentifier>> as Clone>⟧.is_clone x.mask_gen_func y.mask_gen_func
+        × ⟦<Option<ExplicitContextTag2<AlgorithmIdentifier>> as Clone>⟧.is_clone x.p_source_func y.p_source_func };
+
+    fn clone(&self) -> std::result::Result<RsaesOaepParams, AllocError> {
+        let (hash_func, mask_gen_func, p_source_func) = copies::three(
+            &self.hash_func,
+            &self.mask_gen_func,
+            &self.p_source_func,
+        )?;
+        Ok(RsaesOaepParams {
+            hash_func,
+            mask_gen_func,
+            p_source_func,
+        })
+    }
 }
 
 impl Faithful for RsaesOaepParams {

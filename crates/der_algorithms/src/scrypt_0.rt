@@ -8,7 +8,7 @@ ghost use Rattle.der_types.specs.Notation.{Notation};
 ghost use Rattle.der_types.specs.ExactMembers.{struct_values};
 ghost use Rattle.der_types.specs.SampleTrees.{exact_example};
 
-use der_types::{AtLeast, Exact, ExactMembers, Integer, Notated, NotatedMembers, Plus};
+use der_types::{AtLeast, Exact, ExactMembers, Integer, Notated, NotatedMembers, Plus, copies};
 use picky_asn1_der::asn1::{ByteBuf, Tag};
 use picky_asn1_der::de::{Begins, Faithful, FaithfulMembers, Inhabited};
 use picky_asn1_der::misc::{ReadExt, WriteExt};
@@ -17,6 +17,7 @@ use picky_asn1_der::{
     Deserialize, DeserializeMembers, Deserializer, List, Result, Serialize, SerializeMembers,
     Serializer, Struct, deserialize_struct_as,
 };
+use std::alloc::AllocError;
 
 /// `Scrypt-params` of Scrypt-0, as a SEQUENCE.
 #[derive(Debug, Drop, PartialEq, Eq)]
@@ -132,6 +133,32 @@ impl Exact for ScryptParams {
         )) };
 
     ghost exact = { Prim.assumption };
+}
+
+impl Clone for ScryptParams {
+    ghost is_clone = { λ x y. ⟦<ByteBuf as Clone>⟧.is_clone x.salt y.salt
+        × ⟦<AtLeast<Integer, Plus<1>> as Clone>⟧.is_clone x.cost_parameter y.cost_parameter
+        × ⟦<AtLeast<Integer, Plus<1>> as Clone>⟧.is_clone x.block_size y.block_size
+        × ⟦<AtLeast<Integer, Plus<1>> as Clone>⟧.is_clone x.parallelization_parameter y.parallelization_parameter
+        × ⟦<Option<AtLeast<Integer, Plus<1>>> as Clone>⟧.is_clone x.key_length y.key_length };
+
+    fn clone(&self) -> std::result::Result<ScryptParams, AllocError> {
+        let (salt, cost_parameter, block_size, parallelization_parameter, key_length) =
+            copies::five(
+                &self.salt,
+                &self.cost_parameter,
+                &self.block_size,
+                &self.parallelization_parameter,
+                &self.key_length,
+            )?;
+        Ok(ScryptParams {
+            salt,
+            cost_parameter,
+            block_size,
+            parallelization_parameter,
+            key_length,
+        })
+    }
 }
 
 impl Faithful for ScryptParams {

@@ -16,7 +16,7 @@ ghost use Rattle.der_types.specs.SampleTrees.{exact_example};
 use der_elements::AnyElement;
 use der_types::{
     Exact, ExactAlternatives, ExactMembers, Notated, NotatedAlternatives, NotatedMembers,
-    ObjectIdentifier,
+    ObjectIdentifier, copies,
 };
 use der_x509::{Certificate, CertificateList, CertificateSerialNumber, Name};
 use picky_asn1_der::Choice4::{First, Fourth, Later, Second, Third};
@@ -32,12 +32,13 @@ use picky_asn1_der::{
     Alternatives, Choice, Choice4, Deserialize, DeserializeMembers, Deserializer, List, NoneOf,
     OneOf, Result, Serialize, SerializeMembers, Serializer, Struct, deserialize_struct_as,
 };
+use std::alloc::AllocError;
 
 /// `RevocationInfoChoices` of CryptographicMessageSyntax2004: `SET OF RevocationInfoChoice`.
 pub type RevocationInfoChoices = Asn1SetOf<RevocationInfoChoice>;
 
 /// `RevocationInfoChoice` of CryptographicMessageSyntax2004, as a CHOICE.
-#[derive(Debug, Drop, PartialEq, Eq)]
+#[derive(Debug, Clone, Drop, PartialEq, Eq)]
 pub enum RevocationInfoChoice {
     /// `CertificateList`.
     Crl(CertificateList),
@@ -201,6 +202,22 @@ impl Exact for OtherRevocationInfoFormat {
     ghost exact = { Prim.assumption };
 }
 
+impl Clone for OtherRevocationInfoFormat {
+    ghost is_clone = { λ x y. ⟦<ObjectIdentifier as Clone>⟧.is_clone x.other_rev_info_format y.other_rev_info_format
+        × ⟦<AnyElement as Clone>⟧.is_clone x.other_rev_info y.other_rev_info };
+
+    fn clone(&self) -> std::result::Result<OtherRevocationInfoFormat, AllocError> {
+        let (other_rev_info_format, other_rev_info) = copies::two(
+            &self.other_rev_info_format,
+            &self.other_rev_info,
+        )?;
+        Ok(OtherRevocationInfoFormat {
+            other_rev_info_format,
+            other_rev_info,
+        })
+    }
+}
+
 impl Faithful for OtherRevocationInfoFormat {
     ghost sameness = { struct_sameness ⟦<OtherRevocationInfoFormatParts as FaithfulMembers>⟧.sameness
         ⟦<Self as Struct>⟧.parts };
@@ -213,7 +230,7 @@ impl Inhabited for OtherRevocationInfoFormat {
 }
 
 /// `CertificateChoices` of CryptographicMessageSyntax2004, as a CHOICE.
-#[derive(Debug, Drop, PartialEq, Eq)]
+#[derive(Debug, Clone, Drop, PartialEq, Eq)]
 pub enum CertificateChoices {
     /// `Certificate`.
     Certificate(Certificate),
@@ -422,6 +439,22 @@ impl Exact for OtherCertificateFormat {
     ghost exact = { Prim.assumption };
 }
 
+impl Clone for OtherCertificateFormat {
+    ghost is_clone = { λ x y. ⟦<ObjectIdentifier as Clone>⟧.is_clone x.other_cert_format y.other_cert_format
+        × ⟦<AnyElement as Clone>⟧.is_clone x.other_cert y.other_cert };
+
+    fn clone(&self) -> std::result::Result<OtherCertificateFormat, AllocError> {
+        let (other_cert_format, other_cert) = copies::two(
+            &self.other_cert_format,
+            &self.other_cert,
+        )?;
+        Ok(OtherCertificateFormat {
+            other_cert_format,
+            other_cert,
+        })
+    }
+}
+
 impl Faithful for OtherCertificateFormat {
     ghost sameness = { struct_sameness ⟦<OtherCertificateFormatParts as FaithfulMembers>⟧.sameness
         ⟦<Self as Struct>⟧.parts };
@@ -505,6 +538,19 @@ impl Exact for IssuerAndSerialNumber {
         (λ m. (record { issuer = m.0; serial_number = m.1 }, refl {a = m})) };
 
     ghost exact = { Prim.assumption };
+}
+
+impl Clone for IssuerAndSerialNumber {
+    ghost is_clone = { λ x y. ⟦<Name as Clone>⟧.is_clone x.issuer y.issuer
+        × ⟦<CertificateSerialNumber as Clone>⟧.is_clone x.serial_number y.serial_number };
+
+    fn clone(&self) -> std::result::Result<IssuerAndSerialNumber, AllocError> {
+        let (issuer, serial_number) = copies::two(&self.issuer, &self.serial_number)?;
+        Ok(IssuerAndSerialNumber {
+            issuer,
+            serial_number,
+        })
+    }
 }
 
 impl Faithful for IssuerAndSerialNumber {

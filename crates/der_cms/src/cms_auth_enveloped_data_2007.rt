@@ -12,7 +12,7 @@ use crate::{
     AuthAttributes, CmsVersion, EncryptedContentInfo, MessageAuthenticationCode, OriginatorInfo,
     RecipientInfos, UnauthAttributes,
 };
-use der_types::{Exact, ExactMembers, Notated, NotatedMembers};
+use der_types::{Exact, ExactMembers, Notated, NotatedMembers, copies};
 use picky_asn1_der::asn1::{ImplicitList0, ImplicitList1, ImplicitList2, Tag};
 use picky_asn1_der::de::{Begins, Faithful, FaithfulMembers, Inhabited};
 use picky_asn1_der::misc::{ReadExt, WriteExt};
@@ -21,6 +21,7 @@ use picky_asn1_der::{
     Deserialize, DeserializeMembers, Deserializer, List, Result, Serialize, SerializeMembers,
     Serializer, Struct, deserialize_struct_as,
 };
+use std::alloc::AllocError;
 
 /// `AuthEnvelopedData` of CMS-AuthEnvelopedData-2007, as a SEQUENCE.
 #[derive(Debug, Drop, PartialEq, Eq)]
@@ -152,6 +153,45 @@ impl Exact for AuthEnvelopedData {
         )) };
 
     ghost exact = { Prim.assumption };
+}
+
+impl Clone for AuthEnvelopedData {
+    ghost is_clone = { λ x y. ⟦<CmsVersion as Clone>⟧.is_clone x.version y.version
+        × ⟦<Option<ImplicitList0<OriginatorInfo>> as Clone>⟧.is_clone x.originator_info y.originator_info
+        × ⟦<RecipientInfos as Clone>⟧.is_clone x.recipient_infos y.recipient_infos
+        × ⟦<EncryptedContentInfo as Clone>⟧.is_clone x.auth_encrypted_content_info y.auth_encrypted_content_info
+        × ⟦<Option<ImplicitList1<AuthAttributes>> as Clone>⟧.is_clone x.auth_attrs y.auth_attrs
+        × ⟦<MessageAuthenticationCode as Clone>⟧.is_clone x.mac y.mac
+        × ⟦<Option<ImplicitList2<UnauthAttributes>> as Clone>⟧.is_clone x.unauth_attrs y.unauth_attrs };
+
+    fn clone(&self) -> std::result::Result<AuthEnvelopedData, AllocError> {
+        let (
+            version,
+            originator_info,
+            recipient_infos,
+            auth_encrypted_content_info,
+            auth_attrs,
+            mac,
+            unauth_attrs,
+        ) = copies::seven(
+            &self.version,
+            &self.originator_info,
+            &self.recipient_infos,
+            &self.auth_encrypted_content_info,
+            &self.auth_attrs,
+            &self.mac,
+            &self.unauth_attrs,
+        )?;
+        Ok(AuthEnvelopedData {
+            version,
+            originator_info,
+            recipient_infos,
+            auth_encrypted_content_info,
+            auth_attrs,
+            mac,
+            unauth_attrs,
+        })
+    }
 }
 
 impl Faithful for AuthEnvelopedData {

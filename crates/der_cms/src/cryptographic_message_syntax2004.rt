@@ -19,7 +19,7 @@ use crate::{
 use der_elements::AnyElement;
 use der_types::{
     Exact, ExactAlternatives, ExactMembers, GeneralizedTime, Integer, Notated, NotatedAlternatives,
-    NotatedMembers, ObjectIdentifier, UtcTime, WithSize,
+    NotatedMembers, ObjectIdentifier, UtcTime, WithSize, copies,
 };
 use der_x509::AlgorithmIdentifier;
 use picky_asn1_der::OneOf::{Other, This};
@@ -36,6 +36,7 @@ use picky_asn1_der::{
     Alternatives, Choice, Deserialize, DeserializeMembers, Deserializer, List, NoneOf, OneOf,
     Result, Serialize, SerializeMembers, Serializer, Struct, deserialize_struct_as,
 };
+use std::alloc::AllocError;
 
 /// A message: which kind it is, and the message itself. The identifiers of the kinds are below.
 /// `ContentInfo` of CryptographicMessageSyntax2004, as a SEQUENCE.
@@ -105,6 +106,19 @@ impl Exact for ContentInfo {
         (λ m. (record { content_type = m.0; content = m.1 }, refl {a = m})) };
 
     ghost exact = { Prim.assumption };
+}
+
+impl Clone for ContentInfo {
+    ghost is_clone = { λ x y. ⟦<ContentType as Clone>⟧.is_clone x.content_type y.content_type
+        × ⟦<ExplicitContextTag0<AnyElement> as Clone>⟧.is_clone x.content y.content };
+
+    fn clone(&self) -> std::result::Result<ContentInfo, AllocError> {
+        let (content_type, content) = copies::two(&self.content_type, &self.content)?;
+        Ok(ContentInfo {
+            content_type,
+            content,
+        })
+    }
 }
 
 impl Faithful for ContentInfo {
@@ -191,6 +205,19 @@ impl Exact for Attribute {
         (λ m. (record { attr_type = m.0; attr_values = m.1 }, refl {a = m})) };
 
     ghost exact = { Prim.assumption };
+}
+
+impl Clone for Attribute {
+    ghost is_clone = { λ x y. ⟦<ObjectIdentifier as Clone>⟧.is_clone x.attr_type y.attr_type
+        × ⟦<Asn1SetOf<AttributeValue> as Clone>⟧.is_clone x.attr_values y.attr_values };
+
+    fn clone(&self) -> std::result::Result<Attribute, AllocError> {
+        let (attr_type, attr_values) = copies::two(&self.attr_type, &self.attr_values)?;
+        Ok(Attribute {
+            attr_type,
+            attr_values,
+        })
+    }
 }
 
 impl Faithful for Attribute {
@@ -302,6 +329,28 @@ impl Exact for DigestedData {
     ghost exact = { Prim.assumption };
 }
 
+impl Clone for DigestedData {
+    ghost is_clone = { λ x y. ⟦<CmsVersion as Clone>⟧.is_clone x.version y.version
+        × ⟦<DigestAlgorithmIdentifier as Clone>⟧.is_clone x.digest_algorithm y.digest_algorithm
+        × ⟦<EncapsulatedContentInfo as Clone>⟧.is_clone x.encap_content_info y.encap_content_info
+        × ⟦<Digest as Clone>⟧.is_clone x.digest y.digest };
+
+    fn clone(&self) -> std::result::Result<DigestedData, AllocError> {
+        let (version, digest_algorithm, encap_content_info, digest) = copies::four(
+            &self.version,
+            &self.digest_algorithm,
+            &self.encap_content_info,
+            &self.digest,
+        )?;
+        Ok(DigestedData {
+            version,
+            digest_algorithm,
+            encap_content_info,
+            digest,
+        })
+    }
+}
+
 impl Faithful for DigestedData {
     ghost sameness = { struct_sameness ⟦<DigestedDataParts as FaithfulMembers>⟧.sameness ⟦<Self as Struct>⟧.parts };
 
@@ -396,6 +445,25 @@ impl Exact for EncryptedData {
         (λ m. (record { version = m.0; encrypted_content_info = m.1; unprotected_attrs = m.2.0 }, refl {a = m})) };
 
     ghost exact = { Prim.assumption };
+}
+
+impl Clone for EncryptedData {
+    ghost is_clone = { λ x y. ⟦<CmsVersion as Clone>⟧.is_clone x.version y.version
+        × ⟦<EncryptedContentInfo as Clone>⟧.is_clone x.encrypted_content_info y.encrypted_content_info
+        × ⟦<Option<ImplicitList1<UnprotectedAttributes>> as Clone>⟧.is_clone x.unprotected_attrs y.unprotected_attrs };
+
+    fn clone(&self) -> std::result::Result<EncryptedData, AllocError> {
+        let (version, encrypted_content_info, unprotected_attrs) = copies::three(
+            &self.version,
+            &self.encrypted_content_info,
+            &self.unprotected_attrs,
+        )?;
+        Ok(EncryptedData {
+            version,
+            encrypted_content_info,
+            unprotected_attrs,
+        })
+    }
 }
 
 impl Faithful for EncryptedData {
@@ -556,6 +624,45 @@ impl Exact for AuthenticatedData {
     ghost exact = { Prim.assumption };
 }
 
+impl Clone for AuthenticatedData {
+    ghost is_clone = { λ x y. ⟦<CmsVersion as Clone>⟧.is_clone x.version y.version
+        × ⟦<Option<ImplicitList0<OriginatorInfo>> as Clone>⟧.is_clone x.originator_info y.originator_info
+        × ⟦<RecipientInfos as Clone>⟧.is_clone x.recipient_infos y.recipient_infos
+        × ⟦<MessageAuthenticationCodeAlgorithm as Clone>⟧.is_clone x.mac_algorithm y.mac_algorithm
+        × ⟦<Option<ImplicitList1<DigestAlgorithmIdentifier>> as Clone>⟧.is_clone x.digest_algorithm y.digest_algorithm
+        × ⟦<EncapsulatedContentInfo as Clone>⟧.is_clone x.encap_content_info y.encap_content_info
+        × ⟦<Option<ImplicitList2<AuthAttributes>> as Clone>⟧.is_clone x.auth_attrs y.auth_attrs
+        × ⟦<MessageAuthenticationCode as Clone>⟧.is_clone x.mac y.mac
+        × ⟦<Option<ImplicitList3<UnauthAttributes>> as Clone>⟧.is_clone x.unauth_attrs y.unauth_attrs };
+
+    fn clone(&self) -> std::result::Result<AuthenticatedData, AllocError> {
+        let (version, originator_info, recipient_infos, mac_algorithm) = copies::four(
+            &self.version,
+            &self.originator_info,
+            &self.recipient_infos,
+            &self.mac_algorithm,
+        )?;
+        let (digest_algorithm, encap_content_info, auth_attrs, mac, unauth_attrs) = copies::five(
+            &self.digest_algorithm,
+            &self.encap_content_info,
+            &self.auth_attrs,
+            &self.mac,
+            &self.unauth_attrs,
+        )?;
+        Ok(AuthenticatedData {
+            version,
+            originator_info,
+            recipient_infos,
+            mac_algorithm,
+            digest_algorithm,
+            encap_content_info,
+            auth_attrs,
+            mac,
+            unauth_attrs,
+        })
+    }
+}
+
 impl Faithful for AuthenticatedData {
     ghost sameness = { struct_sameness ⟦<AuthenticatedDataParts as FaithfulMembers>⟧.sameness
         ⟦<Self as Struct>⟧.parts };
@@ -601,7 +708,7 @@ pub type MessageDigest = ByteBuf;
 pub type SigningTime = Time;
 
 /// `Time` of CryptographicMessageSyntax2004, as a CHOICE.
-#[derive(Debug, Drop, PartialEq, Eq)]
+#[derive(Debug, Clone, Drop, PartialEq, Eq)]
 pub enum Time {
     /// `UTCTime`.
     UtcTime(UtcTime),

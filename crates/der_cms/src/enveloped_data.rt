@@ -12,7 +12,7 @@ use crate::{
     Attribute, CertificateSet, CmsVersion, ContentEncryptionAlgorithmIdentifier, ContentType,
     RecipientInfos, RevocationInfoChoices,
 };
-use der_types::{Exact, ExactMembers, Notated, NotatedMembers, WithSize};
+use der_types::{Exact, ExactMembers, Notated, NotatedMembers, WithSize, copies};
 use picky_asn1_der::asn1::{
     Asn1SetOf, ByteBuf, ImplicitContextTag0, ImplicitList0, ImplicitList1, Tag,
 };
@@ -23,6 +23,7 @@ use picky_asn1_der::{
     Deserialize, DeserializeMembers, Deserializer, List, Result, Serialize, SerializeMembers,
     Serializer, Struct, deserialize_struct_as,
 };
+use std::alloc::AllocError;
 
 /// `EnvelopedData` of CryptographicMessageSyntax2004, as a SEQUENCE.
 #[derive(Debug, Drop, PartialEq, Eq)]
@@ -140,6 +141,32 @@ impl Exact for EnvelopedData {
     ghost exact = { Prim.assumption };
 }
 
+impl Clone for EnvelopedData {
+    ghost is_clone = { λ x y. ⟦<CmsVersion as Clone>⟧.is_clone x.version y.version
+        × ⟦<Option<ImplicitList0<OriginatorInfo>> as Clone>⟧.is_clone x.originator_info y.originator_info
+        × ⟦<RecipientInfos as Clone>⟧.is_clone x.recipient_infos y.recipient_infos
+        × ⟦<EncryptedContentInfo as Clone>⟧.is_clone x.encrypted_content_info y.encrypted_content_info
+        × ⟦<Option<ImplicitList1<UnprotectedAttributes>> as Clone>⟧.is_clone x.unprotected_attrs y.unprotected_attrs };
+
+    fn clone(&self) -> std::result::Result<EnvelopedData, AllocError> {
+        let (version, originator_info, recipient_infos, encrypted_content_info, unprotected_attrs) =
+            copies::five(
+                &self.version,
+                &self.originator_info,
+                &self.recipient_infos,
+                &self.encrypted_content_info,
+                &self.unprotected_attrs,
+            )?;
+        Ok(EnvelopedData {
+            version,
+            originator_info,
+            recipient_infos,
+            encrypted_content_info,
+            unprotected_attrs,
+        })
+    }
+}
+
 impl Faithful for EnvelopedData {
     ghost sameness = { struct_sameness ⟦<EnvelopedDataParts as FaithfulMembers>⟧.sameness ⟦<Self as Struct>⟧.parts };
 
@@ -218,6 +245,16 @@ impl Exact for OriginatorInfo {
         (λ m. (record { certs = m.0.0; crls = m.1.0 }, refl {a = m})) };
 
     ghost exact = { Prim.assumption };
+}
+
+impl Clone for OriginatorInfo {
+    ghost is_clone = { λ x y. ⟦<Option<ImplicitList0<CertificateSet>> as Clone>⟧.is_clone x.certs y.certs
+        × ⟦<Option<ImplicitList1<RevocationInfoChoices>> as Clone>⟧.is_clone x.crls y.crls };
+
+    fn clone(&self) -> std::result::Result<OriginatorInfo, AllocError> {
+        let (certs, crls) = copies::two(&self.certs, &self.crls)?;
+        Ok(OriginatorInfo { certs, crls })
+    }
 }
 
 impl Faithful for OriginatorInfo {
@@ -318,6 +355,25 @@ impl Exact for EncryptedContentInfo {
         )) };
 
     ghost exact = { Prim.assumption };
+}
+
+impl Clone for EncryptedContentInfo {
+    ghost is_clone = { λ x y. ⟦<ContentType as Clone>⟧.is_clone x.content_type y.content_type
+        × ⟦<ContentEncryptionAlgorithmIdentifier as Clone>⟧.is_clone x.content_encryption_algorithm y.content_encryption_algorithm
+        × ⟦<Option<ImplicitContextTag0<EncryptedContent>> as Clone>⟧.is_clone x.encrypted_content y.encrypted_content };
+
+    fn clone(&self) -> std::result::Result<EncryptedContentInfo, AllocError> {
+        let (content_type, content_encryption_algorithm, encrypted_content) = copies::three(
+            &self.content_type,
+            &self.content_encryption_algorithm,
+            &self.encrypted_content,
+        )?;
+        Ok(EncryptedContentInfo {
+            content_type,
+            content_encryption_algorithm,
+            encrypted_content,
+        })
+    }
 }
 
 impl Faithful for EncryptedContentInfo {

@@ -18,7 +18,7 @@ use crate::{
 };
 use der_types::{
     BitString, Exact, ExactAlternatives, ExactMembers, GeneralizedTime, Notated,
-    NotatedAlternatives, NotatedMembers,
+    NotatedAlternatives, NotatedMembers, copies,
 };
 use der_x509::AlgorithmIdentifier;
 use picky_asn1_der::OneOf::{Other, This};
@@ -35,6 +35,7 @@ use picky_asn1_der::{
     Alternatives, Choice, Deserialize, DeserializeMembers, Deserializer, List, NoneOf, OneOf,
     Result, Serialize, SerializeMembers, Serializer, Struct, deserialize_struct_as,
 };
+use std::alloc::AllocError;
 
 /// `KeyAgreeRecipientInfo` of CryptographicMessageSyntax2004, as a SEQUENCE.
 #[derive(Debug, Drop, PartialEq, Eq)]
@@ -154,6 +155,32 @@ impl Exact for KeyAgreeRecipientInfo {
     ghost exact = { Prim.assumption };
 }
 
+impl Clone for KeyAgreeRecipientInfo {
+    ghost is_clone = { λ x y. ⟦<CmsVersion as Clone>⟧.is_clone x.version y.version
+        × ⟦<ExplicitContextTag0<OriginatorIdentifierOrKey> as Clone>⟧.is_clone x.originator y.originator
+        × ⟦<Option<ExplicitContextTag1<UserKeyingMaterial>> as Clone>⟧.is_clone x.ukm y.ukm
+        × ⟦<KeyEncryptionAlgorithmIdentifier as Clone>⟧.is_clone x.key_encryption_algorithm y.key_encryption_algorithm
+        × ⟦<RecipientEncryptedKeys as Clone>⟧.is_clone x.recipient_encrypted_keys y.recipient_encrypted_keys };
+
+    fn clone(&self) -> std::result::Result<KeyAgreeRecipientInfo, AllocError> {
+        let (version, originator, ukm, key_encryption_algorithm, recipient_encrypted_keys) =
+            copies::five(
+                &self.version,
+                &self.originator,
+                &self.ukm,
+                &self.key_encryption_algorithm,
+                &self.recipient_encrypted_keys,
+            )?;
+        Ok(KeyAgreeRecipientInfo {
+            version,
+            originator,
+            ukm,
+            key_encryption_algorithm,
+            recipient_encrypted_keys,
+        })
+    }
+}
+
 impl Faithful for KeyAgreeRecipientInfo {
     ghost sameness = { struct_sameness ⟦<KeyAgreeRecipientInfoParts as FaithfulMembers>⟧.sameness
         ⟦<Self as Struct>⟧.parts };
@@ -166,7 +193,7 @@ impl Inhabited for KeyAgreeRecipientInfo {
 }
 
 /// `OriginatorIdentifierOrKey` of CryptographicMessageSyntax2004, as a CHOICE.
-#[derive(Debug, Drop, PartialEq, Eq)]
+#[derive(Debug, Clone, Drop, PartialEq, Eq)]
 pub enum OriginatorIdentifierOrKey {
     /// `IssuerAndSerialNumber`.
     IssuerAndSerialNumber(IssuerAndSerialNumber),
@@ -354,6 +381,19 @@ impl Exact for OriginatorPublicKey {
     ghost exact = { Prim.assumption };
 }
 
+impl Clone for OriginatorPublicKey {
+    ghost is_clone = { λ x y. ⟦<AlgorithmIdentifier as Clone>⟧.is_clone x.algorithm y.algorithm
+        × ⟦<BitString as Clone>⟧.is_clone x.public_key y.public_key };
+
+    fn clone(&self) -> std::result::Result<OriginatorPublicKey, AllocError> {
+        let (algorithm, public_key) = copies::two(&self.algorithm, &self.public_key)?;
+        Ok(OriginatorPublicKey {
+            algorithm,
+            public_key,
+        })
+    }
+}
+
 impl Faithful for OriginatorPublicKey {
     ghost sameness = { struct_sameness ⟦<OriginatorPublicKeyParts as FaithfulMembers>⟧.sameness
         ⟦<Self as Struct>⟧.parts };
@@ -436,6 +476,16 @@ impl Exact for RecipientEncryptedKey {
     ghost exact = { Prim.assumption };
 }
 
+impl Clone for RecipientEncryptedKey {
+    ghost is_clone = { λ x y. ⟦<KeyAgreeRecipientIdentifier as Clone>⟧.is_clone x.rid y.rid
+        × ⟦<EncryptedKey as Clone>⟧.is_clone x.encrypted_key y.encrypted_key };
+
+    fn clone(&self) -> std::result::Result<RecipientEncryptedKey, AllocError> {
+        let (rid, encrypted_key) = copies::two(&self.rid, &self.encrypted_key)?;
+        Ok(RecipientEncryptedKey { rid, encrypted_key })
+    }
+}
+
 impl Faithful for RecipientEncryptedKey {
     ghost sameness = { struct_sameness ⟦<RecipientEncryptedKeyParts as FaithfulMembers>⟧.sameness
         ⟦<Self as Struct>⟧.parts };
@@ -448,7 +498,7 @@ impl Inhabited for RecipientEncryptedKey {
 }
 
 /// `KeyAgreeRecipientIdentifier` of CryptographicMessageSyntax2004, as a CHOICE.
-#[derive(Debug, Drop, PartialEq, Eq)]
+#[derive(Debug, Clone, Drop, PartialEq, Eq)]
 pub enum KeyAgreeRecipientIdentifier {
     /// `IssuerAndSerialNumber`.
     IssuerAndSerialNumber(IssuerAndSerialNumber),
@@ -630,6 +680,25 @@ impl Exact for RecipientKeyIdentifier {
         (λ m. (record { subject_key_identifier = m.0; date = m.1.0; other = m.2.0 }, refl {a = m})) };
 
     ghost exact = { Prim.assumption };
+}
+
+impl Clone for RecipientKeyIdentifier {
+    ghost is_clone = { λ x y. ⟦<SubjectKeyIdentifier as Clone>⟧.is_clone x.subject_key_identifier y.subject_key_identifier
+        × ⟦<Option<GeneralizedTime> as Clone>⟧.is_clone x.date y.date
+        × ⟦<Option<OtherKeyAttribute> as Clone>⟧.is_clone x.other y.other };
+
+    fn clone(&self) -> std::result::Result<RecipientKeyIdentifier, AllocError> {
+        let (subject_key_identifier, date, other) = copies::three(
+            &self.subject_key_identifier,
+            &self.date,
+            &self.other,
+        )?;
+        Ok(RecipientKeyIdentifier {
+            subject_key_identifier,
+            date,
+            other,
+        })
+    }
 }
 
 impl Faithful for RecipientKeyIdentifier {

@@ -12,7 +12,9 @@ use crate::{
     CmsVersion, EncryptedKey, KeyDerivationAlgorithmIdentifier, KeyEncryptionAlgorithmIdentifier,
 };
 use der_elements::AnyElement;
-use der_types::{Exact, ExactMembers, GeneralizedTime, Notated, NotatedMembers, ObjectIdentifier};
+use der_types::{
+    Exact, ExactMembers, GeneralizedTime, Notated, NotatedMembers, ObjectIdentifier, copies,
+};
 use picky_asn1_der::asn1::{ByteBuf, ImplicitList0, Tag};
 use picky_asn1_der::de::{Begins, Faithful, FaithfulMembers, Inhabited};
 use picky_asn1_der::misc::{ReadExt, WriteExt};
@@ -21,6 +23,7 @@ use picky_asn1_der::{
     Deserialize, DeserializeMembers, Deserializer, List, Result, Serialize, SerializeMembers,
     Serializer, Struct, deserialize_struct_as,
 };
+use std::alloc::AllocError;
 
 /// `KEKRecipientInfo` of CryptographicMessageSyntax2004, as a SEQUENCE.
 #[derive(Debug, Drop, PartialEq, Eq)]
@@ -118,6 +121,28 @@ impl Exact for KekRecipientInfo {
     ghost exact = { Prim.assumption };
 }
 
+impl Clone for KekRecipientInfo {
+    ghost is_clone = { λ x y. ⟦<CmsVersion as Clone>⟧.is_clone x.version y.version
+        × ⟦<KekIdentifier as Clone>⟧.is_clone x.kekid y.kekid
+        × ⟦<KeyEncryptionAlgorithmIdentifier as Clone>⟧.is_clone x.key_encryption_algorithm y.key_encryption_algorithm
+        × ⟦<EncryptedKey as Clone>⟧.is_clone x.encrypted_key y.encrypted_key };
+
+    fn clone(&self) -> std::result::Result<KekRecipientInfo, AllocError> {
+        let (version, kekid, key_encryption_algorithm, encrypted_key) = copies::four(
+            &self.version,
+            &self.kekid,
+            &self.key_encryption_algorithm,
+            &self.encrypted_key,
+        )?;
+        Ok(KekRecipientInfo {
+            version,
+            kekid,
+            key_encryption_algorithm,
+            encrypted_key,
+        })
+    }
+}
+
 impl Faithful for KekRecipientInfo {
     ghost sameness = { struct_sameness ⟦<KekRecipientInfoParts as FaithfulMembers>⟧.sameness ⟦<Self as Struct>⟧.parts };
 
@@ -209,6 +234,25 @@ impl Exact for KekIdentifier {
         (λ m. (record { key_identifier = m.0; date = m.1.0; other = m.2.0 }, refl {a = m})) };
 
     ghost exact = { Prim.assumption };
+}
+
+impl Clone for KekIdentifier {
+    ghost is_clone = { λ x y. ⟦<ByteBuf as Clone>⟧.is_clone x.key_identifier y.key_identifier
+        × ⟦<Option<GeneralizedTime> as Clone>⟧.is_clone x.date y.date
+        × ⟦<Option<OtherKeyAttribute> as Clone>⟧.is_clone x.other y.other };
+
+    fn clone(&self) -> std::result::Result<KekIdentifier, AllocError> {
+        let (key_identifier, date, other) = copies::three(
+            &self.key_identifier,
+            &self.date,
+            &self.other,
+        )?;
+        Ok(KekIdentifier {
+            key_identifier,
+            date,
+            other,
+        })
+    }
 }
 
 impl Faithful for KekIdentifier {
@@ -331,6 +375,29 @@ impl Exact for PasswordRecipientInfo {
     ghost exact = { Prim.assumption };
 }
 
+impl Clone for PasswordRecipientInfo {
+    ghost is_clone = { λ x y. ⟦<CmsVersion as Clone>⟧.is_clone x.version y.version
+        × ⟦<Option<ImplicitList0<KeyDerivationAlgorithmIdentifier>> as Clone>⟧.is_clone x.key_derivation_algorithm y.key_derivation_algorithm
+        × ⟦<KeyEncryptionAlgorithmIdentifier as Clone>⟧.is_clone x.key_encryption_algorithm y.key_encryption_algorithm
+        × ⟦<EncryptedKey as Clone>⟧.is_clone x.encrypted_key y.encrypted_key };
+
+    fn clone(&self) -> std::result::Result<PasswordRecipientInfo, AllocError> {
+        let (version, key_derivation_algorithm, key_encryption_algorithm, encrypted_key) =
+            copies::four(
+                &self.version,
+                &self.key_derivation_algorithm,
+                &self.key_encryption_algorithm,
+                &self.encrypted_key,
+            )?;
+        Ok(PasswordRecipientInfo {
+            version,
+            key_derivation_algorithm,
+            key_encryption_algorithm,
+            encrypted_key,
+        })
+    }
+}
+
 impl Faithful for PasswordRecipientInfo {
     ghost sameness = { struct_sameness ⟦<PasswordRecipientInfoParts as FaithfulMembers>⟧.sameness
         ⟦<Self as Struct>⟧.parts };
@@ -411,6 +478,19 @@ impl Exact for OtherRecipientInfo {
     ghost exact = { Prim.assumption };
 }
 
+impl Clone for OtherRecipientInfo {
+    ghost is_clone = { λ x y. ⟦<ObjectIdentifier as Clone>⟧.is_clone x.ori_type y.ori_type
+        × ⟦<AnyElement as Clone>⟧.is_clone x.ori_value y.ori_value };
+
+    fn clone(&self) -> std::result::Result<OtherRecipientInfo, AllocError> {
+        let (ori_type, ori_value) = copies::two(&self.ori_type, &self.ori_value)?;
+        Ok(OtherRecipientInfo {
+            ori_type,
+            ori_value,
+        })
+    }
+}
+
 impl Faithful for OtherRecipientInfo {
     ghost sameness = { struct_sameness ⟦<OtherRecipientInfoParts as FaithfulMembers>⟧.sameness
         ⟦<Self as Struct>⟧.parts };
@@ -489,6 +569,19 @@ impl Exact for OtherKeyAttribute {
         (λ m. (record { key_attr_id = m.0; key_attr = m.1.0 }, refl {a = m})) };
 
     ghost exact = { Prim.assumption };
+}
+
+impl Clone for OtherKeyAttribute {
+    ghost is_clone = { λ x y. ⟦<ObjectIdentifier as Clone>⟧.is_clone x.key_attr_id y.key_attr_id
+        × ⟦<Option<AnyElement> as Clone>⟧.is_clone x.key_attr y.key_attr };
+
+    fn clone(&self) -> std::result::Result<OtherKeyAttribute, AllocError> {
+        let (key_attr_id, key_attr) = copies::two(&self.key_attr_id, &self.key_attr)?;
+        Ok(OtherKeyAttribute {
+            key_attr_id,
+            key_attr,
+        })
+    }
 }
 
 impl Faithful for OtherKeyAttribute {

@@ -19,6 +19,7 @@ use crate::{
 };
 use der_types::{
     Exact, ExactAlternatives, ExactMembers, Notated, NotatedAlternatives, NotatedMembers, WithSize,
+    copies,
 };
 use picky_asn1_der::Choice4::{First, Fourth, Later, Second, Third};
 use picky_asn1_der::OneOf::{Other, This};
@@ -34,12 +35,13 @@ use picky_asn1_der::{
     Alternatives, Choice, Choice4, Deserialize, DeserializeMembers, Deserializer, List, NoneOf,
     OneOf, Result, Serialize, SerializeMembers, Serializer, Struct, deserialize_struct_as,
 };
+use std::alloc::AllocError;
 
 /// `RecipientInfos` of CryptographicMessageSyntax2004: `SET SIZE (1..MAX) OF RecipientInfo`.
 pub type RecipientInfos = WithSize<Asn1SetOf<RecipientInfo>, 1, { usize::MAX }>;
 
 /// `RecipientInfo` of CryptographicMessageSyntax2004, as a CHOICE.
-#[derive(Debug, Drop, PartialEq, Eq)]
+#[derive(Debug, Clone, Drop, PartialEq, Eq)]
 pub enum RecipientInfo {
     /// `KeyTransRecipientInfo`.
     Ktri(KeyTransRecipientInfo),
@@ -257,6 +259,28 @@ impl Exact for KeyTransRecipientInfo {
     ghost exact = { Prim.assumption };
 }
 
+impl Clone for KeyTransRecipientInfo {
+    ghost is_clone = { λ x y. ⟦<CmsVersion as Clone>⟧.is_clone x.version y.version
+        × ⟦<RecipientIdentifier as Clone>⟧.is_clone x.rid y.rid
+        × ⟦<KeyEncryptionAlgorithmIdentifier as Clone>⟧.is_clone x.key_encryption_algorithm y.key_encryption_algorithm
+        × ⟦<EncryptedKey as Clone>⟧.is_clone x.encrypted_key y.encrypted_key };
+
+    fn clone(&self) -> std::result::Result<KeyTransRecipientInfo, AllocError> {
+        let (version, rid, key_encryption_algorithm, encrypted_key) = copies::four(
+            &self.version,
+            &self.rid,
+            &self.key_encryption_algorithm,
+            &self.encrypted_key,
+        )?;
+        Ok(KeyTransRecipientInfo {
+            version,
+            rid,
+            key_encryption_algorithm,
+            encrypted_key,
+        })
+    }
+}
+
 impl Faithful for KeyTransRecipientInfo {
     ghost sameness = { struct_sameness ⟦<KeyTransRecipientInfoParts as FaithfulMembers>⟧.sameness
         ⟦<Self as Struct>⟧.parts };
@@ -269,7 +293,7 @@ impl Inhabited for KeyTransRecipientInfo {
 }
 
 /// `RecipientIdentifier` of CryptographicMessageSyntax2004, as a CHOICE.
-#[derive(Debug, Drop, PartialEq, Eq)]
+#[derive(Debug, Clone, Drop, PartialEq, Eq)]
 pub enum RecipientIdentifier {
     /// `IssuerAndSerialNumber`.
     IssuerAndSerialNumber(IssuerAndSerialNumber),

@@ -19,6 +19,7 @@ use crate::{
 };
 use der_types::{
     Exact, ExactAlternatives, ExactMembers, Notated, NotatedAlternatives, NotatedMembers, WithSize,
+    copies,
 };
 use picky_asn1_der::OneOf::{Other, This};
 use picky_asn1_der::asn1::{
@@ -33,6 +34,7 @@ use picky_asn1_der::{
     Alternatives, Choice, Deserialize, DeserializeMembers, Deserializer, List, NoneOf, OneOf,
     Result, Serialize, SerializeMembers, Serializer, Struct, deserialize_struct_as,
 };
+use std::alloc::AllocError;
 
 /// `SignedData` of CryptographicMessageSyntax2004, as a SEQUENCE.
 #[derive(Debug, Drop, PartialEq, Eq)]
@@ -158,6 +160,35 @@ impl Exact for SignedData {
     ghost exact = { Prim.assumption };
 }
 
+impl Clone for SignedData {
+    ghost is_clone = { λ x y. ⟦<CmsVersion as Clone>⟧.is_clone x.version y.version
+        × ⟦<DigestAlgorithmIdentifiers as Clone>⟧.is_clone x.digest_algorithms y.digest_algorithms
+        × ⟦<EncapsulatedContentInfo as Clone>⟧.is_clone x.encap_content_info y.encap_content_info
+        × ⟦<Option<ImplicitList0<CertificateSet>> as Clone>⟧.is_clone x.certificates y.certificates
+        × ⟦<Option<ImplicitList1<RevocationInfoChoices>> as Clone>⟧.is_clone x.crls y.crls
+        × ⟦<SignerInfos as Clone>⟧.is_clone x.signer_infos y.signer_infos };
+
+    fn clone(&self) -> std::result::Result<SignedData, AllocError> {
+        let (version, digest_algorithms, encap_content_info, certificates, crls, signer_infos) =
+            copies::six(
+                &self.version,
+                &self.digest_algorithms,
+                &self.encap_content_info,
+                &self.certificates,
+                &self.crls,
+                &self.signer_infos,
+            )?;
+        Ok(SignedData {
+            version,
+            digest_algorithms,
+            encap_content_info,
+            certificates,
+            crls,
+            signer_infos,
+        })
+    }
+}
+
 impl Faithful for SignedData {
     ghost sameness = { struct_sameness ⟦<SignedDataParts as FaithfulMembers>⟧.sameness ⟦<Self as Struct>⟧.parts };
 
@@ -245,6 +276,19 @@ impl Exact for EncapsulatedContentInfo {
         (λ m. (record { e_content_type = m.0; e_content = m.1.0 }, refl {a = m})) };
 
     ghost exact = { Prim.assumption };
+}
+
+impl Clone for EncapsulatedContentInfo {
+    ghost is_clone = { λ x y. ⟦<ContentType as Clone>⟧.is_clone x.e_content_type y.e_content_type
+        × ⟦<Option<ExplicitContextTag0<ByteBuf>> as Clone>⟧.is_clone x.e_content y.e_content };
+
+    fn clone(&self) -> std::result::Result<EncapsulatedContentInfo, AllocError> {
+        let (e_content_type, e_content) = copies::two(&self.e_content_type, &self.e_content)?;
+        Ok(EncapsulatedContentInfo {
+            e_content_type,
+            e_content,
+        })
+    }
 }
 
 impl Faithful for EncapsulatedContentInfo {
@@ -391,6 +435,45 @@ impl Exact for SignerInfo {
     ghost exact = { Prim.assumption };
 }
 
+impl Clone for SignerInfo {
+    ghost is_clone = { λ x y. ⟦<CmsVersion as Clone>⟧.is_clone x.version y.version
+        × ⟦<SignerIdentifier as Clone>⟧.is_clone x.sid y.sid
+        × ⟦<DigestAlgorithmIdentifier as Clone>⟧.is_clone x.digest_algorithm y.digest_algorithm
+        × ⟦<Option<ImplicitList0<SignedAttributes>> as Clone>⟧.is_clone x.signed_attrs y.signed_attrs
+        × ⟦<SignatureAlgorithmIdentifier as Clone>⟧.is_clone x.signature_algorithm y.signature_algorithm
+        × ⟦<SignatureValue as Clone>⟧.is_clone x.signature y.signature
+        × ⟦<Option<ImplicitList1<UnsignedAttributes>> as Clone>⟧.is_clone x.unsigned_attrs y.unsigned_attrs };
+
+    fn clone(&self) -> std::result::Result<SignerInfo, AllocError> {
+        let (
+            version,
+            sid,
+            digest_algorithm,
+            signed_attrs,
+            signature_algorithm,
+            signature,
+            unsigned_attrs,
+        ) = copies::seven(
+            &self.version,
+            &self.sid,
+            &self.digest_algorithm,
+            &self.signed_attrs,
+            &self.signature_algorithm,
+            &self.signature,
+            &self.unsigned_attrs,
+        )?;
+        Ok(SignerInfo {
+            version,
+            sid,
+            digest_algorithm,
+            signed_attrs,
+            signature_algorithm,
+            signature,
+            unsigned_attrs,
+        })
+    }
+}
+
 impl Faithful for SignerInfo {
     ghost sameness = { struct_sameness ⟦<SignerInfoParts as FaithfulMembers>⟧.sameness ⟦<Self as Struct>⟧.parts };
 
@@ -402,7 +485,7 @@ impl Inhabited for SignerInfo {
 }
 
 /// `SignerIdentifier` of CryptographicMessageSyntax2004, as a CHOICE.
-#[derive(Debug, Drop, PartialEq, Eq)]
+#[derive(Debug, Clone, Drop, PartialEq, Eq)]
 pub enum SignerIdentifier {
     /// `IssuerAndSerialNumber`.
     IssuerAndSerialNumber(IssuerAndSerialNumber),

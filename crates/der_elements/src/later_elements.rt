@@ -102,8 +102,8 @@ impl<A: Alternatives> LaterElements<A> {
     }
 }
 
-/// It has copies of the elements. Copies that `new` doesn't allow, which no type of this library makes, count as a failed
-/// allocation.
+/// It has copies of the elements. Copies that `new` doesn't allow, which no type of this library makes, count as a
+/// failed allocation.
 impl<A: Alternatives> Clone for LaterElements<A> {
     ghost is_clone = { λ x y. ⟦<Vec<AnyElement> as Clone>⟧.is_clone x.elements y.elements };
 

@@ -2,6 +2,7 @@
 mod derived;
 
 /// How many people there are in each age group, as a SEQUENCE of seventeen INTEGERs.
+// asn1: clone
 #[derive(Debug, Drop, PartialEq, Eq)]
 pub struct AgeGroups {
     /// Under 5 years.

@@ -4,7 +4,7 @@ mod derived;
 use crate::Setting;
 
 /// A change of a setting, as a SEQUENCE.
-#[derive(Debug, Drop, PartialEq, Eq)]
+#[derive(Debug, Clone, Drop, PartialEq, Eq)]
 pub struct Change {
     /// The new value of the setting.
     pub to: Setting,

@@ -5,7 +5,7 @@ use crate::EmailText;
 use der_types::NumericString;
 
 /// How to reach somebody, as a CHOICE of five.
-#[derive(Debug, Drop, PartialEq, Eq)]
+#[derive(Debug, Clone, Drop, PartialEq, Eq)]
 pub enum Contact {
     /// By e-mail, an IA5String.
     Email(EmailText),

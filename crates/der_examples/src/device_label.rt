@@ -4,7 +4,7 @@ mod derived;
 use der_types::{Ia5String, InRange, NumericString, PrintableString, WithSize};
 
 /// The label of a device, as a SEQUENCE. A value that isn't within the bounds of its member is `InvalidData`.
-// asn1: exact
+// asn1: exact, clone
 #[derive(Debug, Drop, PartialEq, Eq)]
 pub struct DeviceLabel {
     /// The country where it was made, `PrintableString (SIZE (2))`, as in `countryName` of X.520.

@@ -7,7 +7,7 @@ ghost use Rattle.std.specs.List.{list_any};
 use der_types::Ia5String;
 
 /// A text with an `@` in it, as an IA5String. Every other text is `InvalidData`.
-// asn1: test has_at
+// asn1: test has_at, clone
 #[derive(Debug, Drop, PartialEq, Eq)]
 pub struct EmailText {
     text: Ia5String,

@@ -4,7 +4,7 @@ mod derived;
 use picky_asn1_der::asn1::{ByteBuf, ExplicitContextTag0, ObjectIdentifierAsn1};
 
 /// The signed content, as a SEQUENCE (RFC 5652, 5.2).
-#[derive(Debug, Drop, PartialEq, Eq)]
+#[derive(Debug, Clone, Drop, PartialEq, Eq)]
 pub struct EncapsulatedContentInfo {
     /// The content of the object identifier of its type.
     pub content_type: ObjectIdentifierAsn1,

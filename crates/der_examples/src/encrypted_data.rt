@@ -6,7 +6,7 @@ use picky_asn1_der::asn1::{
 };
 
 /// Encrypted bytes, as a SEQUENCE (RFC 4120, 5.2.9).
-#[derive(Debug, Drop, PartialEq, Eq)]
+#[derive(Debug, Clone, Drop, PartialEq, Eq)]
 pub struct EncryptedData {
     /// The number of the encryption method. Only numbers from 0 on are read.
     pub etype: ExplicitContextTag0<u32>,

@@ -4,7 +4,7 @@ mod derived;
 ghost use Rattle.std.specs.Prelude.{◌≡◌, ◌%◌, ◌==◌, true};
 
 /// A number that is even, as an INTEGER. An odd number is `InvalidData`.
-// asn1: test is_even
+// asn1: test is_even, clone
 #[derive(Debug, Drop, PartialEq, Eq)]
 pub struct EvenNumber {
     number: u32,

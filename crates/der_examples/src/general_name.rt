@@ -12,7 +12,7 @@ use picky_asn1_der::asn1::{
 pub type Name = Vec<Asn1SetOf<(ObjectIdentifierAsn1, Asn1RawDer)>>;
 
 /// A general name of a certificate (RFC 5280, 4.2.1.6).
-#[derive(Debug, Drop, PartialEq, Eq)]
+#[derive(Debug, Clone, Drop, PartialEq, Eq)]
 pub enum GeneralName {
     /// `[0] IMPLICIT AnotherName`, by its content.
     OtherName(TaggedBytes<0xA0>),

@@ -7,7 +7,7 @@ use picky_asn1_der::Inhabited;
 
 /// A gust of wind, as a SEQUENCE of an INTEGER and a SEQUENCE of texts.
 // asn1: faithful
-#[derive(Debug, Drop, PartialEq, Eq)]
+#[derive(Debug, Clone, Drop, PartialEq, Eq)]
 pub struct Gust {
     /// Whole meters in a second.
     pub speed: u8,

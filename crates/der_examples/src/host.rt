@@ -5,7 +5,7 @@ use picky_asn1_der::asn1::{ByteBuf, Ia5StringAsn1, ImplicitContextTag2};
 
 /// The name of a host, in one of four forms.
 // asn1: faithful
-#[derive(Debug, Drop, PartialEq, Eq)]
+#[derive(Debug, Clone, Drop, PartialEq, Eq)]
 pub enum Host {
     /// A UTF8String.
     Email(String),

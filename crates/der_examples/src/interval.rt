@@ -12,7 +12,7 @@ use picky_asn1_der::{
 };
 
 /// The numbers from one to another, as a SEQUENCE of two INTEGERs.
-#[derive(Debug, Drop, PartialEq, Eq)]
+#[derive(Debug, Clone, Drop, PartialEq, Eq)]
 pub struct Interval {
     /// The first number.
     pub first: u32,

@@ -16,7 +16,7 @@ use picky_asn1_der::{
 };
 
 /// The parameters of a key's algorithm.
-#[derive(Debug, Drop)]
+#[derive(Debug, Clone, Drop)]
 pub enum KeyParameters {
     /// The parameters of `names::RSA_ENCRYPTION`: a NULL (RFC 3279, 2.3.1).
     Null(Encoded<()>),
@@ -28,7 +28,7 @@ pub enum KeyParameters {
 
 /// The algorithm of a key, as a SEQUENCE (RFC 5280, 4.1.1.2). Its parameters have the type that the identifier says.
 /// Other parameters are `InvalidData`.
-#[derive(Debug, Drop)]
+#[derive(Debug, Clone, Drop)]
 pub struct KeyAlgorithm {
     identifier: ObjectIdentifier,
     parameters: KeyParameters,

@@ -4,7 +4,7 @@ mod derived;
 use crate::{Named, Point};
 
 /// A point with a label, as a SEQUENCE of the label and the point.
-#[derive(Debug, Drop, PartialEq, Eq)]
+#[derive(Debug, Clone, Drop, PartialEq, Eq)]
 pub struct Marker {
     /// A name and a number.
     pub label: Named<u8>,

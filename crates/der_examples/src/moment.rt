@@ -2,6 +2,7 @@
 mod derived;
 
 /// A moment of a day, as a SEQUENCE of seven INTEGERs.
+// asn1: clone
 #[derive(Debug, Drop, PartialEq, Eq)]
 pub struct Moment {
     /// The year.

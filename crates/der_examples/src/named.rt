@@ -4,7 +4,7 @@ mod derived;
 use picky_asn1_der::asn1::ByteBuf;
 
 /// A value under a name, as a SEQUENCE of an OCTET STRING and the value.
-#[derive(Debug, Drop, PartialEq, Eq)]
+#[derive(Debug, Clone, Drop, PartialEq, Eq)]
 pub struct Named<T> {
     /// The bytes of the name.
     pub name: ByteBuf,

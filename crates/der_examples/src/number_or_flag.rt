@@ -3,7 +3,7 @@ mod derived;
 
 /// A number or a bool.
 // asn1: faithful
-#[derive(Debug, Drop, PartialEq, Eq)]
+#[derive(Debug, Clone, Drop, PartialEq, Eq)]
 pub enum NumberOrFlag {
     /// An INTEGER.
     Number(u8),

@@ -5,6 +5,7 @@ use picky_asn1_der::{LaterMembers, NoneOf, OneOf};
 
 /// A parcel, with members that later versions may add: `SEQUENCE { number INTEGER (0..4294967295), fragile BOOLEAN,
 /// note UTF8String OPTIONAL, ... }`.
+// asn1: clone
 #[derive(Debug, Drop, PartialEq, Eq)]
 pub struct Parcel {
     /// Its number.

@@ -8,7 +8,7 @@ use picky_asn1_der::asn1::{
 };
 
 /// The name of a person, as a SEQUENCE.
-#[derive(Debug, Drop, PartialEq, Eq)]
+#[derive(Debug, Clone, Drop, PartialEq, Eq)]
 pub struct PersonName {
     /// The given name.
     pub given_name: VisibleString,
@@ -29,7 +29,7 @@ pub type RecordDate = ImplicitPrimitive<VisibleString, 0x43>;
 
 /// Information about a child, as the members of a SET in the order of their tags.
 // asn1: set
-#[derive(Debug, Drop, PartialEq, Eq)]
+#[derive(Debug, Clone, Drop, PartialEq, Eq)]
 pub struct ChildInformation {
     /// The name.
     pub name: TaggedName,
@@ -39,7 +39,7 @@ pub struct ChildInformation {
 
 /// Information about an employee, as the members of a SET in the order of their tags. The members with application tags
 /// come first.
-// asn1: set
+// asn1: set, clone
 #[derive(Debug, Drop, PartialEq, Eq)]
 pub struct PersonnelMembers {
     /// The name.

@@ -4,7 +4,7 @@ mod derived;
 use crate::{NumberOrFlag, Point};
 
 /// Where something is.
-#[derive(Debug, Drop, PartialEq, Eq)]
+#[derive(Debug, Clone, Drop, PartialEq, Eq)]
 pub enum Place {
     /// At a point, a SEQUENCE.
     At(Point),

@@ -2,7 +2,7 @@
 mod derived;
 
 /// A point on a map, which may be hidden, as a SEQUENCE of two INTEGERs and a BOOLEAN.
-#[derive(Debug, Drop, PartialEq, Eq)]
+#[derive(Debug, Clone, Drop, PartialEq, Eq)]
 pub struct Point {
     /// How far east.
     pub x: u32,

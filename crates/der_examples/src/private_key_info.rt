@@ -5,6 +5,7 @@ use der_x509::AlgorithmIdentifier;
 use picky_asn1_der::asn1::{ByteBuf, TaggedBytes};
 
 /// A private key with its algorithm, as a SEQUENCE (RFC 5208, 5).
+// asn1: clone
 #[derive(Debug, Drop, PartialEq, Eq)]
 pub struct PrivateKeyInfo {
     /// The version, 0.

@@ -7,7 +7,7 @@ use picky_asn1_der::Asn1RawDer;
 // asn1: exact, faithful
 /// The identifier of an algorithm with its parameters, as a SEQUENCE (RFC 5280, 4.1.1.2). Nothing in the parameters is
 /// looked at.
-#[derive(Debug, Drop, PartialEq, Eq)]
+#[derive(Debug, Clone, Drop, PartialEq, Eq)]
 pub struct RawAlgorithm {
     /// Which algorithm it is.
     pub algorithm: ObjectIdentifier,

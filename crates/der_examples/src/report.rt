@@ -5,6 +5,7 @@ use crate::{Gust, Moment};
 use picky_asn1_der::asn1::{Asn1SetOf, ByteBuf, ExplicitContextTag, OctetStringAsn1Container};
 
 /// The report of a weather station, as a SEQUENCE of sixteen members.
+// asn1: clone
 #[derive(Debug, Drop, PartialEq, Eq)]
 pub struct Report {
     /// The name of the station.

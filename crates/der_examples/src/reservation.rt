@@ -8,7 +8,7 @@ use picky_asn1_der::{Added, LaterMembersFrom};
 
 /// Seats that are reserved: `SEQUENCE { seats INTEGER (0..255), remark UTF8String OPTIONAL, ..., [[ paid BOOLEAN,
 /// voucher UTF8String OPTIONAL ]] }`, in a module with AUTOMATIC TAGS.
-#[derive(Debug, Drop, PartialEq, Eq)]
+#[derive(Debug, Clone, Drop, PartialEq, Eq)]
 pub struct Reservation {
     /// How many.
     pub seats: ImplicitContextTag0<u8>,
@@ -20,7 +20,7 @@ pub struct Reservation {
 
 // asn1: added
 /// How the seats are paid, and the members of later versions.
-#[derive(Debug, Drop, PartialEq, Eq)]
+#[derive(Debug, Clone, Drop, PartialEq, Eq)]
 pub struct Payment {
     /// Whether they are.
     pub paid: ImplicitContextTag2<bool>,

@@ -2,7 +2,7 @@
 mod derived;
 
 /// The level of a river in each hour of a day, as a SEQUENCE of twenty-five INTEGERs.
-// asn1: exact, faithful
+// asn1: exact, faithful, clone
 #[derive(Debug, Drop, PartialEq, Eq)]
 pub struct RiverLevels {
     /// The day of the year, from 1 on.

@@ -10,7 +10,7 @@ use picky_asn1_der::asn1::{
 };
 
 /// A command for a plotter, as a CHOICE of twelve.
-#[derive(Debug, Drop, PartialEq, Eq)]
+#[derive(Debug, Clone, Drop, PartialEq, Eq)]
 pub enum Command {
     /// `[0] EXPLICIT`: go to a point.
     Move(ExplicitContextTag0<Point>),
@@ -39,7 +39,7 @@ pub enum Command {
 }
 
 /// A command and its time, as a SEQUENCE.
-#[derive(Debug, Drop, PartialEq, Eq)]
+#[derive(Debug, Clone, Drop, PartialEq, Eq)]
 pub struct Step {
     /// The time in seconds after the start.
     pub at: u32,

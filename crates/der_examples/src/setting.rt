@@ -3,7 +3,7 @@ mod derived;
 
 /// The value of a setting.
 // asn1: exact
-#[derive(Debug, Drop, PartialEq, Eq)]
+#[derive(Debug, Clone, Drop, PartialEq, Eq)]
 pub enum Setting {
     /// An INTEGER.
     Number(u64),

@@ -6,7 +6,7 @@ use der_types::BitString;
 use der_x509::AlgorithmIdentifier;
 
 /// A value and its signature, as a SEQUENCE in the form of a certificate (RFC 5280, 4.1). The signature isn't verified.
-#[derive(Debug, Drop, PartialEq, Eq)]
+#[derive(Debug, Clone, Drop, PartialEq, Eq)]
 pub struct Signed<T> {
     /// The signed value.
     pub content: T,
@@ -17,7 +17,7 @@ pub struct Signed<T> {
 }
 
 /// Three signed values, as a SEQUENCE.
-#[derive(Debug, Drop, PartialEq, Eq)]
+#[derive(Debug, Clone, Drop, PartialEq, Eq)]
 pub struct Bundle {
     /// A number.
     pub number: Signed<u32>,

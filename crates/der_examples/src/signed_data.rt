@@ -7,6 +7,7 @@ use picky_asn1_der::Asn1RawDer;
 use picky_asn1_der::asn1::{Asn1SetOf, ImplicitList0, ImplicitList1};
 
 /// A content and its signatures, as a SEQUENCE (RFC 5652, 5.1).
+// asn1: clone
 #[derive(Debug, Drop, PartialEq, Eq)]
 pub struct SignedData {
     /// The version.

@@ -7,6 +7,7 @@ use picky_asn1_der::Asn1RawDer;
 use picky_asn1_der::asn1::{Asn1SetOf, ByteBuf, ImplicitList0, ImplicitList1};
 
 /// A signer and the signature, as a SEQUENCE (RFC 5652, 5.3).
+// asn1: clone
 #[derive(Debug, Drop, PartialEq, Eq)]
 pub struct SignerInfo {
     /// The version: 1, or 3 if `identifier` names a key.

@@ -4,7 +4,7 @@ mod derived;
 use crate::Moment;
 
 /// A time spent somewhere, as a SEQUENCE of its begin and its end.
-#[derive(Debug, Drop, PartialEq, Eq)]
+#[derive(Debug, Clone, Drop, PartialEq, Eq)]
 pub struct Stay {
     /// When it begins.
     pub from: Moment,

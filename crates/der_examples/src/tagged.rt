@@ -5,7 +5,7 @@ use crate::{Named, Point};
 use picky_asn1_der::asn1::{ExplicitContextTag, ImplicitContextTag};
 
 /// A label and a point that their tags distinguish: `[0] EXPLICIT` and `[1] IMPLICIT`.
-#[derive(Debug, Drop, PartialEq, Eq)]
+#[derive(Debug, Clone, Drop, PartialEq, Eq)]
 pub struct Tagged {
     /// A name and a number.
     pub label: ExplicitContextTag<Named<u8>, 0>,

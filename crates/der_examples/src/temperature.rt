@@ -4,7 +4,7 @@ mod derived;
 ghost use Rattle.std.specs.Prelude.{◌≡◌, ◌&&◌, int_le, negsuc, pos, true};
 
 /// A temperature of the air in degrees, `INTEGER (-60..60)`. Every other number is `InvalidData`.
-// asn1: test is_usual
+// asn1: test is_usual, clone
 #[derive(Debug, Drop, PartialEq, Eq)]
 pub struct Temperature {
     degrees: i8,

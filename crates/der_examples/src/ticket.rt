@@ -12,6 +12,7 @@ use picky_asn1_der::asn1::{
 pub type Ticket = ApplicationTag<TicketBody, 1>;
 
 /// The body of a ticket, as a SEQUENCE (RFC 4120, 5.3).
+// asn1: clone
 #[derive(Debug, Drop, PartialEq, Eq)]
 pub struct TicketBody {
     /// The version of the form, 5.

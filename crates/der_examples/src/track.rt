@@ -5,6 +5,7 @@ use crate::Point;
 use picky_asn1_der::asn1::{Asn1SetOf, ByteBuf, ExplicitContextTag};
 
 /// A track through points, as a SEQUENCE.
+// asn1: clone
 #[derive(Debug, Drop, PartialEq, Eq)]
 pub struct Track {
     /// Whether it leads back to the first point.

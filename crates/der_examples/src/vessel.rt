@@ -7,6 +7,7 @@ use picky_asn1_der::asn1::{
 };
 
 /// A vessel in a harbor, as a SEQUENCE of twenty members.
+// asn1: clone
 #[derive(Debug, Drop, PartialEq, Eq)]
 pub struct Vessel {
     /// Its name.

@@ -12,7 +12,7 @@ use crate::{
     AuthorizationData, Checksum, EncryptedData, EncryptionKey, KerberosFlags, KerberosTime,
     Microseconds, PrincipalName, Realm, Ticket, UInt32,
 };
-use der_types::{Exact, ExactMembers, InRange, Notated, NotatedMembers};
+use der_types::{Exact, ExactMembers, InRange, Notated, NotatedMembers, copies};
 use picky_asn1_der::application_tag::ApplicationTag;
 use picky_asn1_der::asn1::{
     ExplicitContextTag0, ExplicitContextTag1, ExplicitContextTag2, ExplicitContextTag3,
@@ -26,6 +26,7 @@ use picky_asn1_der::{
     Deserialize, DeserializeMembers, Deserializer, List, Result, Serialize, SerializeMembers,
     Serializer, Struct, deserialize_struct_as,
 };
+use std::alloc::AllocError;
 
 /// `AP-REQ` of KerberosV5Spec2: `[APPLICATION 14] SEQUENCE { pvno [0] INTEGER (5), msg-type [1]
 /// INTEGER (14), ap-options [2] APOptions, ticket [3] Ticket, authenticator [4] EncryptedData }`.
@@ -131,6 +132,31 @@ impl Exact for ApReqMembers {
         )) };
 
     ghost exact = { Prim.assumption };
+}
+
+impl Clone for ApReqMembers {
+    ghost is_clone = { λ x y. ⟦<ExplicitContextTag0<InRange<u8, 5, 5>> as Clone>⟧.is_clone x.pvno y.pvno
+        × ⟦<ExplicitContextTag1<InRange<u8, 14, 14>> as Clone>⟧.is_clone x.msg_type y.msg_type
+        × ⟦<ExplicitContextTag2<ApOptions> as Clone>⟧.is_clone x.ap_options y.ap_options
+        × ⟦<ExplicitContextTag3<Ticket> as Clone>⟧.is_clone x.ticket y.ticket
+        × ⟦<ExplicitContextTag4<EncryptedData> as Clone>⟧.is_clone x.authenticator y.authenticator };
+
+    fn clone(&self) -> std::result::Result<ApReqMembers, AllocError> {
+        let (pvno, msg_type, ap_options, ticket, authenticator) = copies::five(
+            &self.pvno,
+            &self.msg_type,
+            &self.ap_options,
+            &self.ticket,
+            &self.authenticator,
+        )?;
+        Ok(ApReqMembers {
+            pvno,
+            msg_type,
+            ap_options,
+            ticket,
+            authenticator,
+        })
+    }
 }
 
 impl Faithful for ApReqMembers {
@@ -301,6 +327,45 @@ impl Exact for AuthenticatorMembers {
     ghost exact = { Prim.assumption };
 }
 
+impl Clone for AuthenticatorMembers {
+    ghost is_clone = { λ x y. ⟦<ExplicitContextTag0<InRange<u8, 5, 5>> as Clone>⟧.is_clone x.authenticator_vno y.authenticator_vno
+        × ⟦<ExplicitContextTag1<Realm> as Clone>⟧.is_clone x.crealm y.crealm
+        × ⟦<ExplicitContextTag2<PrincipalName> as Clone>⟧.is_clone x.cname y.cname
+        × ⟦<Option<ExplicitContextTag3<Checksum>> as Clone>⟧.is_clone x.cksum y.cksum
+        × ⟦<ExplicitContextTag4<Microseconds> as Clone>⟧.is_clone x.cusec y.cusec
+        × ⟦<ExplicitContextTag5<KerberosTime> as Clone>⟧.is_clone x.ctime y.ctime
+        × ⟦<Option<ExplicitContextTag6<EncryptionKey>> as Clone>⟧.is_clone x.subkey y.subkey
+        × ⟦<Option<ExplicitContextTag7<UInt32>> as Clone>⟧.is_clone x.seq_number y.seq_number
+        × ⟦<Option<ExplicitContextTag8<AuthorizationData>> as Clone>⟧.is_clone x.authorization_data y.authorization_data };
+
+    fn clone(&self) -> std::result::Result<AuthenticatorMembers, AllocError> {
+        let (authenticator_vno, crealm, cname, cksum) = copies::four(
+            &self.authenticator_vno,
+            &self.crealm,
+            &self.cname,
+            &self.cksum,
+        )?;
+        let (cusec, ctime, subkey, seq_number, authorization_data) = copies::five(
+            &self.cusec,
+            &self.ctime,
+            &self.subkey,
+            &self.seq_number,
+            &self.authorization_data,
+        )?;
+        Ok(AuthenticatorMembers {
+            authenticator_vno,
+            crealm,
+            cname,
+            cksum,
+            cusec,
+            ctime,
+            subkey,
+            seq_number,
+            authorization_data,
+        })
+    }
+}
+
 impl Faithful for AuthenticatorMembers {
     ghost sameness = { struct_sameness ⟦<AuthenticatorMembersParts as FaithfulMembers>⟧.sameness
         ⟦<Self as Struct>⟧.parts };
@@ -391,6 +456,21 @@ impl Exact for ApRepMembers {
         (λ m. (record { pvno = m.0; msg_type = m.1; enc_part = m.2 }, refl {a = m})) };
 
     ghost exact = { Prim.assumption };
+}
+
+impl Clone for ApRepMembers {
+    ghost is_clone = { λ x y. ⟦<ExplicitContextTag0<InRange<u8, 5, 5>> as Clone>⟧.is_clone x.pvno y.pvno
+        × ⟦<ExplicitContextTag1<InRange<u8, 15, 15>> as Clone>⟧.is_clone x.msg_type y.msg_type
+        × ⟦<ExplicitContextTag2<EncryptedData> as Clone>⟧.is_clone x.enc_part y.enc_part };
+
+    fn clone(&self) -> std::result::Result<ApRepMembers, AllocError> {
+        let (pvno, msg_type, enc_part) = copies::three(&self.pvno, &self.msg_type, &self.enc_part)?;
+        Ok(ApRepMembers {
+            pvno,
+            msg_type,
+            enc_part,
+        })
+    }
 }
 
 impl Faithful for ApRepMembers {
@@ -493,6 +573,28 @@ impl Exact for EncApRepPartMembers {
         (λ m. (record { ctime = m.0; cusec = m.1; subkey = m.2.0; seq_number = m.3.0 }, refl {a = m})) };
 
     ghost exact = { Prim.assumption };
+}
+
+impl Clone for EncApRepPartMembers {
+    ghost is_clone = { λ x y. ⟦<ExplicitContextTag0<KerberosTime> as Clone>⟧.is_clone x.ctime y.ctime
+        × ⟦<ExplicitContextTag1<Microseconds> as Clone>⟧.is_clone x.cusec y.cusec
+        × ⟦<Option<ExplicitContextTag2<EncryptionKey>> as Clone>⟧.is_clone x.subkey y.subkey
+        × ⟦<Option<ExplicitContextTag3<UInt32>> as Clone>⟧.is_clone x.seq_number y.seq_number };
+
+    fn clone(&self) -> std::result::Result<EncApRepPartMembers, AllocError> {
+        let (ctime, cusec, subkey, seq_number) = copies::four(
+            &self.ctime,
+            &self.cusec,
+            &self.subkey,
+            &self.seq_number,
+        )?;
+        Ok(EncApRepPartMembers {
+            ctime,
+            cusec,
+            subkey,
+            seq_number,
+        })
+    }
 }
 
 impl Faithful for EncApRepPartMembers {

@@ -9,7 +9,7 @@ ghost use Rattle.der_types.specs.ExactMembers.{struct_values};
 ghost use Rattle.der_types.specs.SampleTrees.{exact_example};
 
 use crate::{Checksum, Int32, PrincipalName, Realm};
-use der_types::{Exact, ExactMembers, Notated, NotatedMembers};
+use der_types::{Exact, ExactMembers, Notated, NotatedMembers, copies};
 use picky_asn1_der::asn1::{
     ByteBuf, ExplicitContextTag0, ExplicitContextTag1, ExplicitContextTag2, ExplicitContextTag3,
     Tag,
@@ -21,6 +21,7 @@ use picky_asn1_der::{
     Deserialize, DeserializeMembers, Deserializer, List, Result, Serialize, SerializeMembers,
     Serializer, Struct, deserialize_struct_as,
 };
+use std::alloc::AllocError;
 
 /// `AuthorizationData` of KerberosV5Spec2: `SEQUENCE OF SEQUENCE { ad-type [0] Int32, ad-data [1]
 /// OCTET STRING }`.
@@ -92,6 +93,16 @@ impl Exact for AuthorizationDataItem {
         (λ m. (record { ad_type = m.0; ad_data = m.1 }, refl {a = m})) };
 
     ghost exact = { Prim.assumption };
+}
+
+impl Clone for AuthorizationDataItem {
+    ghost is_clone = { λ x y. ⟦<ExplicitContextTag0<Int32> as Clone>⟧.is_clone x.ad_type y.ad_type
+        × ⟦<ExplicitContextTag1<ByteBuf> as Clone>⟧.is_clone x.ad_data y.ad_data };
+
+    fn clone(&self) -> std::result::Result<AuthorizationDataItem, AllocError> {
+        let (ad_type, ad_data) = copies::two(&self.ad_type, &self.ad_data)?;
+        Ok(AuthorizationDataItem { ad_type, ad_data })
+    }
 }
 
 impl Faithful for AuthorizationDataItem {
@@ -196,6 +207,28 @@ impl Exact for AdKdcIssued {
     ghost exact = { Prim.assumption };
 }
 
+impl Clone for AdKdcIssued {
+    ghost is_clone = { λ x y. ⟦<ExplicitContextTag0<Checksum> as Clone>⟧.is_clone x.ad_checksum y.ad_checksum
+        × ⟦<Option<ExplicitContextTag1<Realm>> as Clone>⟧.is_clone x.i_realm y.i_realm
+        × ⟦<Option<ExplicitContextTag2<PrincipalName>> as Clone>⟧.is_clone x.i_sname y.i_sname
+        × ⟦<ExplicitContextTag3<AuthorizationData> as Clone>⟧.is_clone x.elements y.elements };
+
+    fn clone(&self) -> std::result::Result<AdKdcIssued, AllocError> {
+        let (ad_checksum, i_realm, i_sname, elements) = copies::four(
+            &self.ad_checksum,
+            &self.i_realm,
+            &self.i_sname,
+            &self.elements,
+        )?;
+        Ok(AdKdcIssued {
+            ad_checksum,
+            i_realm,
+            i_sname,
+            elements,
+        })
+    }
+}
+
 impl Faithful for AdKdcIssued {
     ghost sameness = { struct_sameness ⟦<AdKdcIssuedParts as FaithfulMembers>⟧.sameness ⟦<Self as Struct>⟧.parts };
 
@@ -277,6 +310,19 @@ impl Exact for AdAndOr {
         (λ m. (record { condition_count = m.0; elements = m.1 }, refl {a = m})) };
 
     ghost exact = { Prim.assumption };
+}
+
+impl Clone for AdAndOr {
+    ghost is_clone = { λ x y. ⟦<ExplicitContextTag0<Int32> as Clone>⟧.is_clone x.condition_count y.condition_count
+        × ⟦<ExplicitContextTag1<AuthorizationData> as Clone>⟧.is_clone x.elements y.elements };
+
+    fn clone(&self) -> std::result::Result<AdAndOr, AllocError> {
+        let (condition_count, elements) = copies::two(&self.condition_count, &self.elements)?;
+        Ok(AdAndOr {
+            condition_count,
+            elements,
+        })
+    }
 }
 
 impl Faithful for AdAndOr {

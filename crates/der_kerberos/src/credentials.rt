@@ -12,7 +12,7 @@ use crate::{
     EncryptedData, EncryptionKey, HostAddress, HostAddresses, KerberosTime, Microseconds,
     PrincipalName, Realm, Ticket, TicketFlags, UInt32,
 };
-use der_types::{Exact, ExactMembers, InRange, Notated, NotatedMembers};
+use der_types::{Exact, ExactMembers, InRange, Notated, NotatedMembers, copies};
 use picky_asn1_der::application_tag::ApplicationTag;
 use picky_asn1_der::asn1::{
     ExplicitContextTag0, ExplicitContextTag1, ExplicitContextTag2, ExplicitContextTag3,
@@ -26,6 +26,7 @@ use picky_asn1_der::{
     Deserialize, DeserializeMembers, Deserializer, List, Result, Serialize, SerializeMembers,
     Serializer, Struct, deserialize_struct_as,
 };
+use std::alloc::AllocError;
 
 /// `KRB-CRED` of KerberosV5Spec2: `[APPLICATION 22] SEQUENCE { pvno [0] INTEGER (5), msg-type [1]
 /// INTEGER (22), tickets [2] SEQUENCE OF Ticket, enc-part [3] EncryptedData }`.
@@ -117,6 +118,28 @@ impl Exact for KrbCredMembers {
         (λ m. (record { pvno = m.0; msg_type = m.1; tickets = m.2; enc_part = m.3 }, refl {a = m})) };
 
     ghost exact = { Prim.assumption };
+}
+
+impl Clone for KrbCredMembers {
+    ghost is_clone = { λ x y. ⟦<ExplicitContextTag0<InRange<u8, 5, 5>> as Clone>⟧.is_clone x.pvno y.pvno
+        × ⟦<ExplicitContextTag1<InRange<u8, 22, 22>> as Clone>⟧.is_clone x.msg_type y.msg_type
+        × ⟦<ExplicitContextTag2<Vec<Ticket>> as Clone>⟧.is_clone x.tickets y.tickets
+        × ⟦<ExplicitContextTag3<EncryptedData> as Clone>⟧.is_clone x.enc_part y.enc_part };
+
+    fn clone(&self) -> std::result::Result<KrbCredMembers, AllocError> {
+        let (pvno, msg_type, tickets, enc_part) = copies::four(
+            &self.pvno,
+            &self.msg_type,
+            &self.tickets,
+            &self.enc_part,
+        )?;
+        Ok(KrbCredMembers {
+            pvno,
+            msg_type,
+            tickets,
+            enc_part,
+        })
+    }
 }
 
 impl Faithful for KrbCredMembers {
@@ -259,6 +282,34 @@ impl Exact for EncKrbCredPartMembers {
         )) };
 
     ghost exact = { Prim.assumption };
+}
+
+impl Clone for EncKrbCredPartMembers {
+    ghost is_clone = { λ x y. ⟦<ExplicitContextTag0<Vec<KrbCredInfo>> as Clone>⟧.is_clone x.ticket_info y.ticket_info
+        × ⟦<Option<ExplicitContextTag1<UInt32>> as Clone>⟧.is_clone x.nonce y.nonce
+        × ⟦<Option<ExplicitContextTag2<KerberosTime>> as Clone>⟧.is_clone x.timestamp y.timestamp
+        × ⟦<Option<ExplicitContextTag3<Microseconds>> as Clone>⟧.is_clone x.usec y.usec
+        × ⟦<Option<ExplicitContextTag4<HostAddress>> as Clone>⟧.is_clone x.s_address y.s_address
+        × ⟦<Option<ExplicitContextTag5<HostAddress>> as Clone>⟧.is_clone x.r_address y.r_address };
+
+    fn clone(&self) -> std::result::Result<EncKrbCredPartMembers, AllocError> {
+        let (ticket_info, nonce, timestamp, usec, s_address, r_address) = copies::six(
+            &self.ticket_info,
+            &self.nonce,
+            &self.timestamp,
+            &self.usec,
+            &self.s_address,
+            &self.r_address,
+        )?;
+        Ok(EncKrbCredPartMembers {
+            ticket_info,
+            nonce,
+            timestamp,
+            usec,
+            s_address,
+            r_address,
+        })
+    }
 }
 
 impl Faithful for EncKrbCredPartMembers {
@@ -433,6 +484,51 @@ impl Exact for KrbCredInfo {
         )) };
 
     ghost exact = { Prim.assumption };
+}
+
+impl Clone for KrbCredInfo {
+    ghost is_clone = { λ x y. ⟦<ExplicitContextTag0<EncryptionKey> as Clone>⟧.is_clone x.key y.key
+        × ⟦<Option<ExplicitContextTag1<Realm>> as Clone>⟧.is_clone x.prealm y.prealm
+        × ⟦<Option<ExplicitContextTag2<PrincipalName>> as Clone>⟧.is_clone x.pname y.pname
+        × ⟦<Option<ExplicitContextTag3<TicketFlags>> as Clone>⟧.is_clone x.flags y.flags
+        × ⟦<Option<ExplicitContextTag4<KerberosTime>> as Clone>⟧.is_clone x.authtime y.authtime
+        × ⟦<Option<ExplicitContextTag5<KerberosTime>> as Clone>⟧.is_clone x.starttime y.starttime
+        × ⟦<Option<ExplicitContextTag6<KerberosTime>> as Clone>⟧.is_clone x.endtime y.endtime
+        × ⟦<Option<ExplicitContextTag7<KerberosTime>> as Clone>⟧.is_clone x.renew_till y.renew_till
+        × ⟦<Option<ExplicitContextTag8<Realm>> as Clone>⟧.is_clone x.srealm y.srealm
+        × ⟦<Option<ExplicitContextTag9<PrincipalName>> as Clone>⟧.is_clone x.sname y.sname
+        × ⟦<Option<ExplicitContextTag10<HostAddresses>> as Clone>⟧.is_clone x.caddr y.caddr };
+
+    fn clone(&self) -> std::result::Result<KrbCredInfo, AllocError> {
+        let (key, prealm, pname, flags, authtime) = copies::five(
+            &self.key,
+            &self.prealm,
+            &self.pname,
+            &self.flags,
+            &self.authtime,
+        )?;
+        let (starttime, endtime, renew_till, srealm, sname, caddr) = copies::six(
+            &self.starttime,
+            &self.endtime,
+            &self.renew_till,
+            &self.srealm,
+            &self.sname,
+            &self.caddr,
+        )?;
+        Ok(KrbCredInfo {
+            key,
+            prealm,
+            pname,
+            flags,
+            authtime,
+            starttime,
+            endtime,
+            renew_till,
+            srealm,
+            sname,
+            caddr,
+        })
+    }
 }
 
 impl Faithful for KrbCredInfo {

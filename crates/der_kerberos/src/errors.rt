@@ -9,7 +9,7 @@ ghost use Rattle.der_types.specs.ExactMembers.{struct_values};
 ghost use Rattle.der_types.specs.SampleTrees.{exact_example};
 
 use crate::{Int32, KerberosString, KerberosTime, Microseconds, PaData, PrincipalName, Realm};
-use der_types::{Exact, ExactMembers, InRange, Notated, NotatedMembers, WithSize};
+use der_types::{Exact, ExactMembers, InRange, Notated, NotatedMembers, WithSize, copies};
 use picky_asn1_der::application_tag::ApplicationTag;
 use picky_asn1_der::asn1::{
     ByteBuf, ExplicitContextTag0, ExplicitContextTag1, ExplicitContextTag2, ExplicitContextTag3,
@@ -24,6 +24,7 @@ use picky_asn1_der::{
     Deserialize, DeserializeMembers, Deserializer, List, Result, Serialize, SerializeMembers,
     Serializer, Struct, deserialize_struct_as,
 };
+use std::alloc::AllocError;
 
 /// `KRB-ERROR` of KerberosV5Spec2: `[APPLICATION 30] SEQUENCE { pvno [0] INTEGER (5), msg-type [1]
 /// INTEGER (30), ctime [2] KerberosTime OPTIONAL, cusec [3] Microseconds OPTIONAL, stime [4]
@@ -207,6 +208,57 @@ impl Exact for KrbErrorMembers {
     ghost exact = { Prim.assumption };
 }
 
+impl Clone for KrbErrorMembers {
+    ghost is_clone = { λ x y. ⟦<ExplicitContextTag0<InRange<u8, 5, 5>> as Clone>⟧.is_clone x.pvno y.pvno
+        × ⟦<ExplicitContextTag1<InRange<u8, 30, 30>> as Clone>⟧.is_clone x.msg_type y.msg_type
+        × ⟦<Option<ExplicitContextTag2<KerberosTime>> as Clone>⟧.is_clone x.ctime y.ctime
+        × ⟦<Option<ExplicitContextTag3<Microseconds>> as Clone>⟧.is_clone x.cusec y.cusec
+        × ⟦<ExplicitContextTag4<KerberosTime> as Clone>⟧.is_clone x.stime y.stime
+        × ⟦<ExplicitContextTag5<Microseconds> as Clone>⟧.is_clone x.susec y.susec
+        × ⟦<ExplicitContextTag6<Int32> as Clone>⟧.is_clone x.error_code y.error_code
+        × ⟦<Option<ExplicitContextTag7<Realm>> as Clone>⟧.is_clone x.crealm y.crealm
+        × ⟦<Option<ExplicitContextTag8<PrincipalName>> as Clone>⟧.is_clone x.cname y.cname
+        × ⟦<ExplicitContextTag9<Realm> as Clone>⟧.is_clone x.realm y.realm
+        × ⟦<ExplicitContextTag10<PrincipalName> as Clone>⟧.is_clone x.sname y.sname
+        × ⟦<Option<ExplicitContextTag11<KerberosString>> as Clone>⟧.is_clone x.e_text y.e_text
+        × ⟦<Option<ExplicitContextTag12<ByteBuf>> as Clone>⟧.is_clone x.e_data y.e_data };
+
+    fn clone(&self) -> std::result::Result<KrbErrorMembers, AllocError> {
+        let (pvno, msg_type, ctime, cusec, stime, susec) = copies::six(
+            &self.pvno,
+            &self.msg_type,
+            &self.ctime,
+            &self.cusec,
+            &self.stime,
+            &self.susec,
+        )?;
+        let (error_code, crealm, cname, realm, sname, e_text, e_data) = copies::seven(
+            &self.error_code,
+            &self.crealm,
+            &self.cname,
+            &self.realm,
+            &self.sname,
+            &self.e_text,
+            &self.e_data,
+        )?;
+        Ok(KrbErrorMembers {
+            pvno,
+            msg_type,
+            ctime,
+            cusec,
+            stime,
+            susec,
+            error_code,
+            crealm,
+            cname,
+            realm,
+            sname,
+            e_text,
+            e_data,
+        })
+    }
+}
+
 impl Faithful for KrbErrorMembers {
     ghost sameness = { struct_sameness ⟦<KrbErrorMembersParts as FaithfulMembers>⟧.sameness ⟦<Self as Struct>⟧.parts };
 
@@ -295,6 +347,19 @@ impl Exact for TypedDataItem {
         (λ m. (record { data_type = m.0; data_value = m.1.0 }, refl {a = m})) };
 
     ghost exact = { Prim.assumption };
+}
+
+impl Clone for TypedDataItem {
+    ghost is_clone = { λ x y. ⟦<ExplicitContextTag0<Int32> as Clone>⟧.is_clone x.data_type y.data_type
+        × ⟦<Option<ExplicitContextTag1<ByteBuf>> as Clone>⟧.is_clone x.data_value y.data_value };
+
+    fn clone(&self) -> std::result::Result<TypedDataItem, AllocError> {
+        let (data_type, data_value) = copies::two(&self.data_type, &self.data_value)?;
+        Ok(TypedDataItem {
+            data_type,
+            data_value,
+        })
+    }
 }
 
 impl Faithful for TypedDataItem {

@@ -9,7 +9,7 @@ ghost use Rattle.der_types.specs.ExactMembers.{struct_values};
 ghost use Rattle.der_types.specs.SampleTrees.{exact_example};
 
 use crate::{EncryptedData, Int32, KerberosString, KerberosTime, Microseconds};
-use der_types::{Exact, ExactMembers, Notated, NotatedMembers, WithSize};
+use der_types::{Exact, ExactMembers, Notated, NotatedMembers, WithSize, copies};
 use picky_asn1_der::asn1::{
     ByteBuf, ExplicitContextTag0, ExplicitContextTag1, ExplicitContextTag2, Tag,
 };
@@ -20,6 +20,7 @@ use picky_asn1_der::{
     Deserialize, DeserializeMembers, Deserializer, List, Result, Serialize, SerializeMembers,
     Serializer, Struct, deserialize_struct_as,
 };
+use std::alloc::AllocError;
 
 /// `PA-ENC-TIMESTAMP` of KerberosV5Spec2: `EncryptedData`.
 pub type PaEncTimestamp = EncryptedData;
@@ -95,6 +96,19 @@ impl Exact for PaEncTsEnc {
         (λ m. (record { patimestamp = m.0; pausec = m.1.0 }, refl {a = m})) };
 
     ghost exact = { Prim.assumption };
+}
+
+impl Clone for PaEncTsEnc {
+    ghost is_clone = { λ x y. ⟦<ExplicitContextTag0<KerberosTime> as Clone>⟧.is_clone x.patimestamp y.patimestamp
+        × ⟦<Option<ExplicitContextTag1<Microseconds>> as Clone>⟧.is_clone x.pausec y.pausec };
+
+    fn clone(&self) -> std::result::Result<PaEncTsEnc, AllocError> {
+        let (patimestamp, pausec) = copies::two(&self.patimestamp, &self.pausec)?;
+        Ok(PaEncTsEnc {
+            patimestamp,
+            pausec,
+        })
+    }
 }
 
 impl Faithful for PaEncTsEnc {
@@ -175,6 +189,16 @@ impl Exact for EtypeInfoEntry {
         (λ m. (record { etype = m.0; salt = m.1.0 }, refl {a = m})) };
 
     ghost exact = { Prim.assumption };
+}
+
+impl Clone for EtypeInfoEntry {
+    ghost is_clone = { λ x y. ⟦<ExplicitContextTag0<Int32> as Clone>⟧.is_clone x.etype y.etype
+        × ⟦<Option<ExplicitContextTag1<ByteBuf>> as Clone>⟧.is_clone x.salt y.salt };
+
+    fn clone(&self) -> std::result::Result<EtypeInfoEntry, AllocError> {
+        let (etype, salt) = copies::two(&self.etype, &self.salt)?;
+        Ok(EtypeInfoEntry { etype, salt })
+    }
 }
 
 impl Faithful for EtypeInfoEntry {
@@ -271,6 +295,21 @@ impl Exact for EtypeInfo2Entry {
         (λ m. (record { etype = m.0; salt = m.1.0; s2kparams = m.2.0 }, refl {a = m})) };
 
     ghost exact = { Prim.assumption };
+}
+
+impl Clone for EtypeInfo2Entry {
+    ghost is_clone = { λ x y. ⟦<ExplicitContextTag0<Int32> as Clone>⟧.is_clone x.etype y.etype
+        × ⟦<Option<ExplicitContextTag1<KerberosString>> as Clone>⟧.is_clone x.salt y.salt
+        × ⟦<Option<ExplicitContextTag2<ByteBuf>> as Clone>⟧.is_clone x.s2kparams y.s2kparams };
+
+    fn clone(&self) -> std::result::Result<EtypeInfo2Entry, AllocError> {
+        let (etype, salt, s2kparams) = copies::three(&self.etype, &self.salt, &self.s2kparams)?;
+        Ok(EtypeInfo2Entry {
+            etype,
+            salt,
+            s2kparams,
+        })
+    }
 }
 
 impl Faithful for EtypeInfo2Entry {

@@ -12,7 +12,7 @@ use crate::{
     EncryptedData, EncryptionKey, HostAddresses, Int32, KerberosTime, PaData, PrincipalName, Realm,
     Ticket, TicketFlags, UInt32,
 };
-use der_types::{Exact, ExactMembers, InRange, Notated, NotatedMembers};
+use der_types::{Exact, ExactMembers, InRange, Notated, NotatedMembers, copies};
 use picky_asn1_der::application_tag::ApplicationTag;
 use picky_asn1_der::asn1::{
     ExplicitContextTag0, ExplicitContextTag1, ExplicitContextTag2, ExplicitContextTag3,
@@ -27,6 +27,7 @@ use picky_asn1_der::{
     Deserialize, DeserializeMembers, Deserializer, List, Result, Serialize, SerializeMembers,
     Serializer, Struct, deserialize_struct_as,
 };
+use std::alloc::AllocError;
 
 /// `AS-REP` of KerberosV5Spec2: `[APPLICATION 11] SEQUENCE { pvno [0] INTEGER (5), msg-type [1]
 /// INTEGER (11), padata [2] SEQUENCE OF PA-DATA OPTIONAL, crealm [3] Realm, cname [4]
@@ -154,6 +155,37 @@ impl Exact for AsRepMembers {
         )) };
 
     ghost exact = { Prim.assumption };
+}
+
+impl Clone for AsRepMembers {
+    ghost is_clone = { λ x y. ⟦<ExplicitContextTag0<InRange<u8, 5, 5>> as Clone>⟧.is_clone x.pvno y.pvno
+        × ⟦<ExplicitContextTag1<InRange<u8, 11, 11>> as Clone>⟧.is_clone x.msg_type y.msg_type
+        × ⟦<Option<ExplicitContextTag2<Vec<PaData>>> as Clone>⟧.is_clone x.padata y.padata
+        × ⟦<ExplicitContextTag3<Realm> as Clone>⟧.is_clone x.crealm y.crealm
+        × ⟦<ExplicitContextTag4<PrincipalName> as Clone>⟧.is_clone x.cname y.cname
+        × ⟦<ExplicitContextTag5<Ticket> as Clone>⟧.is_clone x.ticket y.ticket
+        × ⟦<ExplicitContextTag6<EncryptedData> as Clone>⟧.is_clone x.enc_part y.enc_part };
+
+    fn clone(&self) -> std::result::Result<AsRepMembers, AllocError> {
+        let (pvno, msg_type, padata, crealm, cname, ticket, enc_part) = copies::seven(
+            &self.pvno,
+            &self.msg_type,
+            &self.padata,
+            &self.crealm,
+            &self.cname,
+            &self.ticket,
+            &self.enc_part,
+        )?;
+        Ok(AsRepMembers {
+            pvno,
+            msg_type,
+            padata,
+            crealm,
+            cname,
+            ticket,
+            enc_part,
+        })
+    }
 }
 
 impl Faithful for AsRepMembers {
@@ -292,6 +324,37 @@ impl Exact for TgsRepMembers {
         )) };
 
     ghost exact = { Prim.assumption };
+}
+
+impl Clone for TgsRepMembers {
+    ghost is_clone = { λ x y. ⟦<ExplicitContextTag0<InRange<u8, 5, 5>> as Clone>⟧.is_clone x.pvno y.pvno
+        × ⟦<ExplicitContextTag1<InRange<u8, 13, 13>> as Clone>⟧.is_clone x.msg_type y.msg_type
+        × ⟦<Option<ExplicitContextTag2<Vec<PaData>>> as Clone>⟧.is_clone x.padata y.padata
+        × ⟦<ExplicitContextTag3<Realm> as Clone>⟧.is_clone x.crealm y.crealm
+        × ⟦<ExplicitContextTag4<PrincipalName> as Clone>⟧.is_clone x.cname y.cname
+        × ⟦<ExplicitContextTag5<Ticket> as Clone>⟧.is_clone x.ticket y.ticket
+        × ⟦<ExplicitContextTag6<EncryptedData> as Clone>⟧.is_clone x.enc_part y.enc_part };
+
+    fn clone(&self) -> std::result::Result<TgsRepMembers, AllocError> {
+        let (pvno, msg_type, padata, crealm, cname, ticket, enc_part) = copies::seven(
+            &self.pvno,
+            &self.msg_type,
+            &self.padata,
+            &self.crealm,
+            &self.cname,
+            &self.ticket,
+            &self.enc_part,
+        )?;
+        Ok(TgsRepMembers {
+            pvno,
+            msg_type,
+            padata,
+            crealm,
+            cname,
+            ticket,
+            enc_part,
+        })
+    }
 }
 
 impl Faithful for TgsRepMembers {
@@ -499,6 +562,58 @@ impl Exact for EncKdcRepPart {
     ghost exact = { Prim.assumption };
 }
 
+impl Clone for EncKdcRepPart {
+    ghost is_clone = { λ x y. ⟦<ExplicitContextTag0<EncryptionKey> as Clone>⟧.is_clone x.key y.key
+        × ⟦<ExplicitContextTag1<LastReq> as Clone>⟧.is_clone x.last_req y.last_req
+        × ⟦<ExplicitContextTag2<UInt32> as Clone>⟧.is_clone x.nonce y.nonce
+        × ⟦<Option<ExplicitContextTag3<KerberosTime>> as Clone>⟧.is_clone x.key_expiration y.key_expiration
+        × ⟦<ExplicitContextTag4<TicketFlags> as Clone>⟧.is_clone x.flags y.flags
+        × ⟦<ExplicitContextTag5<KerberosTime> as Clone>⟧.is_clone x.authtime y.authtime
+        × ⟦<Option<ExplicitContextTag6<KerberosTime>> as Clone>⟧.is_clone x.starttime y.starttime
+        × ⟦<ExplicitContextTag7<KerberosTime> as Clone>⟧.is_clone x.endtime y.endtime
+        × ⟦<Option<ExplicitContextTag8<KerberosTime>> as Clone>⟧.is_clone x.renew_till y.renew_till
+        × ⟦<ExplicitContextTag9<Realm> as Clone>⟧.is_clone x.srealm y.srealm
+        × ⟦<ExplicitContextTag10<PrincipalName> as Clone>⟧.is_clone x.sname y.sname
+        × ⟦<Option<ExplicitContextTag11<HostAddresses>> as Clone>⟧.is_clone x.caddr y.caddr
+        × ⟦<Option<ExplicitContextTag12<Vec<PaData>>> as Clone>⟧.is_clone x.encrypted_pa_data y.encrypted_pa_data };
+
+    fn clone(&self) -> std::result::Result<EncKdcRepPart, AllocError> {
+        let (key, last_req, nonce, key_expiration, flags, authtime) = copies::six(
+            &self.key,
+            &self.last_req,
+            &self.nonce,
+            &self.key_expiration,
+            &self.flags,
+            &self.authtime,
+        )?;
+        let (starttime, endtime, renew_till, srealm, sname, caddr, encrypted_pa_data) =
+            copies::seven(
+                &self.starttime,
+                &self.endtime,
+                &self.renew_till,
+                &self.srealm,
+                &self.sname,
+                &self.caddr,
+                &self.encrypted_pa_data,
+            )?;
+        Ok(EncKdcRepPart {
+            key,
+            last_req,
+            nonce,
+            key_expiration,
+            flags,
+            authtime,
+            starttime,
+            endtime,
+            renew_till,
+            srealm,
+            sname,
+            caddr,
+            encrypted_pa_data,
+        })
+    }
+}
+
 impl Faithful for EncKdcRepPart {
     ghost sameness = { struct_sameness ⟦<EncKdcRepPartParts as FaithfulMembers>⟧.sameness ⟦<Self as Struct>⟧.parts };
 
@@ -581,6 +696,16 @@ impl Exact for LastReqItem {
         (λ m. (record { lr_type = m.0; lr_value = m.1 }, refl {a = m})) };
 
     ghost exact = { Prim.assumption };
+}
+
+impl Clone for LastReqItem {
+    ghost is_clone = { λ x y. ⟦<ExplicitContextTag0<Int32> as Clone>⟧.is_clone x.lr_type y.lr_type
+        × ⟦<ExplicitContextTag1<KerberosTime> as Clone>⟧.is_clone x.lr_value y.lr_value };
+
+    fn clone(&self) -> std::result::Result<LastReqItem, AllocError> {
+        let (lr_type, lr_value) = copies::two(&self.lr_type, &self.lr_value)?;
+        Ok(LastReqItem { lr_type, lr_value })
+    }
 }
 
 impl Faithful for LastReqItem {

@@ -12,7 +12,7 @@ use crate::{
     EncryptedData, HostAddresses, Int32, KerberosFlags, KerberosTime, PaData, PrincipalName, Realm,
     Ticket, UInt32,
 };
-use der_types::{Exact, ExactMembers, InRange, Notated, NotatedMembers};
+use der_types::{Exact, ExactMembers, InRange, Notated, NotatedMembers, copies};
 use picky_asn1_der::application_tag::ApplicationTag;
 use picky_asn1_der::asn1::{
     ExplicitContextTag0, ExplicitContextTag1, ExplicitContextTag2, ExplicitContextTag3,
@@ -26,6 +26,7 @@ use picky_asn1_der::{
     Deserialize, DeserializeMembers, Deserializer, List, Result, Serialize, SerializeMembers,
     Serializer, Struct, deserialize_struct_as,
 };
+use std::alloc::AllocError;
 
 /// RFC 4120 has one type for the members of both requests, KDC-REQ, and one for those of both
 /// replies, KDC-REP. Each message has its own number here. `AS-REQ` of KerberosV5Spec2:
@@ -121,6 +122,28 @@ impl Exact for AsReqMembers {
         (λ m. (record { pvno = m.0; msg_type = m.1; padata = m.2.0; req_body = m.3 }, refl {a = m})) };
 
     ghost exact = { Prim.assumption };
+}
+
+impl Clone for AsReqMembers {
+    ghost is_clone = { λ x y. ⟦<ExplicitContextTag1<InRange<u8, 5, 5>> as Clone>⟧.is_clone x.pvno y.pvno
+        × ⟦<ExplicitContextTag2<InRange<u8, 10, 10>> as Clone>⟧.is_clone x.msg_type y.msg_type
+        × ⟦<Option<ExplicitContextTag3<Vec<PaData>>> as Clone>⟧.is_clone x.padata y.padata
+        × ⟦<ExplicitContextTag4<KdcReqBody> as Clone>⟧.is_clone x.req_body y.req_body };
+
+    fn clone(&self) -> std::result::Result<AsReqMembers, AllocError> {
+        let (pvno, msg_type, padata, req_body) = copies::four(
+            &self.pvno,
+            &self.msg_type,
+            &self.padata,
+            &self.req_body,
+        )?;
+        Ok(AsReqMembers {
+            pvno,
+            msg_type,
+            padata,
+            req_body,
+        })
+    }
 }
 
 impl Faithful for AsReqMembers {
@@ -223,6 +246,28 @@ impl Exact for TgsReqMembers {
         (λ m. (record { pvno = m.0; msg_type = m.1; padata = m.2.0; req_body = m.3 }, refl {a = m})) };
 
     ghost exact = { Prim.assumption };
+}
+
+impl Clone for TgsReqMembers {
+    ghost is_clone = { λ x y. ⟦<ExplicitContextTag1<InRange<u8, 5, 5>> as Clone>⟧.is_clone x.pvno y.pvno
+        × ⟦<ExplicitContextTag2<InRange<u8, 12, 12>> as Clone>⟧.is_clone x.msg_type y.msg_type
+        × ⟦<Option<ExplicitContextTag3<Vec<PaData>>> as Clone>⟧.is_clone x.padata y.padata
+        × ⟦<ExplicitContextTag4<KdcReqBody> as Clone>⟧.is_clone x.req_body y.req_body };
+
+    fn clone(&self) -> std::result::Result<TgsReqMembers, AllocError> {
+        let (pvno, msg_type, padata, req_body) = copies::four(
+            &self.pvno,
+            &self.msg_type,
+            &self.padata,
+            &self.req_body,
+        )?;
+        Ok(TgsReqMembers {
+            pvno,
+            msg_type,
+            padata,
+            req_body,
+        })
+    }
 }
 
 impl Faithful for TgsReqMembers {
@@ -414,6 +459,55 @@ impl Exact for KdcReqBody {
         )) };
 
     ghost exact = { Prim.assumption };
+}
+
+impl Clone for KdcReqBody {
+    ghost is_clone = { λ x y. ⟦<ExplicitContextTag0<KdcOptions> as Clone>⟧.is_clone x.kdc_options y.kdc_options
+        × ⟦<Option<ExplicitContextTag1<PrincipalName>> as Clone>⟧.is_clone x.cname y.cname
+        × ⟦<ExplicitContextTag2<Realm> as Clone>⟧.is_clone x.realm y.realm
+        × ⟦<Option<ExplicitContextTag3<PrincipalName>> as Clone>⟧.is_clone x.sname y.sname
+        × ⟦<Option<ExplicitContextTag4<KerberosTime>> as Clone>⟧.is_clone x.from y.from
+        × ⟦<ExplicitContextTag5<KerberosTime> as Clone>⟧.is_clone x.till y.till
+        × ⟦<Option<ExplicitContextTag6<KerberosTime>> as Clone>⟧.is_clone x.rtime y.rtime
+        × ⟦<ExplicitContextTag7<UInt32> as Clone>⟧.is_clone x.nonce y.nonce
+        × ⟦<ExplicitContextTag8<Vec<Int32>> as Clone>⟧.is_clone x.etype y.etype
+        × ⟦<Option<ExplicitContextTag9<HostAddresses>> as Clone>⟧.is_clone x.addresses y.addresses
+        × ⟦<Option<ExplicitContextTag10<EncryptedData>> as Clone>⟧.is_clone x.enc_authorization_data y.enc_authorization_data
+        × ⟦<Option<ExplicitContextTag11<Vec<Ticket>>> as Clone>⟧.is_clone x.additional_tickets y.additional_tickets };
+
+    fn clone(&self) -> std::result::Result<KdcReqBody, AllocError> {
+        let (kdc_options, cname, realm, sname, from, till) = copies::six(
+            &self.kdc_options,
+            &self.cname,
+            &self.realm,
+            &self.sname,
+            &self.from,
+            &self.till,
+        )?;
+        let (rtime, nonce, etype, addresses, enc_authorization_data, additional_tickets) =
+            copies::six(
+                &self.rtime,
+                &self.nonce,
+                &self.etype,
+                &self.addresses,
+                &self.enc_authorization_data,
+                &self.additional_tickets,
+            )?;
+        Ok(KdcReqBody {
+            kdc_options,
+            cname,
+            realm,
+            sname,
+            from,
+            till,
+            rtime,
+            nonce,
+            etype,
+            addresses,
+            enc_authorization_data,
+            additional_tickets,
+        })
+    }
 }
 
 impl Faithful for KdcReqBody {

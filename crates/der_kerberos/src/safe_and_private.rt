@@ -9,7 +9,7 @@ ghost use Rattle.der_types.specs.ExactMembers.{struct_values};
 ghost use Rattle.der_types.specs.SampleTrees.{exact_example};
 
 use crate::{Checksum, EncryptedData, HostAddress, KerberosTime, Microseconds, UInt32};
-use der_types::{Exact, ExactMembers, InRange, Notated, NotatedMembers};
+use der_types::{Exact, ExactMembers, InRange, Notated, NotatedMembers, copies};
 use picky_asn1_der::application_tag::ApplicationTag;
 use picky_asn1_der::asn1::{
     ByteBuf, ExplicitContextTag0, ExplicitContextTag1, ExplicitContextTag2, ExplicitContextTag3,
@@ -22,6 +22,7 @@ use picky_asn1_der::{
     Deserialize, DeserializeMembers, Deserializer, List, Result, Serialize, SerializeMembers,
     Serializer, Struct, deserialize_struct_as,
 };
+use std::alloc::AllocError;
 
 /// `KRB-SAFE` of KerberosV5Spec2: `[APPLICATION 20] SEQUENCE { pvno [0] INTEGER (5), msg-type [1]
 /// INTEGER (20), safe-body [2] KRB-SAFE-BODY, cksum [3] Checksum }`.
@@ -108,6 +109,28 @@ impl Exact for KrbSafeMembers {
         (λ m. (record { pvno = m.0; msg_type = m.1; safe_body = m.2; cksum = m.3 }, refl {a = m})) };
 
     ghost exact = { Prim.assumption };
+}
+
+impl Clone for KrbSafeMembers {
+    ghost is_clone = { λ x y. ⟦<ExplicitContextTag0<InRange<u8, 5, 5>> as Clone>⟧.is_clone x.pvno y.pvno
+        × ⟦<ExplicitContextTag1<InRange<u8, 20, 20>> as Clone>⟧.is_clone x.msg_type y.msg_type
+        × ⟦<ExplicitContextTag2<KrbSafeBody> as Clone>⟧.is_clone x.safe_body y.safe_body
+        × ⟦<ExplicitContextTag3<Checksum> as Clone>⟧.is_clone x.cksum y.cksum };
+
+    fn clone(&self) -> std::result::Result<KrbSafeMembers, AllocError> {
+        let (pvno, msg_type, safe_body, cksum) = copies::four(
+            &self.pvno,
+            &self.msg_type,
+            &self.safe_body,
+            &self.cksum,
+        )?;
+        Ok(KrbSafeMembers {
+            pvno,
+            msg_type,
+            safe_body,
+            cksum,
+        })
+    }
 }
 
 impl Faithful for KrbSafeMembers {
@@ -244,6 +267,34 @@ impl Exact for KrbSafeBody {
     ghost exact = { Prim.assumption };
 }
 
+impl Clone for KrbSafeBody {
+    ghost is_clone = { λ x y. ⟦<ExplicitContextTag0<ByteBuf> as Clone>⟧.is_clone x.user_data y.user_data
+        × ⟦<Option<ExplicitContextTag1<KerberosTime>> as Clone>⟧.is_clone x.timestamp y.timestamp
+        × ⟦<Option<ExplicitContextTag2<Microseconds>> as Clone>⟧.is_clone x.usec y.usec
+        × ⟦<Option<ExplicitContextTag3<UInt32>> as Clone>⟧.is_clone x.seq_number y.seq_number
+        × ⟦<ExplicitContextTag4<HostAddress> as Clone>⟧.is_clone x.s_address y.s_address
+        × ⟦<Option<ExplicitContextTag5<HostAddress>> as Clone>⟧.is_clone x.r_address y.r_address };
+
+    fn clone(&self) -> std::result::Result<KrbSafeBody, AllocError> {
+        let (user_data, timestamp, usec, seq_number, s_address, r_address) = copies::six(
+            &self.user_data,
+            &self.timestamp,
+            &self.usec,
+            &self.seq_number,
+            &self.s_address,
+            &self.r_address,
+        )?;
+        Ok(KrbSafeBody {
+            user_data,
+            timestamp,
+            usec,
+            seq_number,
+            s_address,
+            r_address,
+        })
+    }
+}
+
 impl Faithful for KrbSafeBody {
     ghost sameness = { struct_sameness ⟦<KrbSafeBodyParts as FaithfulMembers>⟧.sameness ⟦<Self as Struct>⟧.parts };
 
@@ -333,6 +384,21 @@ impl Exact for KrbPrivMembers {
         (λ m. (record { pvno = m.0; msg_type = m.1; enc_part = m.2 }, refl {a = m})) };
 
     ghost exact = { Prim.assumption };
+}
+
+impl Clone for KrbPrivMembers {
+    ghost is_clone = { λ x y. ⟦<ExplicitContextTag0<InRange<u8, 5, 5>> as Clone>⟧.is_clone x.pvno y.pvno
+        × ⟦<ExplicitContextTag1<InRange<u8, 21, 21>> as Clone>⟧.is_clone x.msg_type y.msg_type
+        × ⟦<ExplicitContextTag3<EncryptedData> as Clone>⟧.is_clone x.enc_part y.enc_part };
+
+    fn clone(&self) -> std::result::Result<KrbPrivMembers, AllocError> {
+        let (pvno, msg_type, enc_part) = copies::three(&self.pvno, &self.msg_type, &self.enc_part)?;
+        Ok(KrbPrivMembers {
+            pvno,
+            msg_type,
+            enc_part,
+        })
+    }
 }
 
 impl Faithful for KrbPrivMembers {
@@ -474,6 +540,34 @@ impl Exact for EncKrbPrivPartMembers {
         )) };
 
     ghost exact = { Prim.assumption };
+}
+
+impl Clone for EncKrbPrivPartMembers {
+    ghost is_clone = { λ x y. ⟦<ExplicitContextTag0<ByteBuf> as Clone>⟧.is_clone x.user_data y.user_data
+        × ⟦<Option<ExplicitContextTag1<KerberosTime>> as Clone>⟧.is_clone x.timestamp y.timestamp
+        × ⟦<Option<ExplicitContextTag2<Microseconds>> as Clone>⟧.is_clone x.usec y.usec
+        × ⟦<Option<ExplicitContextTag3<UInt32>> as Clone>⟧.is_clone x.seq_number y.seq_number
+        × ⟦<ExplicitContextTag4<HostAddress> as Clone>⟧.is_clone x.s_address y.s_address
+        × ⟦<Option<ExplicitContextTag5<HostAddress>> as Clone>⟧.is_clone x.r_address y.r_address };
+
+    fn clone(&self) -> std::result::Result<EncKrbPrivPartMembers, AllocError> {
+        let (user_data, timestamp, usec, seq_number, s_address, r_address) = copies::six(
+            &self.user_data,
+            &self.timestamp,
+            &self.usec,
+            &self.seq_number,
+            &self.s_address,
+            &self.r_address,
+        )?;
+        Ok(EncKrbPrivPartMembers {
+            user_data,
+            timestamp,
+            usec,
+            seq_number,
+            s_address,
+            r_address,
+        })
+    }
 }
 
 impl Faithful for EncKrbPrivPartMembers {

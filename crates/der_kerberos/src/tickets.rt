@@ -12,7 +12,7 @@ use crate::{
     AuthorizationData, EncryptedData, EncryptionKey, HostAddresses, Int32, KerberosFlags,
     KerberosTime, PrincipalName, Realm,
 };
-use der_types::{Exact, ExactMembers, InRange, Notated, NotatedMembers};
+use der_types::{Exact, ExactMembers, InRange, Notated, NotatedMembers, copies};
 use picky_asn1_der::application_tag::ApplicationTag;
 use picky_asn1_der::asn1::{
     ByteBuf, ExplicitContextTag0, ExplicitContextTag1, ExplicitContextTag2, ExplicitContextTag3,
@@ -26,6 +26,7 @@ use picky_asn1_der::{
     Deserialize, DeserializeMembers, Deserializer, List, Result, Serialize, SerializeMembers,
     Serializer, Struct, deserialize_struct_as,
 };
+use std::alloc::AllocError;
 
 /// `Ticket` of KerberosV5Spec2: `[APPLICATION 1] SEQUENCE { tkt-vno [0] INTEGER (5), realm [1]
 /// Realm, sname [2] PrincipalName, enc-part [3] EncryptedData }`.
@@ -110,6 +111,28 @@ impl Exact for TicketMembers {
         (λ m. (record { tkt_vno = m.0; realm = m.1; sname = m.2; enc_part = m.3 }, refl {a = m})) };
 
     ghost exact = { Prim.assumption };
+}
+
+impl Clone for TicketMembers {
+    ghost is_clone = { λ x y. ⟦<ExplicitContextTag0<InRange<u8, 5, 5>> as Clone>⟧.is_clone x.tkt_vno y.tkt_vno
+        × ⟦<ExplicitContextTag1<Realm> as Clone>⟧.is_clone x.realm y.realm
+        × ⟦<ExplicitContextTag2<PrincipalName> as Clone>⟧.is_clone x.sname y.sname
+        × ⟦<ExplicitContextTag3<EncryptedData> as Clone>⟧.is_clone x.enc_part y.enc_part };
+
+    fn clone(&self) -> std::result::Result<TicketMembers, AllocError> {
+        let (tkt_vno, realm, sname, enc_part) = copies::four(
+            &self.tkt_vno,
+            &self.realm,
+            &self.sname,
+            &self.enc_part,
+        )?;
+        Ok(TicketMembers {
+            tkt_vno,
+            realm,
+            sname,
+            enc_part,
+        })
+    }
 }
 
 impl Faithful for TicketMembers {
@@ -283,6 +306,51 @@ impl Exact for EncTicketPartMembers {
     ghost exact = { Prim.assumption };
 }
 
+impl Clone for EncTicketPartMembers {
+    ghost is_clone = { λ x y. ⟦<ExplicitContextTag0<TicketFlags> as Clone>⟧.is_clone x.flags y.flags
+        × ⟦<ExplicitContextTag1<EncryptionKey> as Clone>⟧.is_clone x.key y.key
+        × ⟦<ExplicitContextTag2<Realm> as Clone>⟧.is_clone x.crealm y.crealm
+        × ⟦<ExplicitContextTag3<PrincipalName> as Clone>⟧.is_clone x.cname y.cname
+        × ⟦<ExplicitContextTag4<TransitedEncoding> as Clone>⟧.is_clone x.transited y.transited
+        × ⟦<ExplicitContextTag5<KerberosTime> as Clone>⟧.is_clone x.authtime y.authtime
+        × ⟦<Option<ExplicitContextTag6<KerberosTime>> as Clone>⟧.is_clone x.starttime y.starttime
+        × ⟦<ExplicitContextTag7<KerberosTime> as Clone>⟧.is_clone x.endtime y.endtime
+        × ⟦<Option<ExplicitContextTag8<KerberosTime>> as Clone>⟧.is_clone x.renew_till y.renew_till
+        × ⟦<Option<ExplicitContextTag9<HostAddresses>> as Clone>⟧.is_clone x.caddr y.caddr
+        × ⟦<Option<ExplicitContextTag10<AuthorizationData>> as Clone>⟧.is_clone x.authorization_data y.authorization_data };
+
+    fn clone(&self) -> std::result::Result<EncTicketPartMembers, AllocError> {
+        let (flags, key, crealm, cname, transited) = copies::five(
+            &self.flags,
+            &self.key,
+            &self.crealm,
+            &self.cname,
+            &self.transited,
+        )?;
+        let (authtime, starttime, endtime, renew_till, caddr, authorization_data) = copies::six(
+            &self.authtime,
+            &self.starttime,
+            &self.endtime,
+            &self.renew_till,
+            &self.caddr,
+            &self.authorization_data,
+        )?;
+        Ok(EncTicketPartMembers {
+            flags,
+            key,
+            crealm,
+            cname,
+            transited,
+            authtime,
+            starttime,
+            endtime,
+            renew_till,
+            caddr,
+            authorization_data,
+        })
+    }
+}
+
 impl Faithful for EncTicketPartMembers {
     ghost sameness = { struct_sameness ⟦<EncTicketPartMembersParts as FaithfulMembers>⟧.sameness
         ⟦<Self as Struct>⟧.parts };
@@ -358,6 +426,16 @@ impl Exact for TransitedEncoding {
         (λ m. (record { tr_type = m.0; contents = m.1 }, refl {a = m})) };
 
     ghost exact = { Prim.assumption };
+}
+
+impl Clone for TransitedEncoding {
+    ghost is_clone = { λ x y. ⟦<ExplicitContextTag0<Int32> as Clone>⟧.is_clone x.tr_type y.tr_type
+        × ⟦<ExplicitContextTag1<ByteBuf> as Clone>⟧.is_clone x.contents y.contents };
+
+    fn clone(&self) -> std::result::Result<TransitedEncoding, AllocError> {
+        let (tr_type, contents) = copies::two(&self.tr_type, &self.contents)?;
+        Ok(TransitedEncoding { tr_type, contents })
+    }
 }
 
 impl Faithful for TransitedEncoding {

@@ -14,7 +14,7 @@ ghost use Rattle.der_types.specs.SampleTrees.{exact_example};
 
 use der_types::{
     Ascii, BitString, CharacterSet, Exact, ExactMembers, GeneralizedTime, InRange, Notated,
-    NotatedMembers, NotatedSet, RestrictedString, Unicode, Width, WithSize,
+    NotatedMembers, NotatedSet, RestrictedString, Unicode, Width, WithSize, copies,
 };
 use picky_asn1_der::asn1::{
     ByteBuf, ExplicitContextTag0, ExplicitContextTag1, ExplicitContextTag2, Tag,
@@ -26,6 +26,7 @@ use picky_asn1_der::{
     Deserialize, DeserializeMembers, Deserializer, List, Result, Serialize, SerializeMembers,
     Serializer, Struct, deserialize_struct_as,
 };
+use std::alloc::AllocError;
 
 /// `Int32` of KerberosV5Spec2: `INTEGER (-2147483648..2147483647)`.
 pub type Int32 = i32;
@@ -154,6 +155,19 @@ impl Exact for PrincipalName {
     ghost exact = { Prim.assumption };
 }
 
+impl Clone for PrincipalName {
+    ghost is_clone = { λ x y. ⟦<ExplicitContextTag0<Int32> as Clone>⟧.is_clone x.name_type y.name_type
+        × ⟦<ExplicitContextTag1<Vec<KerberosString>> as Clone>⟧.is_clone x.name_string y.name_string };
+
+    fn clone(&self) -> std::result::Result<PrincipalName, AllocError> {
+        let (name_type, name_string) = copies::two(&self.name_type, &self.name_string)?;
+        Ok(PrincipalName {
+            name_type,
+            name_string,
+        })
+    }
+}
+
 impl Faithful for PrincipalName {
     ghost sameness = { struct_sameness ⟦<PrincipalNameParts as FaithfulMembers>⟧.sameness ⟦<Self as Struct>⟧.parts };
 
@@ -232,6 +246,16 @@ impl Exact for HostAddress {
         (λ m. (record { addr_type = m.0; address = m.1 }, refl {a = m})) };
 
     ghost exact = { Prim.assumption };
+}
+
+impl Clone for HostAddress {
+    ghost is_clone = { λ x y. ⟦<ExplicitContextTag0<Int32> as Clone>⟧.is_clone x.addr_type y.addr_type
+        × ⟦<ExplicitContextTag1<ByteBuf> as Clone>⟧.is_clone x.address y.address };
+
+    fn clone(&self) -> std::result::Result<HostAddress, AllocError> {
+        let (addr_type, address) = copies::two(&self.addr_type, &self.address)?;
+        Ok(HostAddress { addr_type, address })
+    }
 }
 
 impl Faithful for HostAddress {
@@ -314,6 +338,19 @@ impl Exact for PaData {
         (λ m. (record { padata_type = m.0; padata_value = m.1 }, refl {a = m})) };
 
     ghost exact = { Prim.assumption };
+}
+
+impl Clone for PaData {
+    ghost is_clone = { λ x y. ⟦<ExplicitContextTag1<Int32> as Clone>⟧.is_clone x.padata_type y.padata_type
+        × ⟦<ExplicitContextTag2<ByteBuf> as Clone>⟧.is_clone x.padata_value y.padata_value };
+
+    fn clone(&self) -> std::result::Result<PaData, AllocError> {
+        let (padata_type, padata_value) = copies::two(&self.padata_type, &self.padata_value)?;
+        Ok(PaData {
+            padata_type,
+            padata_value,
+        })
+    }
 }
 
 impl Faithful for PaData {
@@ -406,6 +443,21 @@ impl Exact for EncryptedData {
     ghost exact = { Prim.assumption };
 }
 
+impl Clone for EncryptedData {
+    ghost is_clone = { λ x y. ⟦<ExplicitContextTag0<Int32> as Clone>⟧.is_clone x.etype y.etype
+        × ⟦<Option<ExplicitContextTag1<UInt32>> as Clone>⟧.is_clone x.kvno y.kvno
+        × ⟦<ExplicitContextTag2<ByteBuf> as Clone>⟧.is_clone x.cipher y.cipher };
+
+    fn clone(&self) -> std::result::Result<EncryptedData, AllocError> {
+        let (etype, kvno, cipher) = copies::three(&self.etype, &self.kvno, &self.cipher)?;
+        Ok(EncryptedData {
+            etype,
+            kvno,
+            cipher,
+        })
+    }
+}
+
 impl Faithful for EncryptedData {
     ghost sameness = { struct_sameness ⟦<EncryptedDataParts as FaithfulMembers>⟧.sameness ⟦<Self as Struct>⟧.parts };
 
@@ -480,6 +532,16 @@ impl Exact for EncryptionKey {
         (λ m. (record { keytype = m.0; keyvalue = m.1 }, refl {a = m})) };
 
     ghost exact = { Prim.assumption };
+}
+
+impl Clone for EncryptionKey {
+    ghost is_clone = { λ x y. ⟦<ExplicitContextTag0<Int32> as Clone>⟧.is_clone x.keytype y.keytype
+        × ⟦<ExplicitContextTag1<ByteBuf> as Clone>⟧.is_clone x.keyvalue y.keyvalue };
+
+    fn clone(&self) -> std::result::Result<EncryptionKey, AllocError> {
+        let (keytype, keyvalue) = copies::two(&self.keytype, &self.keyvalue)?;
+        Ok(EncryptionKey { keytype, keyvalue })
+    }
 }
 
 impl Faithful for EncryptionKey {
@@ -559,6 +621,19 @@ impl Exact for Checksum {
         (λ m. (record { cksumtype = m.0; checksum = m.1 }, refl {a = m})) };
 
     ghost exact = { Prim.assumption };
+}
+
+impl Clone for Checksum {
+    ghost is_clone = { λ x y. ⟦<ExplicitContextTag0<Int32> as Clone>⟧.is_clone x.cksumtype y.cksumtype
+        × ⟦<ExplicitContextTag1<ByteBuf> as Clone>⟧.is_clone x.checksum y.checksum };
+
+    fn clone(&self) -> std::result::Result<Checksum, AllocError> {
+        let (cksumtype, checksum) = copies::two(&self.cksumtype, &self.checksum)?;
+        Ok(Checksum {
+            cksumtype,
+            checksum,
+        })
+    }
 }
 
 impl Faithful for Checksum {

@@ -13,6 +13,7 @@ use der_elements::AnyElement;
 use der_pkix::{EncryptedPrivateKeyInfo, PrivateKeyInfo};
 use der_types::{
     Exact, ExactMembers, InRange, Integer, Notated, NotatedMembers, ObjectIdentifier, OtherThan,
+    copies,
 };
 use der_x509::AlgorithmIdentifier;
 use picky_asn1_der::asn1::{Asn1SetOf, ByteBuf, ExplicitContextTag0, Tag};
@@ -23,6 +24,7 @@ use picky_asn1_der::{
     Deserialize, DeserializeMembers, Deserializer, List, Result, Serialize, SerializeMembers,
     Serializer, Struct, deserialize_struct_as,
 };
+use std::alloc::AllocError;
 
 /// A store. Its content is the encoding of an AuthenticatedSafe in a message of kind id-data, or
 /// signed. `PFX` of PKCS-12, as a SEQUENCE.
@@ -101,6 +103,25 @@ impl Exact for PFX {
         (λ m. (record { version = m.0; auth_safe = m.1; mac_data = m.2.0 }, refl {a = m})) };
 
     ghost exact = { Prim.assumption };
+}
+
+impl Clone for PFX {
+    ghost is_clone = { λ x y. ⟦<InRange<u8, 3, 3> as Clone>⟧.is_clone x.version y.version
+        × ⟦<ContentInfo as Clone>⟧.is_clone x.auth_safe y.auth_safe
+        × ⟦<Option<MacData> as Clone>⟧.is_clone x.mac_data y.mac_data };
+
+    fn clone(&self) -> std::result::Result<PFX, AllocError> {
+        let (version, auth_safe, mac_data) = copies::three(
+            &self.version,
+            &self.auth_safe,
+            &self.mac_data,
+        )?;
+        Ok(PFX {
+            version,
+            auth_safe,
+            mac_data,
+        })
+    }
 }
 
 impl Faithful for PFX {
@@ -187,6 +208,25 @@ impl Exact for MacData {
     ghost exact = { Prim.assumption };
 }
 
+impl Clone for MacData {
+    ghost is_clone = { λ x y. ⟦<DigestInfo as Clone>⟧.is_clone x.mac y.mac
+        × ⟦<ByteBuf as Clone>⟧.is_clone x.mac_salt y.mac_salt
+        × ⟦<Option<OtherThan<Integer, 1>> as Clone>⟧.is_clone x.iterations y.iterations };
+
+    fn clone(&self) -> std::result::Result<MacData, AllocError> {
+        let (mac, mac_salt, iterations) = copies::three(
+            &self.mac,
+            &self.mac_salt,
+            &self.iterations,
+        )?;
+        Ok(MacData {
+            mac,
+            mac_salt,
+            iterations,
+        })
+    }
+}
+
 impl Faithful for MacData {
     ghost sameness = { struct_sameness ⟦<MacDataParts as FaithfulMembers>⟧.sameness ⟦<Self as Struct>⟧.parts };
 
@@ -264,6 +304,19 @@ impl Exact for DigestInfo {
         (λ m. (record { digest_algorithm = m.0; digest = m.1 }, refl {a = m})) };
 
     ghost exact = { Prim.assumption };
+}
+
+impl Clone for DigestInfo {
+    ghost is_clone = { λ x y. ⟦<AlgorithmIdentifier as Clone>⟧.is_clone x.digest_algorithm y.digest_algorithm
+        × ⟦<ByteBuf as Clone>⟧.is_clone x.digest y.digest };
+
+    fn clone(&self) -> std::result::Result<DigestInfo, AllocError> {
+        let (digest_algorithm, digest) = copies::two(&self.digest_algorithm, &self.digest)?;
+        Ok(DigestInfo {
+            digest_algorithm,
+            digest,
+        })
+    }
 }
 
 impl Faithful for DigestInfo {
@@ -366,6 +419,25 @@ impl Exact for SafeBag {
     ghost exact = { Prim.assumption };
 }
 
+impl Clone for SafeBag {
+    ghost is_clone = { λ x y. ⟦<ObjectIdentifier as Clone>⟧.is_clone x.bag_id y.bag_id
+        × ⟦<ExplicitContextTag0<AnyElement> as Clone>⟧.is_clone x.bag_value y.bag_value
+        × ⟦<Option<Asn1SetOf<Pkcs12Attribute>> as Clone>⟧.is_clone x.bag_attributes y.bag_attributes };
+
+    fn clone(&self) -> std::result::Result<SafeBag, AllocError> {
+        let (bag_id, bag_value, bag_attributes) = copies::three(
+            &self.bag_id,
+            &self.bag_value,
+            &self.bag_attributes,
+        )?;
+        Ok(SafeBag {
+            bag_id,
+            bag_value,
+            bag_attributes,
+        })
+    }
+}
+
 impl Faithful for SafeBag {
     ghost sameness = { struct_sameness ⟦<SafeBagParts as FaithfulMembers>⟧.sameness ⟦<Self as Struct>⟧.parts };
 
@@ -443,6 +515,19 @@ impl Exact for Pkcs12Attribute {
         (λ m. (record { attr_id = m.0; attr_values = m.1 }, refl {a = m})) };
 
     ghost exact = { Prim.assumption };
+}
+
+impl Clone for Pkcs12Attribute {
+    ghost is_clone = { λ x y. ⟦<ObjectIdentifier as Clone>⟧.is_clone x.attr_id y.attr_id
+        × ⟦<Asn1SetOf<AnyElement> as Clone>⟧.is_clone x.attr_values y.attr_values };
+
+    fn clone(&self) -> std::result::Result<Pkcs12Attribute, AllocError> {
+        let (attr_id, attr_values) = copies::two(&self.attr_id, &self.attr_values)?;
+        Ok(Pkcs12Attribute {
+            attr_id,
+            attr_values,
+        })
+    }
 }
 
 impl Faithful for Pkcs12Attribute {
@@ -530,6 +615,19 @@ impl Exact for CertBag {
     ghost exact = { Prim.assumption };
 }
 
+impl Clone for CertBag {
+    ghost is_clone = { λ x y. ⟦<ObjectIdentifier as Clone>⟧.is_clone x.cert_id y.cert_id
+        × ⟦<ExplicitContextTag0<AnyElement> as Clone>⟧.is_clone x.cert_value y.cert_value };
+
+    fn clone(&self) -> std::result::Result<CertBag, AllocError> {
+        let (cert_id, cert_value) = copies::two(&self.cert_id, &self.cert_value)?;
+        Ok(CertBag {
+            cert_id,
+            cert_value,
+        })
+    }
+}
+
 impl Faithful for CertBag {
     ghost sameness = { struct_sameness ⟦<CertBagParts as FaithfulMembers>⟧.sameness ⟦<Self as Struct>⟧.parts };
 
@@ -604,6 +702,16 @@ impl Exact for CrlBag {
         (λ m. (record { crl_id = m.0; crl_value = m.1 }, refl {a = m})) };
 
     ghost exact = { Prim.assumption };
+}
+
+impl Clone for CrlBag {
+    ghost is_clone = { λ x y. ⟦<ObjectIdentifier as Clone>⟧.is_clone x.crl_id y.crl_id
+        × ⟦<ExplicitContextTag0<AnyElement> as Clone>⟧.is_clone x.crl_value y.crl_value };
+
+    fn clone(&self) -> std::result::Result<CrlBag, AllocError> {
+        let (crl_id, crl_value) = copies::two(&self.crl_id, &self.crl_value)?;
+        Ok(CrlBag { crl_id, crl_value })
+    }
 }
 
 impl Faithful for CrlBag {
@@ -685,6 +793,19 @@ impl Exact for SecretBag {
     ghost exact = { Prim.assumption };
 }
 
+impl Clone for SecretBag {
+    ghost is_clone = { λ x y. ⟦<ObjectIdentifier as Clone>⟧.is_clone x.secret_type_id y.secret_type_id
+        × ⟦<ExplicitContextTag0<AnyElement> as Clone>⟧.is_clone x.secret_value y.secret_value };
+
+    fn clone(&self) -> std::result::Result<SecretBag, AllocError> {
+        let (secret_type_id, secret_value) = copies::two(&self.secret_type_id, &self.secret_value)?;
+        Ok(SecretBag {
+            secret_type_id,
+            secret_value,
+        })
+    }
+}
+
 impl Faithful for SecretBag {
     ghost sameness = { struct_sameness ⟦<SecretBagParts as FaithfulMembers>⟧.sameness ⟦<Self as Struct>⟧.parts };
 
@@ -759,6 +880,16 @@ impl Exact for Pkcs12PbeParams {
         (λ m. (record { salt = m.0; iterations = m.1 }, refl {a = m})) };
 
     ghost exact = { Prim.assumption };
+}
+
+impl Clone for Pkcs12PbeParams {
+    ghost is_clone = { λ x y. ⟦<ByteBuf as Clone>⟧.is_clone x.salt y.salt
+        × ⟦<Integer as Clone>⟧.is_clone x.iterations y.iterations };
+
+    fn clone(&self) -> std::result::Result<Pkcs12PbeParams, AllocError> {
+        let (salt, iterations) = copies::two(&self.salt, &self.iterations)?;
+        Ok(Pkcs12PbeParams { salt, iterations })
+    }
 }
 
 impl Faithful for Pkcs12PbeParams {

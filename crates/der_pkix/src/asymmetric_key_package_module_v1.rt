@@ -18,7 +18,7 @@ ghost use Rattle.der_pkix.specs.Enumerations.{is_key_version, key_version_number
 use crate::Attribute;
 use der_types::{
     BitString, Contents, Exact, ExactContents, ExactMembers, Notated, NotatedMembers, WithSize,
-    deserialize_contents_as,
+    copies, deserialize_contents_as,
 };
 use der_x509::AlgorithmIdentifier;
 use picky_asn1_der::asn1::{Asn1SetOf, ByteBuf, ImplicitContextTag1, ImplicitList0, Tag};
@@ -29,6 +29,7 @@ use picky_asn1_der::{
     Deserialize, DeserializeMembers, Deserializer, List, Result, Serialize, SerializeMembers,
     Serializer, Struct, deserialize_struct_as,
 };
+use std::alloc::AllocError;
 
 /// The content of a message whose content type is id-ct-KP-aKeyPackage. `AsymmetricKeyPackage` of
 /// AsymmetricKeyPackageModuleV1: `SEQUENCE SIZE (1..MAX) OF OneAsymmetricKey`.
@@ -149,6 +150,31 @@ impl Exact for OneAsymmetricKey {
         )) };
 
     ghost exact = { Prim.assumption };
+}
+
+impl Clone for OneAsymmetricKey {
+    ghost is_clone = { λ x y. ⟦<KeyVersion as Clone>⟧.is_clone x.version y.version
+        × ⟦<PrivateKeyAlgorithmIdentifier as Clone>⟧.is_clone x.private_key_algorithm y.private_key_algorithm
+        × ⟦<PrivateKey as Clone>⟧.is_clone x.private_key y.private_key
+        × ⟦<Option<ImplicitList0<Attributes>> as Clone>⟧.is_clone x.attributes y.attributes
+        × ⟦<Option<ImplicitContextTag1<PublicKey>> as Clone>⟧.is_clone x.public_key y.public_key };
+
+    fn clone(&self) -> std::result::Result<OneAsymmetricKey, AllocError> {
+        let (version, private_key_algorithm, private_key, attributes, public_key) = copies::five(
+            &self.version,
+            &self.private_key_algorithm,
+            &self.private_key,
+            &self.attributes,
+            &self.public_key,
+        )?;
+        Ok(OneAsymmetricKey {
+            version,
+            private_key_algorithm,
+            private_key,
+            attributes,
+            public_key,
+        })
+    }
 }
 
 impl Faithful for OneAsymmetricKey {
@@ -380,6 +406,22 @@ impl Exact for EncryptedPrivateKeyInfo {
         (λ m. (record { encryption_algorithm = m.0; encrypted_data = m.1 }, refl {a = m})) };
 
     ghost exact = { Prim.assumption };
+}
+
+impl Clone for EncryptedPrivateKeyInfo {
+    ghost is_clone = { λ x y. ⟦<AlgorithmIdentifier as Clone>⟧.is_clone x.encryption_algorithm y.encryption_algorithm
+        × ⟦<ByteBuf as Clone>⟧.is_clone x.encrypted_data y.encrypted_data };
+
+    fn clone(&self) -> std::result::Result<EncryptedPrivateKeyInfo, AllocError> {
+        let (encryption_algorithm, encrypted_data) = copies::two(
+            &self.encryption_algorithm,
+            &self.encrypted_data,
+        )?;
+        Ok(EncryptedPrivateKeyInfo {
+            encryption_algorithm,
+            encrypted_data,
+        })
+    }
 }
 
 impl Faithful for EncryptedPrivateKeyInfo {

@@ -9,7 +9,7 @@ ghost use Rattle.der_types.specs.ExactMembers.{struct_values};
 ghost use Rattle.der_types.specs.SampleTrees.{exact_example};
 
 use der_types::{
-    BitString, Exact, ExactMembers, InRange, Notated, NotatedMembers, ObjectIdentifier,
+    BitString, Exact, ExactMembers, InRange, Notated, NotatedMembers, ObjectIdentifier, copies,
 };
 use picky_asn1_der::asn1::{ByteBuf, ExplicitContextTag0, ExplicitContextTag1, Tag};
 use picky_asn1_der::de::{Begins, Faithful, FaithfulMembers, Inhabited};
@@ -19,6 +19,7 @@ use picky_asn1_der::{
     Deserialize, DeserializeMembers, Deserializer, List, Result, Serialize, SerializeMembers,
     Serializer, Struct, deserialize_struct_as,
 };
+use std::alloc::AllocError;
 
 /// `ECPrivateKey` of ECPrivateKey, as a SEQUENCE.
 #[derive(Debug, Drop, PartialEq, Eq)]
@@ -112,6 +113,28 @@ impl Exact for EcPrivateKey {
         (λ m. (record { version = m.0; private_key = m.1; parameters = m.2.0; public_key = m.3.0 }, refl {a = m})) };
 
     ghost exact = { Prim.assumption };
+}
+
+impl Clone for EcPrivateKey {
+    ghost is_clone = { λ x y. ⟦<InRange<u8, 1, 1> as Clone>⟧.is_clone x.version y.version
+        × ⟦<ByteBuf as Clone>⟧.is_clone x.private_key y.private_key
+        × ⟦<Option<ExplicitContextTag0<EcParameters>> as Clone>⟧.is_clone x.parameters y.parameters
+        × ⟦<Option<ExplicitContextTag1<BitString>> as Clone>⟧.is_clone x.public_key y.public_key };
+
+    fn clone(&self) -> std::result::Result<EcPrivateKey, AllocError> {
+        let (version, private_key, parameters, public_key) = copies::four(
+            &self.version,
+            &self.private_key,
+            &self.parameters,
+            &self.public_key,
+        )?;
+        Ok(EcPrivateKey {
+            version,
+            private_key,
+            parameters,
+            public_key,
+        })
+    }
 }
 
 impl Faithful for EcPrivateKey {

@@ -16,7 +16,7 @@ ghost use Rattle.der_types.specs.SampleTrees.{exact_example};
 use der_elements::AnyElement;
 use der_types::{
     Exact, ExactAlternatives, ExactMembers, Ia5String, Notated, NotatedAlternatives,
-    NotatedMembers, ObjectIdentifier, WithSize,
+    NotatedMembers, ObjectIdentifier, WithSize, copies,
 };
 use der_x509::Name;
 use picky_asn1_der::Choice4::{First, Fourth, Later, Second, Third};
@@ -34,6 +34,7 @@ use picky_asn1_der::{
     Alternatives, Choice, Choice4, Deserialize, DeserializeMembers, Deserializer, List, NoneOf,
     OneOf, Result, Serialize, SerializeMembers, Serializer, Struct, deserialize_struct_as,
 };
+use std::alloc::AllocError;
 
 /// `SubjectAltName` of PKIX1Implicit88: `GeneralNames`.
 pub type SubjectAltName = GeneralNames;
@@ -42,7 +43,7 @@ pub type SubjectAltName = GeneralNames;
 pub type GeneralNames = WithSize<Vec<GeneralName>, 1, { usize::MAX }>;
 
 /// `GeneralName` of PKIX1Implicit88, as a CHOICE.
-#[derive(Debug, Drop, PartialEq, Eq)]
+#[derive(Debug, Clone, Drop, PartialEq, Eq)]
 pub enum GeneralName {
     /// `[0] AnotherName`.
     OtherName(ImplicitList0<AnotherName>),
@@ -261,6 +262,16 @@ impl Exact for AnotherName {
         (λ m. (record { type_id = m.0; value = m.1 }, refl {a = m})) };
 
     ghost exact = { Prim.assumption };
+}
+
+impl Clone for AnotherName {
+    ghost is_clone = { λ x y. ⟦<ObjectIdentifier as Clone>⟧.is_clone x.type_id y.type_id
+        × ⟦<ExplicitContextTag0<AnyElement> as Clone>⟧.is_clone x.value y.value };
+
+    fn clone(&self) -> std::result::Result<AnotherName, AllocError> {
+        let (type_id, value) = copies::two(&self.type_id, &self.value)?;
+        Ok(AnotherName { type_id, value })
+    }
 }
 
 impl Faithful for AnotherName {

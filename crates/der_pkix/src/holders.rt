@@ -23,7 +23,7 @@ ghost use Rattle.der_pkix.specs.Enumerations.{same_digested_object_type};
 use crate::GeneralNames;
 use der_types::{
     BitString, Contents, Exact, ExactAlternatives, ExactContents, ExactMembers, Notated,
-    NotatedAlternatives, NotatedMembers, ObjectIdentifier, deserialize_contents_as,
+    NotatedAlternatives, NotatedMembers, ObjectIdentifier, copies, deserialize_contents_as,
 };
 use der_x509::{AlgorithmIdentifier, CertificateSerialNumber, UniqueIdentifier};
 use picky_asn1_der::OneOf::{Other, This};
@@ -37,6 +37,7 @@ use picky_asn1_der::{
     Alternatives, Choice, Deserialize, DeserializeMembers, Deserializer, List, NoneOf, OneOf,
     Result, Serialize, SerializeMembers, Serializer, Struct, deserialize_struct_as,
 };
+use std::alloc::AllocError;
 
 /// Whose attributes these are, in one or more of three ways. `Holder` of
 /// PKIXAttributeCertificate-2008, as a SEQUENCE.
@@ -137,6 +138,25 @@ impl Exact for Holder {
         )) };
 
     ghost exact = { Prim.assumption };
+}
+
+impl Clone for Holder {
+    ghost is_clone = { λ x y. ⟦<Option<ImplicitList0<IssuerSerial>> as Clone>⟧.is_clone x.base_certificate_id y.base_certificate_id
+        × ⟦<Option<ImplicitList1<GeneralNames>> as Clone>⟧.is_clone x.entity_name y.entity_name
+        × ⟦<Option<ImplicitList2<ObjectDigestInfo>> as Clone>⟧.is_clone x.object_digest_info y.object_digest_info };
+
+    fn clone(&self) -> std::result::Result<Holder, AllocError> {
+        let (base_certificate_id, entity_name, object_digest_info) = copies::three(
+            &self.base_certificate_id,
+            &self.entity_name,
+            &self.object_digest_info,
+        )?;
+        Ok(Holder {
+            base_certificate_id,
+            entity_name,
+            object_digest_info,
+        })
+    }
 }
 
 impl Faithful for Holder {
@@ -255,6 +275,29 @@ impl Exact for ObjectDigestInfo {
         )) };
 
     ghost exact = { Prim.assumption };
+}
+
+impl Clone for ObjectDigestInfo {
+    ghost is_clone = { λ x y. ⟦<DigestedObjectType as Clone>⟧.is_clone x.digested_object_type y.digested_object_type
+        × ⟦<Option<ObjectIdentifier> as Clone>⟧.is_clone x.other_object_type_id y.other_object_type_id
+        × ⟦<AlgorithmIdentifier as Clone>⟧.is_clone x.digest_algorithm y.digest_algorithm
+        × ⟦<BitString as Clone>⟧.is_clone x.object_digest y.object_digest };
+
+    fn clone(&self) -> std::result::Result<ObjectDigestInfo, AllocError> {
+        let (digested_object_type, other_object_type_id, digest_algorithm, object_digest) =
+            copies::four(
+                &self.digested_object_type,
+                &self.other_object_type_id,
+                &self.digest_algorithm,
+                &self.object_digest,
+            )?;
+        Ok(ObjectDigestInfo {
+            digested_object_type,
+            other_object_type_id,
+            digest_algorithm,
+            object_digest,
+        })
+    }
 }
 
 impl Faithful for ObjectDigestInfo {
@@ -412,7 +455,7 @@ impl Inhabited for DigestedObjectType {
 }
 
 /// `AttCertIssuer` of PKIXAttributeCertificate-2008, as a CHOICE.
-#[derive(Debug, Drop, PartialEq, Eq)]
+#[derive(Debug, Clone, Drop, PartialEq, Eq)]
 pub enum AttCertIssuer {
     /// not to be used (4.2.3). `GeneralNames`.
     V1Form(GeneralNames),
@@ -602,6 +645,25 @@ impl Exact for V2Form {
     ghost exact = { Prim.assumption };
 }
 
+impl Clone for V2Form {
+    ghost is_clone = { λ x y. ⟦<Option<GeneralNames> as Clone>⟧.is_clone x.issuer_name y.issuer_name
+        × ⟦<Option<ImplicitList0<IssuerSerial>> as Clone>⟧.is_clone x.base_certificate_id y.base_certificate_id
+        × ⟦<Option<ImplicitList1<ObjectDigestInfo>> as Clone>⟧.is_clone x.object_digest_info y.object_digest_info };
+
+    fn clone(&self) -> std::result::Result<V2Form, AllocError> {
+        let (issuer_name, base_certificate_id, object_digest_info) = copies::three(
+            &self.issuer_name,
+            &self.base_certificate_id,
+            &self.object_digest_info,
+        )?;
+        Ok(V2Form {
+            issuer_name,
+            base_certificate_id,
+            object_digest_info,
+        })
+    }
+}
+
 impl Faithful for V2Form {
     ghost sameness = { struct_sameness ⟦<V2FormParts as FaithfulMembers>⟧.sameness ⟦<Self as Struct>⟧.parts };
 
@@ -693,6 +755,25 @@ impl Exact for IssuerSerial {
         (λ m. (record { issuer = m.0; serial = m.1; issuer_uid = m.2.0 }, refl {a = m})) };
 
     ghost exact = { Prim.assumption };
+}
+
+impl Clone for IssuerSerial {
+    ghost is_clone = { λ x y. ⟦<GeneralNames as Clone>⟧.is_clone x.issuer y.issuer
+        × ⟦<CertificateSerialNumber as Clone>⟧.is_clone x.serial y.serial
+        × ⟦<Option<UniqueIdentifier> as Clone>⟧.is_clone x.issuer_uid y.issuer_uid };
+
+    fn clone(&self) -> std::result::Result<IssuerSerial, AllocError> {
+        let (issuer, serial, issuer_uid) = copies::three(
+            &self.issuer,
+            &self.serial,
+            &self.issuer_uid,
+        )?;
+        Ok(IssuerSerial {
+            issuer,
+            serial,
+            issuer_uid,
+        })
+    }
 }
 
 impl Faithful for IssuerSerial {

@@ -8,7 +8,7 @@ ghost use Rattle.der_types.specs.Notation.{Notation};
 ghost use Rattle.der_types.specs.ExactMembers.{struct_values};
 ghost use Rattle.der_types.specs.SampleTrees.{exact_example};
 
-use der_types::{Exact, ExactMembers, Integer, Notated, NotatedMembers, WithSize};
+use der_types::{Exact, ExactMembers, Integer, Notated, NotatedMembers, WithSize, copies};
 use picky_asn1_der::asn1::Tag;
 use picky_asn1_der::de::{Begins, Faithful, FaithfulMembers, Inhabited};
 use picky_asn1_der::misc::{ReadExt, WriteExt};
@@ -17,6 +17,7 @@ use picky_asn1_der::{
     Deserialize, DeserializeMembers, Deserializer, List, Result, Serialize, SerializeMembers,
     Serializer, Struct, deserialize_struct_as,
 };
+use std::alloc::AllocError;
 
 /// `RSAPublicKey` of PKCS-1, as a SEQUENCE.
 #[derive(Debug, Drop, PartialEq, Eq)]
@@ -85,6 +86,19 @@ impl Exact for RsaPublicKey {
         (λ m. (record { modulus = m.0; public_exponent = m.1 }, refl {a = m})) };
 
     ghost exact = { Prim.assumption };
+}
+
+impl Clone for RsaPublicKey {
+    ghost is_clone = { λ x y. ⟦<Integer as Clone>⟧.is_clone x.modulus y.modulus
+        × ⟦<Integer as Clone>⟧.is_clone x.public_exponent y.public_exponent };
+
+    fn clone(&self) -> std::result::Result<RsaPublicKey, AllocError> {
+        let (modulus, public_exponent) = copies::two(&self.modulus, &self.public_exponent)?;
+        Ok(RsaPublicKey {
+            modulus,
+            public_exponent,
+        })
+    }
 }
 
 impl Faithful for RsaPublicKey {
@@ -250,6 +264,48 @@ impl Exact for RsaPrivateKey {
     ghost exact = { Prim.assumption };
 }
 
+impl Clone for RsaPrivateKey {
+    ghost is_clone = { λ x y. ⟦<RsaVersion as Clone>⟧.is_clone x.version y.version
+        × ⟦<Integer as Clone>⟧.is_clone x.modulus y.modulus
+        × ⟦<Integer as Clone>⟧.is_clone x.public_exponent y.public_exponent
+        × ⟦<Integer as Clone>⟧.is_clone x.private_exponent y.private_exponent
+        × ⟦<Integer as Clone>⟧.is_clone x.prime1 y.prime1
+        × ⟦<Integer as Clone>⟧.is_clone x.prime2 y.prime2
+        × ⟦<Integer as Clone>⟧.is_clone x.exponent1 y.exponent1
+        × ⟦<Integer as Clone>⟧.is_clone x.exponent2 y.exponent2
+        × ⟦<Integer as Clone>⟧.is_clone x.coefficient y.coefficient
+        × ⟦<Option<OtherPrimeInfos> as Clone>⟧.is_clone x.other_prime_infos y.other_prime_infos };
+
+    fn clone(&self) -> std::result::Result<RsaPrivateKey, AllocError> {
+        let (version, modulus, public_exponent, private_exponent, prime1) = copies::five(
+            &self.version,
+            &self.modulus,
+            &self.public_exponent,
+            &self.private_exponent,
+            &self.prime1,
+        )?;
+        let (prime2, exponent1, exponent2, coefficient, other_prime_infos) = copies::five(
+            &self.prime2,
+            &self.exponent1,
+            &self.exponent2,
+            &self.coefficient,
+            &self.other_prime_infos,
+        )?;
+        Ok(RsaPrivateKey {
+            version,
+            modulus,
+            public_exponent,
+            private_exponent,
+            prime1,
+            prime2,
+            exponent1,
+            exponent2,
+            coefficient,
+            other_prime_infos,
+        })
+    }
+}
+
 impl Faithful for RsaPrivateKey {
     ghost sameness = { struct_sameness ⟦<RsaPrivateKeyParts as FaithfulMembers>⟧.sameness ⟦<Self as Struct>⟧.parts };
 
@@ -337,6 +393,25 @@ impl Exact for OtherPrimeInfo {
         (λ m. (record { prime = m.0; exponent = m.1; coefficient = m.2 }, refl {a = m})) };
 
     ghost exact = { Prim.assumption };
+}
+
+impl Clone for OtherPrimeInfo {
+    ghost is_clone = { λ x y. ⟦<Integer as Clone>⟧.is_clone x.prime y.prime
+        × ⟦<Integer as Clone>⟧.is_clone x.exponent y.exponent
+        × ⟦<Integer as Clone>⟧.is_clone x.coefficient y.coefficient };
+
+    fn clone(&self) -> std::result::Result<OtherPrimeInfo, AllocError> {
+        let (prime, exponent, coefficient) = copies::three(
+            &self.prime,
+            &self.exponent,
+            &self.coefficient,
+        )?;
+        Ok(OtherPrimeInfo {
+            prime,
+            exponent,
+            coefficient,
+        })
+    }
 }
 
 impl Faithful for OtherPrimeInfo {

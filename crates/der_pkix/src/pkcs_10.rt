@@ -9,7 +9,7 @@ ghost use Rattle.der_types.specs.ExactMembers.{struct_values};
 ghost use Rattle.der_types.specs.SampleTrees.{exact_example};
 
 use crate::Attribute;
-use der_types::{BitString, Exact, ExactMembers, InRange, Notated, NotatedMembers};
+use der_types::{BitString, Exact, ExactMembers, InRange, Notated, NotatedMembers, copies};
 use der_x509::{AlgorithmIdentifier, Name, SubjectPublicKeyInfo};
 use picky_asn1_der::asn1::{Asn1SetOf, ImplicitList0, Tag};
 use picky_asn1_der::de::{Begins, Faithful, FaithfulMembers, Inhabited};
@@ -18,6 +18,7 @@ use picky_asn1_der::{
     Deserialize, DeserializeMembers, Deserializer, List, Result, Serialize, SerializeMembers,
     Serializer, Struct, deserialize_struct_as,
 };
+use std::alloc::AllocError;
 
 /// The signature is over the encoding of the request information. `CertificationRequest` of
 /// PKCS-10, as a SEQUENCE.
@@ -103,6 +104,25 @@ impl Exact for CertificationRequest {
         )) };
 
     ghost exact = { Prim.assumption };
+}
+
+impl Clone for CertificationRequest {
+    ghost is_clone = { λ x y. ⟦<CertificationRequestInfo as Clone>⟧.is_clone x.certification_request_info y.certification_request_info
+        × ⟦<AlgorithmIdentifier as Clone>⟧.is_clone x.signature_algorithm y.signature_algorithm
+        × ⟦<BitString as Clone>⟧.is_clone x.signature y.signature };
+
+    fn clone(&self) -> std::result::Result<CertificationRequest, AllocError> {
+        let (certification_request_info, signature_algorithm, signature) = copies::three(
+            &self.certification_request_info,
+            &self.signature_algorithm,
+            &self.signature,
+        )?;
+        Ok(CertificationRequest {
+            certification_request_info,
+            signature_algorithm,
+            signature,
+        })
+    }
 }
 
 impl Faithful for CertificationRequest {
@@ -204,6 +224,28 @@ impl Exact for CertificationRequestInfo {
         (λ m. (record { version = m.0; subject = m.1; subject_pk_info = m.2; attributes = m.3 }, refl {a = m})) };
 
     ghost exact = { Prim.assumption };
+}
+
+impl Clone for CertificationRequestInfo {
+    ghost is_clone = { λ x y. ⟦<InRange<u8, 0, 0> as Clone>⟧.is_clone x.version y.version
+        × ⟦<Name as Clone>⟧.is_clone x.subject y.subject
+        × ⟦<SubjectPublicKeyInfo as Clone>⟧.is_clone x.subject_pk_info y.subject_pk_info
+        × ⟦<ImplicitList0<CriAttributes> as Clone>⟧.is_clone x.attributes y.attributes };
+
+    fn clone(&self) -> std::result::Result<CertificationRequestInfo, AllocError> {
+        let (version, subject, subject_pk_info, attributes) = copies::four(
+            &self.version,
+            &self.subject,
+            &self.subject_pk_info,
+            &self.attributes,
+        )?;
+        Ok(CertificationRequestInfo {
+            version,
+            subject,
+            subject_pk_info,
+            attributes,
+        })
+    }
 }
 
 impl Faithful for CertificationRequestInfo {

@@ -11,7 +11,7 @@ ghost use Rattle.der_types.specs.SampleTrees.{exact_example};
 use crate::{GeneralName, GeneralNames};
 use der_types::{
     AtLeast, Exact, ExactMembers, Integer, Notated, NotatedMembers, ObjectIdentifier, OtherThan,
-    Plus, WithSize,
+    Plus, WithSize, copies,
 };
 use der_x509::CertificateSerialNumber;
 use picky_asn1_der::asn1::{
@@ -25,6 +25,7 @@ use picky_asn1_der::{
     Deserialize, DeserializeMembers, Deserializer, List, Result, Serialize, SerializeMembers,
     Serializer, Struct, deserialize_struct_as,
 };
+use std::alloc::AllocError;
 
 /// `AuthorityKeyIdentifier` of PKIX1Implicit88, as a SEQUENCE.
 #[derive(Debug, Drop, PartialEq, Eq)]
@@ -128,6 +129,25 @@ impl Exact for AuthorityKeyIdentifier {
     ghost exact = { Prim.assumption };
 }
 
+impl Clone for AuthorityKeyIdentifier {
+    ghost is_clone = { λ x y. ⟦<Option<ImplicitContextTag0<KeyIdentifier>> as Clone>⟧.is_clone x.key_identifier y.key_identifier
+        × ⟦<Option<ImplicitList1<GeneralNames>> as Clone>⟧.is_clone x.authority_cert_issuer y.authority_cert_issuer
+        × ⟦<Option<ImplicitContextTag2<CertificateSerialNumber>> as Clone>⟧.is_clone x.authority_cert_serial_number y.authority_cert_serial_number };
+
+    fn clone(&self) -> std::result::Result<AuthorityKeyIdentifier, AllocError> {
+        let (key_identifier, authority_cert_issuer, authority_cert_serial_number) = copies::three(
+            &self.key_identifier,
+            &self.authority_cert_issuer,
+            &self.authority_cert_serial_number,
+        )?;
+        Ok(AuthorityKeyIdentifier {
+            key_identifier,
+            authority_cert_issuer,
+            authority_cert_serial_number,
+        })
+    }
+}
+
 impl Faithful for AuthorityKeyIdentifier {
     ghost sameness = { struct_sameness ⟦<AuthorityKeyIdentifierParts as FaithfulMembers>⟧.sameness
         ⟦<Self as Struct>⟧.parts };
@@ -223,6 +243,19 @@ impl Exact for BasicConstraints {
     ghost exact = { Prim.assumption };
 }
 
+impl Clone for BasicConstraints {
+    ghost is_clone = { λ x y. ⟦<bool as Clone>⟧.is_clone x.ca y.ca
+        × ⟦<Option<AtLeast<Integer, Plus<0>>> as Clone>⟧.is_clone x.path_len_constraint y.path_len_constraint };
+
+    fn clone(&self) -> std::result::Result<BasicConstraints, AllocError> {
+        let (ca, path_len_constraint) = copies::two(&self.ca, &self.path_len_constraint)?;
+        Ok(BasicConstraints {
+            ca,
+            path_len_constraint,
+        })
+    }
+}
+
 impl Faithful for BasicConstraints {
     ghost sameness = { struct_sameness ⟦<BasicConstraintsParts as FaithfulMembers>⟧.sameness ⟦<Self as Struct>⟧.parts };
 
@@ -309,6 +342,22 @@ impl Exact for NameConstraints {
         (λ m. (record { permitted_subtrees = m.0.0; excluded_subtrees = m.1.0 }, refl {a = m})) };
 
     ghost exact = { Prim.assumption };
+}
+
+impl Clone for NameConstraints {
+    ghost is_clone = { λ x y. ⟦<Option<ImplicitList0<GeneralSubtrees>> as Clone>⟧.is_clone x.permitted_subtrees y.permitted_subtrees
+        × ⟦<Option<ImplicitList1<GeneralSubtrees>> as Clone>⟧.is_clone x.excluded_subtrees y.excluded_subtrees };
+
+    fn clone(&self) -> std::result::Result<NameConstraints, AllocError> {
+        let (permitted_subtrees, excluded_subtrees) = copies::two(
+            &self.permitted_subtrees,
+            &self.excluded_subtrees,
+        )?;
+        Ok(NameConstraints {
+            permitted_subtrees,
+            excluded_subtrees,
+        })
+    }
 }
 
 impl Faithful for NameConstraints {
@@ -407,6 +456,21 @@ impl Exact for GeneralSubtree {
     ghost exact = { Prim.assumption };
 }
 
+impl Clone for GeneralSubtree {
+    ghost is_clone = { λ x y. ⟦<GeneralName as Clone>⟧.is_clone x.base y.base
+        × ⟦<Option<ImplicitContextTag0<OtherThan<BaseDistance, 0>>> as Clone>⟧.is_clone x.minimum y.minimum
+        × ⟦<Option<ImplicitContextTag1<BaseDistance>> as Clone>⟧.is_clone x.maximum y.maximum };
+
+    fn clone(&self) -> std::result::Result<GeneralSubtree, AllocError> {
+        let (base, minimum, maximum) = copies::three(&self.base, &self.minimum, &self.maximum)?;
+        Ok(GeneralSubtree {
+            base,
+            minimum,
+            maximum,
+        })
+    }
+}
+
 impl Faithful for GeneralSubtree {
     ghost sameness = { struct_sameness ⟦<GeneralSubtreeParts as FaithfulMembers>⟧.sameness ⟦<Self as Struct>⟧.parts };
 
@@ -499,6 +563,22 @@ impl Exact for AccessDescription {
         (λ m. (record { access_method = m.0; access_location = m.1 }, refl {a = m})) };
 
     ghost exact = { Prim.assumption };
+}
+
+impl Clone for AccessDescription {
+    ghost is_clone = { λ x y. ⟦<ObjectIdentifier as Clone>⟧.is_clone x.access_method y.access_method
+        × ⟦<GeneralName as Clone>⟧.is_clone x.access_location y.access_location };
+
+    fn clone(&self) -> std::result::Result<AccessDescription, AllocError> {
+        let (access_method, access_location) = copies::two(
+            &self.access_method,
+            &self.access_location,
+        )?;
+        Ok(AccessDescription {
+            access_method,
+            access_location,
+        })
+    }
 }
 
 impl Faithful for AccessDescription {

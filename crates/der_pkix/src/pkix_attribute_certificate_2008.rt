@@ -15,7 +15,7 @@ ghost use Rattle.der_types.specs.SampleTrees.{exact_example};
 use crate::{AttCertIssuer, Attribute, GeneralName, Holder, IssuerSerial, ObjectDigestInfo};
 use der_types::{
     AtLeast, BitString, Exact, ExactAlternatives, ExactMembers, GeneralizedTime, InRange, Integer,
-    Notated, NotatedAlternatives, NotatedMembers, ObjectIdentifier, Plus, WithSize,
+    Notated, NotatedAlternatives, NotatedMembers, ObjectIdentifier, Plus, WithSize, copies,
 };
 use der_x509::{AlgorithmIdentifier, CertificateSerialNumber, Extensions, UniqueIdentifier};
 use picky_asn1_der::OneOf::{Other, This};
@@ -31,6 +31,7 @@ use picky_asn1_der::{
     Alternatives, Choice, Deserialize, DeserializeMembers, Deserializer, List, NoneOf, OneOf,
     Result, Serialize, SerializeMembers, Serializer, Struct, deserialize_struct_as,
 };
+use std::alloc::AllocError;
 
 /// The signature is over the encoding of `acinfo`. `AttributeCertificate` of
 /// PKIXAttributeCertificate-2008, as a SEQUENCE.
@@ -109,6 +110,25 @@ impl Exact for AttributeCertificate {
         (λ m. (record { acinfo = m.0; signature_algorithm = m.1; signature_value = m.2 }, refl {a = m})) };
 
     ghost exact = { Prim.assumption };
+}
+
+impl Clone for AttributeCertificate {
+    ghost is_clone = { λ x y. ⟦<AttributeCertificateInfo as Clone>⟧.is_clone x.acinfo y.acinfo
+        × ⟦<AlgorithmIdentifier as Clone>⟧.is_clone x.signature_algorithm y.signature_algorithm
+        × ⟦<BitString as Clone>⟧.is_clone x.signature_value y.signature_value };
+
+    fn clone(&self) -> std::result::Result<AttributeCertificate, AllocError> {
+        let (acinfo, signature_algorithm, signature_value) = copies::three(
+            &self.acinfo,
+            &self.signature_algorithm,
+            &self.signature_value,
+        )?;
+        Ok(AttributeCertificate {
+            acinfo,
+            signature_algorithm,
+            signature_value,
+        })
+    }
 }
 
 impl Faithful for AttributeCertificate {
@@ -272,6 +292,46 @@ impl Exact for AttributeCertificateInfo {
     ghost exact = { Prim.assumption };
 }
 
+impl Clone for AttributeCertificateInfo {
+    ghost is_clone = { λ x y. ⟦<AttCertVersion as Clone>⟧.is_clone x.version y.version
+        × ⟦<Holder as Clone>⟧.is_clone x.holder y.holder
+        × ⟦<AttCertIssuer as Clone>⟧.is_clone x.issuer y.issuer
+        × ⟦<AlgorithmIdentifier as Clone>⟧.is_clone x.signature y.signature
+        × ⟦<CertificateSerialNumber as Clone>⟧.is_clone x.serial_number y.serial_number
+        × ⟦<AttCertValidityPeriod as Clone>⟧.is_clone x.attr_cert_validity_period y.attr_cert_validity_period
+        × ⟦<Vec<Attribute> as Clone>⟧.is_clone x.attributes y.attributes
+        × ⟦<Option<UniqueIdentifier> as Clone>⟧.is_clone x.issuer_unique_id y.issuer_unique_id
+        × ⟦<Option<Extensions> as Clone>⟧.is_clone x.extensions y.extensions };
+
+    fn clone(&self) -> std::result::Result<AttributeCertificateInfo, AllocError> {
+        let (version, holder, issuer, signature) = copies::four(
+            &self.version,
+            &self.holder,
+            &self.issuer,
+            &self.signature,
+        )?;
+        let (serial_number, attr_cert_validity_period, attributes, issuer_unique_id, extensions) =
+            copies::five(
+                &self.serial_number,
+                &self.attr_cert_validity_period,
+                &self.attributes,
+                &self.issuer_unique_id,
+                &self.extensions,
+            )?;
+        Ok(AttributeCertificateInfo {
+            version,
+            holder,
+            issuer,
+            signature,
+            serial_number,
+            attr_cert_validity_period,
+            attributes,
+            issuer_unique_id,
+            extensions,
+        })
+    }
+}
+
 impl Faithful for AttributeCertificateInfo {
     ghost sameness = { struct_sameness ⟦<AttributeCertificateInfoParts as FaithfulMembers>⟧.sameness
         ⟦<Self as Struct>⟧.parts };
@@ -362,6 +422,22 @@ impl Exact for AttCertValidityPeriod {
     ghost exact = { Prim.assumption };
 }
 
+impl Clone for AttCertValidityPeriod {
+    ghost is_clone = { λ x y. ⟦<WithSize<GeneralizedTime, 15, 15> as Clone>⟧.is_clone x.not_before_time y.not_before_time
+        × ⟦<WithSize<GeneralizedTime, 15, 15> as Clone>⟧.is_clone x.not_after_time y.not_after_time };
+
+    fn clone(&self) -> std::result::Result<AttCertValidityPeriod, AllocError> {
+        let (not_before_time, not_after_time) = copies::two(
+            &self.not_before_time,
+            &self.not_after_time,
+        )?;
+        Ok(AttCertValidityPeriod {
+            not_before_time,
+            not_after_time,
+        })
+    }
+}
+
 impl Faithful for AttCertValidityPeriod {
     ghost sameness = { struct_sameness ⟦<AttCertValidityPeriodParts as FaithfulMembers>⟧.sameness
         ⟦<Self as Struct>⟧.parts };
@@ -381,7 +457,7 @@ pub type TargetInformation = Vec<Targets>;
 pub type Targets = Vec<Target>;
 
 /// `Target` of PKIXAttributeCertificate-2008, as a CHOICE.
-#[derive(Debug, Drop, PartialEq, Eq)]
+#[derive(Debug, Clone, Drop, PartialEq, Eq)]
 pub enum Target {
     /// `[0] GeneralName`.
     TargetName(ExplicitContextTag0<GeneralName>),
@@ -571,6 +647,25 @@ impl Exact for TargetCert {
     ghost exact = { Prim.assumption };
 }
 
+impl Clone for TargetCert {
+    ghost is_clone = { λ x y. ⟦<IssuerSerial as Clone>⟧.is_clone x.target_certificate y.target_certificate
+        × ⟦<Option<GeneralName> as Clone>⟧.is_clone x.target_name y.target_name
+        × ⟦<Option<ObjectDigestInfo> as Clone>⟧.is_clone x.cert_digest_info y.cert_digest_info };
+
+    fn clone(&self) -> std::result::Result<TargetCert, AllocError> {
+        let (target_certificate, target_name, cert_digest_info) = copies::three(
+            &self.target_certificate,
+            &self.target_name,
+            &self.cert_digest_info,
+        )?;
+        Ok(TargetCert {
+            target_certificate,
+            target_name,
+            cert_digest_info,
+        })
+    }
+}
+
 impl Faithful for TargetCert {
     ghost sameness = { struct_sameness ⟦<TargetCertParts as FaithfulMembers>⟧.sameness ⟦<Self as Struct>⟧.parts };
 
@@ -690,6 +785,29 @@ impl Exact for AaControls {
         )) };
 
     ghost exact = { Prim.assumption };
+}
+
+impl Clone for AaControls {
+    ghost is_clone = { λ x y. ⟦<Option<AtLeast<Integer, Plus<0>>> as Clone>⟧.is_clone x.path_len_constraint y.path_len_constraint
+        × ⟦<Option<ImplicitList0<AttrSpec>> as Clone>⟧.is_clone x.permitted_attrs y.permitted_attrs
+        × ⟦<Option<ImplicitList1<AttrSpec>> as Clone>⟧.is_clone x.excluded_attrs y.excluded_attrs
+        × ⟦<bool as Clone>⟧.is_clone x.permit_un_specified y.permit_un_specified };
+
+    fn clone(&self) -> std::result::Result<AaControls, AllocError> {
+        let (path_len_constraint, permitted_attrs, excluded_attrs, permit_un_specified) =
+            copies::four(
+                &self.path_len_constraint,
+                &self.permitted_attrs,
+                &self.excluded_attrs,
+                &self.permit_un_specified,
+            )?;
+        Ok(AaControls {
+            path_len_constraint,
+            permitted_attrs,
+            excluded_attrs,
+            permit_un_specified,
+        })
+    }
 }
 
 impl Faithful for AaControls {

@@ -15,7 +15,7 @@ ghost use Rattle.der_types.specs.SampleTrees.{exact_example};
 use der_elements::AnyElement;
 use der_types::{
     AtLeast, BmpString, Exact, ExactAlternatives, ExactMembers, Ia5String, Integer, Notated,
-    NotatedAlternatives, NotatedMembers, ObjectIdentifier, Plus, VisibleString, WithSize,
+    NotatedAlternatives, NotatedMembers, ObjectIdentifier, Plus, VisibleString, WithSize, copies,
 };
 use picky_asn1_der::Choice4::{First, Fourth, Second, Third};
 use picky_asn1_der::asn1::{ImplicitContextTag0, ImplicitContextTag1, Tag};
@@ -28,6 +28,7 @@ use picky_asn1_der::{
     Alternatives, Choice, Choice4, Deserialize, DeserializeMembers, Deserializer, List, NoneOf,
     Result, Serialize, SerializeMembers, Serializer, Struct, deserialize_struct_as,
 };
+use std::alloc::AllocError;
 
 /// `CertificatePolicies` of PKIX1Implicit88: `SEQUENCE SIZE (1..MAX) OF PolicyInformation`.
 pub type CertificatePolicies = WithSize<Vec<PolicyInformation>, 1, { usize::MAX }>;
@@ -108,6 +109,22 @@ impl Exact for PolicyInformation {
         (λ m. (record { policy_identifier = m.0; policy_qualifiers = m.1.0 }, refl {a = m})) };
 
     ghost exact = { Prim.assumption };
+}
+
+impl Clone for PolicyInformation {
+    ghost is_clone = { λ x y. ⟦<CertPolicyId as Clone>⟧.is_clone x.policy_identifier y.policy_identifier
+        × ⟦<Option<WithSize<Vec<PolicyQualifierInfo>, 1, { usize::MAX }>> as Clone>⟧.is_clone x.policy_qualifiers y.policy_qualifiers };
+
+    fn clone(&self) -> std::result::Result<PolicyInformation, AllocError> {
+        let (policy_identifier, policy_qualifiers) = copies::two(
+            &self.policy_identifier,
+            &self.policy_qualifiers,
+        )?;
+        Ok(PolicyInformation {
+            policy_identifier,
+            policy_qualifiers,
+        })
+    }
 }
 
 impl Faithful for PolicyInformation {
@@ -191,6 +208,22 @@ impl Exact for PolicyQualifierInfo {
         (λ m. (record { policy_qualifier_id = m.0; qualifier = m.1 }, refl {a = m})) };
 
     ghost exact = { Prim.assumption };
+}
+
+impl Clone for PolicyQualifierInfo {
+    ghost is_clone = { λ x y. ⟦<PolicyQualifierId as Clone>⟧.is_clone x.policy_qualifier_id y.policy_qualifier_id
+        × ⟦<AnyElement as Clone>⟧.is_clone x.qualifier y.qualifier };
+
+    fn clone(&self) -> std::result::Result<PolicyQualifierInfo, AllocError> {
+        let (policy_qualifier_id, qualifier) = copies::two(
+            &self.policy_qualifier_id,
+            &self.qualifier,
+        )?;
+        Ok(PolicyQualifierInfo {
+            policy_qualifier_id,
+            qualifier,
+        })
+    }
 }
 
 impl Faithful for PolicyQualifierInfo {
@@ -284,6 +317,19 @@ impl Exact for UserNotice {
     ghost exact = { Prim.assumption };
 }
 
+impl Clone for UserNotice {
+    ghost is_clone = { λ x y. ⟦<Option<NoticeReference> as Clone>⟧.is_clone x.notice_ref y.notice_ref
+        × ⟦<Option<DisplayText> as Clone>⟧.is_clone x.explicit_text y.explicit_text };
+
+    fn clone(&self) -> std::result::Result<UserNotice, AllocError> {
+        let (notice_ref, explicit_text) = copies::two(&self.notice_ref, &self.explicit_text)?;
+        Ok(UserNotice {
+            notice_ref,
+            explicit_text,
+        })
+    }
+}
+
 impl Faithful for UserNotice {
     ghost sameness = { struct_sameness ⟦<UserNoticeParts as FaithfulMembers>⟧.sameness ⟦<Self as Struct>⟧.parts };
 
@@ -363,6 +409,19 @@ impl Exact for NoticeReference {
     ghost exact = { Prim.assumption };
 }
 
+impl Clone for NoticeReference {
+    ghost is_clone = { λ x y. ⟦<DisplayText as Clone>⟧.is_clone x.organization y.organization
+        × ⟦<Vec<Integer> as Clone>⟧.is_clone x.notice_numbers y.notice_numbers };
+
+    fn clone(&self) -> std::result::Result<NoticeReference, AllocError> {
+        let (organization, notice_numbers) = copies::two(&self.organization, &self.notice_numbers)?;
+        Ok(NoticeReference {
+            organization,
+            notice_numbers,
+        })
+    }
+}
+
 impl Faithful for NoticeReference {
     ghost sameness = { struct_sameness ⟦<NoticeReferenceParts as FaithfulMembers>⟧.sameness ⟦<Self as Struct>⟧.parts };
 
@@ -374,7 +433,7 @@ impl Inhabited for NoticeReference {
 }
 
 /// `DisplayText` of PKIX1Implicit88, as a CHOICE.
-#[derive(Debug, Drop, PartialEq, Eq)]
+#[derive(Debug, Clone, Drop, PartialEq, Eq)]
 pub enum DisplayText {
     /// `IA5String (SIZE (1..200))`.
     Ia5String(WithSize<Ia5String, 1, 200>),
@@ -560,6 +619,22 @@ impl Exact for PolicyMappingsItem {
     ghost exact = { Prim.assumption };
 }
 
+impl Clone for PolicyMappingsItem {
+    ghost is_clone = { λ x y. ⟦<CertPolicyId as Clone>⟧.is_clone x.issuer_domain_policy y.issuer_domain_policy
+        × ⟦<CertPolicyId as Clone>⟧.is_clone x.subject_domain_policy y.subject_domain_policy };
+
+    fn clone(&self) -> std::result::Result<PolicyMappingsItem, AllocError> {
+        let (issuer_domain_policy, subject_domain_policy) = copies::two(
+            &self.issuer_domain_policy,
+            &self.subject_domain_policy,
+        )?;
+        Ok(PolicyMappingsItem {
+            issuer_domain_policy,
+            subject_domain_policy,
+        })
+    }
+}
+
 impl Faithful for PolicyMappingsItem {
     ghost sameness = { struct_sameness ⟦<PolicyMappingsItemParts as FaithfulMembers>⟧.sameness
         ⟦<Self as Struct>⟧.parts };
@@ -647,6 +722,22 @@ impl Exact for PolicyConstraints {
         (λ m. (record { require_explicit_policy = m.0.0; inhibit_policy_mapping = m.1.0 }, refl {a = m})) };
 
     ghost exact = { Prim.assumption };
+}
+
+impl Clone for PolicyConstraints {
+    ghost is_clone = { λ x y. ⟦<Option<ImplicitContextTag0<SkipCerts>> as Clone>⟧.is_clone x.require_explicit_policy y.require_explicit_policy
+        × ⟦<Option<ImplicitContextTag1<SkipCerts>> as Clone>⟧.is_clone x.inhibit_policy_mapping y.inhibit_policy_mapping };
+
+    fn clone(&self) -> std::result::Result<PolicyConstraints, AllocError> {
+        let (require_explicit_policy, inhibit_policy_mapping) = copies::two(
+            &self.require_explicit_policy,
+            &self.inhibit_policy_mapping,
+        )?;
+        Ok(PolicyConstraints {
+            require_explicit_policy,
+            inhibit_policy_mapping,
+        })
+    }
 }
 
 impl Faithful for PolicyConstraints {

@@ -16,7 +16,7 @@ use crate::{Attribute, GeneralName, GeneralNames};
 use der_elements::AnyElement;
 use der_types::{
     Exact, ExactAlternatives, ExactMembers, Integer, NamedBits, Notated, NotatedAlternatives,
-    NotatedMembers, ObjectIdentifier,
+    NotatedMembers, ObjectIdentifier, copies,
 };
 use picky_asn1_der::OneOf::{Other, This};
 use picky_asn1_der::asn1::{
@@ -31,6 +31,7 @@ use picky_asn1_der::{
     Alternatives, Choice, Deserialize, DeserializeMembers, Deserializer, List, NoneOf, OneOf,
     Result, Serialize, SerializeMembers, Serializer, Struct, deserialize_struct_as,
 };
+use std::alloc::AllocError;
 
 /// `IetfAttrSyntax` of PKIXAttributeCertificate-2008, as a SEQUENCE.
 #[derive(Debug, Drop, PartialEq, Eq)]
@@ -105,6 +106,19 @@ impl Exact for IetfAttrSyntax {
     ghost exact = { Prim.assumption };
 }
 
+impl Clone for IetfAttrSyntax {
+    ghost is_clone = { λ x y. ⟦<Option<ImplicitList0<GeneralNames>> as Clone>⟧.is_clone x.policy_authority y.policy_authority
+        × ⟦<Vec<IetfAttrValue> as Clone>⟧.is_clone x.values y.values };
+
+    fn clone(&self) -> std::result::Result<IetfAttrSyntax, AllocError> {
+        let (policy_authority, values) = copies::two(&self.policy_authority, &self.values)?;
+        Ok(IetfAttrSyntax {
+            policy_authority,
+            values,
+        })
+    }
+}
+
 impl Faithful for IetfAttrSyntax {
     ghost sameness = { struct_sameness ⟦<IetfAttrSyntaxParts as FaithfulMembers>⟧.sameness ⟦<Self as Struct>⟧.parts };
 
@@ -116,7 +130,7 @@ impl Inhabited for IetfAttrSyntax {
 }
 
 /// RFC 5755 gives this type no name. `IetfAttrValue` of PKIXAttributeCertificate-2008, as a CHOICE.
-#[derive(Debug, Drop, PartialEq, Eq)]
+#[derive(Debug, Clone, Drop, PartialEq, Eq)]
 pub enum IetfAttrValue {
     /// `OCTET STRING`.
     Octets(ByteBuf),
@@ -289,6 +303,25 @@ impl Exact for SvceAuthInfo {
     ghost exact = { Prim.assumption };
 }
 
+impl Clone for SvceAuthInfo {
+    ghost is_clone = { λ x y. ⟦<GeneralName as Clone>⟧.is_clone x.service y.service
+        × ⟦<GeneralName as Clone>⟧.is_clone x.ident y.ident
+        × ⟦<Option<ByteBuf> as Clone>⟧.is_clone x.auth_info y.auth_info };
+
+    fn clone(&self) -> std::result::Result<SvceAuthInfo, AllocError> {
+        let (service, ident, auth_info) = copies::three(
+            &self.service,
+            &self.ident,
+            &self.auth_info,
+        )?;
+        Ok(SvceAuthInfo {
+            service,
+            ident,
+            auth_info,
+        })
+    }
+}
+
 impl Faithful for SvceAuthInfo {
     ghost sameness = { struct_sameness ⟦<SvceAuthInfoParts as FaithfulMembers>⟧.sameness ⟦<Self as Struct>⟧.parts };
 
@@ -370,6 +403,19 @@ impl Exact for RoleSyntax {
         (λ m. (record { role_authority = m.0.0; role_name = m.1 }, refl {a = m})) };
 
     ghost exact = { Prim.assumption };
+}
+
+impl Clone for RoleSyntax {
+    ghost is_clone = { λ x y. ⟦<Option<ImplicitList0<GeneralNames>> as Clone>⟧.is_clone x.role_authority y.role_authority
+        × ⟦<ExplicitContextTag1<GeneralName> as Clone>⟧.is_clone x.role_name y.role_name };
+
+    fn clone(&self) -> std::result::Result<RoleSyntax, AllocError> {
+        let (role_authority, role_name) = copies::two(&self.role_authority, &self.role_name)?;
+        Ok(RoleSyntax {
+            role_authority,
+            role_name,
+        })
+    }
 }
 
 impl Faithful for RoleSyntax {
@@ -468,6 +514,25 @@ impl Exact for Clearance {
     ghost exact = { Prim.assumption };
 }
 
+impl Clone for Clearance {
+    ghost is_clone = { λ x y. ⟦<ObjectIdentifier as Clone>⟧.is_clone x.policy_id y.policy_id
+        × ⟦<Option<ClassList> as Clone>⟧.is_clone x.class_list y.class_list
+        × ⟦<Option<Asn1SetOf<SecurityCategory>> as Clone>⟧.is_clone x.security_categories y.security_categories };
+
+    fn clone(&self) -> std::result::Result<Clearance, AllocError> {
+        let (policy_id, class_list, security_categories) = copies::three(
+            &self.policy_id,
+            &self.class_list,
+            &self.security_categories,
+        )?;
+        Ok(Clearance {
+            policy_id,
+            class_list,
+            security_categories,
+        })
+    }
+}
+
 impl Faithful for Clearance {
     ghost sameness = { struct_sameness ⟦<ClearanceParts as FaithfulMembers>⟧.sameness ⟦<Self as Struct>⟧.parts };
 
@@ -552,6 +617,16 @@ impl Exact for SecurityCategory {
     ghost exact = { Prim.assumption };
 }
 
+impl Clone for SecurityCategory {
+    ghost is_clone = { λ x y. ⟦<ImplicitContextTag0<ObjectIdentifier> as Clone>⟧.is_clone x.type_ y.type_
+        × ⟦<ExplicitContextTag1<AnyElement> as Clone>⟧.is_clone x.value y.value };
+
+    fn clone(&self) -> std::result::Result<SecurityCategory, AllocError> {
+        let (type_, value) = copies::two(&self.type_, &self.value)?;
+        Ok(SecurityCategory { type_, value })
+    }
+}
+
 impl Faithful for SecurityCategory {
     ghost sameness = { struct_sameness ⟦<SecurityCategoryParts as FaithfulMembers>⟧.sameness ⟦<Self as Struct>⟧.parts };
 
@@ -633,6 +708,25 @@ impl Exact for AcClearAttrs {
         (λ m. (record { ac_issuer = m.0; ac_serial = m.1; attrs = m.2 }, refl {a = m})) };
 
     ghost exact = { Prim.assumption };
+}
+
+impl Clone for AcClearAttrs {
+    ghost is_clone = { λ x y. ⟦<GeneralName as Clone>⟧.is_clone x.ac_issuer y.ac_issuer
+        × ⟦<Integer as Clone>⟧.is_clone x.ac_serial y.ac_serial
+        × ⟦<Vec<Attribute> as Clone>⟧.is_clone x.attrs y.attrs };
+
+    fn clone(&self) -> std::result::Result<AcClearAttrs, AllocError> {
+        let (ac_issuer, ac_serial, attrs) = copies::three(
+            &self.ac_issuer,
+            &self.ac_serial,
+            &self.attrs,
+        )?;
+        Ok(AcClearAttrs {
+            ac_issuer,
+            ac_serial,
+            attrs,
+        })
+    }
 }
 
 impl Faithful for AcClearAttrs {

@@ -23,7 +23,7 @@ use crate::GeneralNames;
 use der_types::{
     AtLeast, Contents, Exact, ExactAlternatives, ExactContents, ExactMembers, GeneralizedTime,
     Integer, NamedBits, Notated, NotatedAlternatives, NotatedMembers, ObjectIdentifier, Plus,
-    WithSize, deserialize_contents_as,
+    WithSize, copies, deserialize_contents_as,
 };
 use der_x509::RelativeDistinguishedName;
 use picky_asn1_der::OneOf::{Other, This};
@@ -40,6 +40,7 @@ use picky_asn1_der::{
     Alternatives, Choice, Deserialize, DeserializeMembers, Deserializer, List, NoneOf, OneOf,
     Result, Serialize, SerializeMembers, Serializer, Struct, deserialize_struct_as,
 };
+use std::alloc::AllocError;
 
 /// `CRLDistributionPoints` of PKIX1Implicit88: `SEQUENCE SIZE (1..MAX) OF DistributionPoint`.
 pub type CrlDistributionPoints = WithSize<Vec<DistributionPoint>, 1, { usize::MAX }>;
@@ -132,6 +133,25 @@ impl Exact for DistributionPoint {
     ghost exact = { Prim.assumption };
 }
 
+impl Clone for DistributionPoint {
+    ghost is_clone = { λ x y. ⟦<Option<ExplicitContextTag0<DistributionPointName>> as Clone>⟧.is_clone x.distribution_point y.distribution_point
+        × ⟦<Option<ImplicitContextTag1<ReasonFlags>> as Clone>⟧.is_clone x.reasons y.reasons
+        × ⟦<Option<ImplicitList2<GeneralNames>> as Clone>⟧.is_clone x.crl_issuer y.crl_issuer };
+
+    fn clone(&self) -> std::result::Result<DistributionPoint, AllocError> {
+        let (distribution_point, reasons, crl_issuer) = copies::three(
+            &self.distribution_point,
+            &self.reasons,
+            &self.crl_issuer,
+        )?;
+        Ok(DistributionPoint {
+            distribution_point,
+            reasons,
+            crl_issuer,
+        })
+    }
+}
+
 impl Faithful for DistributionPoint {
     ghost sameness = { struct_sameness ⟦<DistributionPointParts as FaithfulMembers>⟧.sameness
         ⟦<Self as Struct>⟧.parts };
@@ -144,7 +164,7 @@ impl Inhabited for DistributionPoint {
 }
 
 /// `DistributionPointName` of PKIX1Implicit88, as a CHOICE.
-#[derive(Debug, Drop, PartialEq, Eq)]
+#[derive(Debug, Clone, Drop, PartialEq, Eq)]
 pub enum DistributionPointName {
     /// `[0] GeneralNames`.
     FullName(ImplicitList0<GeneralNames>),
@@ -383,6 +403,41 @@ impl Exact for IssuingDistributionPoint {
         )) };
 
     ghost exact = { Prim.assumption };
+}
+
+impl Clone for IssuingDistributionPoint {
+    ghost is_clone = { λ x y. ⟦<Option<ExplicitContextTag0<DistributionPointName>> as Clone>⟧.is_clone x.distribution_point y.distribution_point
+        × ⟦<ImplicitContextTag1<bool> as Clone>⟧.is_clone x.only_contains_user_certs y.only_contains_user_certs
+        × ⟦<ImplicitContextTag2<bool> as Clone>⟧.is_clone x.only_contains_ca_certs y.only_contains_ca_certs
+        × ⟦<Option<ImplicitContextTag3<ReasonFlags>> as Clone>⟧.is_clone x.only_some_reasons y.only_some_reasons
+        × ⟦<ImplicitContextTag4<bool> as Clone>⟧.is_clone x.indirect_crl y.indirect_crl
+        × ⟦<ImplicitContextTag5<bool> as Clone>⟧.is_clone x.only_contains_attribute_certs y.only_contains_attribute_certs };
+
+    fn clone(&self) -> std::result::Result<IssuingDistributionPoint, AllocError> {
+        let (
+            distribution_point,
+            only_contains_user_certs,
+            only_contains_ca_certs,
+            only_some_reasons,
+            indirect_crl,
+            only_contains_attribute_certs,
+        ) = copies::six(
+            &self.distribution_point,
+            &self.only_contains_user_certs,
+            &self.only_contains_ca_certs,
+            &self.only_some_reasons,
+            &self.indirect_crl,
+            &self.only_contains_attribute_certs,
+        )?;
+        Ok(IssuingDistributionPoint {
+            distribution_point,
+            only_contains_user_certs,
+            only_contains_ca_certs,
+            only_some_reasons,
+            indirect_crl,
+            only_contains_attribute_certs,
+        })
+    }
 }
 
 impl Faithful for IssuingDistributionPoint {

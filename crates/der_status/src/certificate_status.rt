@@ -15,7 +15,7 @@ ghost use Rattle.der_types.specs.SampleTrees.{exact_example};
 use crate::{CertId, ResponseTime};
 use der_pkix::CrlReason;
 use der_types::{
-    Exact, ExactAlternatives, ExactMembers, Notated, NotatedAlternatives, NotatedMembers,
+    Exact, ExactAlternatives, ExactMembers, Notated, NotatedAlternatives, NotatedMembers, copies,
 };
 use der_x509::Extensions;
 use picky_asn1_der::OneOf::{Other, This};
@@ -32,6 +32,7 @@ use picky_asn1_der::{
     Alternatives, Choice, Deserialize, DeserializeMembers, Deserializer, List, NoneOf, OneOf,
     Result, Serialize, SerializeMembers, Serializer, Struct, deserialize_struct_as,
 };
+use std::alloc::AllocError;
 
 /// `SingleResponse` of OCSP-2013-88, as a SEQUENCE.
 #[derive(Debug, Drop, PartialEq, Eq)]
@@ -149,6 +150,31 @@ impl Exact for SingleResponse {
     ghost exact = { Prim.assumption };
 }
 
+impl Clone for SingleResponse {
+    ghost is_clone = { λ x y. ⟦<CertId as Clone>⟧.is_clone x.cert_id y.cert_id
+        × ⟦<CertStatus as Clone>⟧.is_clone x.cert_status y.cert_status
+        × ⟦<ResponseTime as Clone>⟧.is_clone x.this_update y.this_update
+        × ⟦<Option<ExplicitContextTag0<ResponseTime>> as Clone>⟧.is_clone x.next_update y.next_update
+        × ⟦<Option<ExplicitContextTag1<Extensions>> as Clone>⟧.is_clone x.single_extensions y.single_extensions };
+
+    fn clone(&self) -> std::result::Result<SingleResponse, AllocError> {
+        let (cert_id, cert_status, this_update, next_update, single_extensions) = copies::five(
+            &self.cert_id,
+            &self.cert_status,
+            &self.this_update,
+            &self.next_update,
+            &self.single_extensions,
+        )?;
+        Ok(SingleResponse {
+            cert_id,
+            cert_status,
+            this_update,
+            next_update,
+            single_extensions,
+        })
+    }
+}
+
 impl Faithful for SingleResponse {
     ghost sameness = { struct_sameness ⟦<SingleResponseParts as FaithfulMembers>⟧.sameness ⟦<Self as Struct>⟧.parts };
 
@@ -160,7 +186,7 @@ impl Inhabited for SingleResponse {
 }
 
 /// `CertStatus` of OCSP-2013-88, as a CHOICE.
-#[derive(Debug, Drop, PartialEq, Eq)]
+#[derive(Debug, Clone, Drop, PartialEq, Eq)]
 pub enum CertStatus {
     /// `[0] IMPLICIT NULL`.
     Good(ImplicitContextTag0<()>),
@@ -334,6 +360,22 @@ impl Exact for RevokedInfo {
         (λ m. (record { revocation_time = m.0; revocation_reason = m.1.0 }, refl {a = m})) };
 
     ghost exact = { Prim.assumption };
+}
+
+impl Clone for RevokedInfo {
+    ghost is_clone = { λ x y. ⟦<ResponseTime as Clone>⟧.is_clone x.revocation_time y.revocation_time
+        × ⟦<Option<ExplicitContextTag0<CrlReason>> as Clone>⟧.is_clone x.revocation_reason y.revocation_reason };
+
+    fn clone(&self) -> std::result::Result<RevokedInfo, AllocError> {
+        let (revocation_time, revocation_reason) = copies::two(
+            &self.revocation_time,
+            &self.revocation_reason,
+        )?;
+        Ok(RevokedInfo {
+            revocation_time,
+            revocation_reason,
+        })
+    }
 }
 
 impl Faithful for RevokedInfo {

@@ -23,7 +23,7 @@ ghost use Rattle.der_status.specs.Enumerations.{same_ocsp_response_status};
 use crate::{SingleResponse, Version};
 use der_types::{
     BitString, Contents, Exact, ExactAlternatives, ExactContents, ExactMembers, GeneralizedTime,
-    Notated, NotatedAlternatives, NotatedMembers, ObjectIdentifier, OtherThan, WithSize,
+    Notated, NotatedAlternatives, NotatedMembers, ObjectIdentifier, OtherThan, WithSize, copies,
     deserialize_contents_as,
 };
 use der_x509::{AlgorithmIdentifier, Certificate, Extensions, Name};
@@ -40,6 +40,7 @@ use picky_asn1_der::{
     Alternatives, Choice, Deserialize, DeserializeMembers, Deserializer, List, NoneOf, OneOf,
     Result, Serialize, SerializeMembers, Serializer, Struct, deserialize_struct_as,
 };
+use std::alloc::AllocError;
 
 /// `YYYYMMDDHHMMSSZ`, without a fraction of a second (4.2.2.1). RFC 6960 gives this type no name.
 /// `ResponseTime` of OCSP-2013-88: `GeneralizedTime (SIZE (15))`.
@@ -118,6 +119,22 @@ impl Exact for OcspResponse {
         (λ m. (record { response_status = m.0; response_bytes = m.1.0 }, refl {a = m})) };
 
     ghost exact = { Prim.assumption };
+}
+
+impl Clone for OcspResponse {
+    ghost is_clone = { λ x y. ⟦<OcspResponseStatus as Clone>⟧.is_clone x.response_status y.response_status
+        × ⟦<Option<ExplicitContextTag0<ResponseBytes>> as Clone>⟧.is_clone x.response_bytes y.response_bytes };
+
+    fn clone(&self) -> std::result::Result<OcspResponse, AllocError> {
+        let (response_status, response_bytes) = copies::two(
+            &self.response_status,
+            &self.response_bytes,
+        )?;
+        Ok(OcspResponse {
+            response_status,
+            response_bytes,
+        })
+    }
 }
 
 impl Faithful for OcspResponse {
@@ -368,6 +385,19 @@ impl Exact for ResponseBytes {
     ghost exact = { Prim.assumption };
 }
 
+impl Clone for ResponseBytes {
+    ghost is_clone = { λ x y. ⟦<ObjectIdentifier as Clone>⟧.is_clone x.response_type y.response_type
+        × ⟦<ByteBuf as Clone>⟧.is_clone x.response y.response };
+
+    fn clone(&self) -> std::result::Result<ResponseBytes, AllocError> {
+        let (response_type, response) = copies::two(&self.response_type, &self.response)?;
+        Ok(ResponseBytes {
+            response_type,
+            response,
+        })
+    }
+}
+
 impl Faithful for ResponseBytes {
     ghost sameness = { struct_sameness ⟦<ResponseBytesParts as FaithfulMembers>⟧.sameness ⟦<Self as Struct>⟧.parts };
 
@@ -473,6 +503,28 @@ impl Exact for BasicOcspResponse {
         )) };
 
     ghost exact = { Prim.assumption };
+}
+
+impl Clone for BasicOcspResponse {
+    ghost is_clone = { λ x y. ⟦<ResponseData as Clone>⟧.is_clone x.tbs_response_data y.tbs_response_data
+        × ⟦<AlgorithmIdentifier as Clone>⟧.is_clone x.signature_algorithm y.signature_algorithm
+        × ⟦<BitString as Clone>⟧.is_clone x.signature y.signature
+        × ⟦<Option<ExplicitContextTag0<Vec<Certificate>>> as Clone>⟧.is_clone x.certs y.certs };
+
+    fn clone(&self) -> std::result::Result<BasicOcspResponse, AllocError> {
+        let (tbs_response_data, signature_algorithm, signature, certs) = copies::four(
+            &self.tbs_response_data,
+            &self.signature_algorithm,
+            &self.signature,
+            &self.certs,
+        )?;
+        Ok(BasicOcspResponse {
+            tbs_response_data,
+            signature_algorithm,
+            signature,
+            certs,
+        })
+    }
 }
 
 impl Faithful for BasicOcspResponse {
@@ -602,6 +654,31 @@ impl Exact for ResponseData {
     ghost exact = { Prim.assumption };
 }
 
+impl Clone for ResponseData {
+    ghost is_clone = { λ x y. ⟦<Option<ExplicitContextTag0<OtherThan<Version, 0>>> as Clone>⟧.is_clone x.version y.version
+        × ⟦<ResponderId as Clone>⟧.is_clone x.responder_id y.responder_id
+        × ⟦<ResponseTime as Clone>⟧.is_clone x.produced_at y.produced_at
+        × ⟦<Vec<SingleResponse> as Clone>⟧.is_clone x.responses y.responses
+        × ⟦<Option<ExplicitContextTag1<Extensions>> as Clone>⟧.is_clone x.response_extensions y.response_extensions };
+
+    fn clone(&self) -> std::result::Result<ResponseData, AllocError> {
+        let (version, responder_id, produced_at, responses, response_extensions) = copies::five(
+            &self.version,
+            &self.responder_id,
+            &self.produced_at,
+            &self.responses,
+            &self.response_extensions,
+        )?;
+        Ok(ResponseData {
+            version,
+            responder_id,
+            produced_at,
+            responses,
+            response_extensions,
+        })
+    }
+}
+
 impl Faithful for ResponseData {
     ghost sameness = { struct_sameness ⟦<ResponseDataParts as FaithfulMembers>⟧.sameness ⟦<Self as Struct>⟧.parts };
 
@@ -613,7 +690,7 @@ impl Inhabited for ResponseData {
 }
 
 /// `ResponderID` of OCSP-2013-88, as a CHOICE.
-#[derive(Debug, Drop, PartialEq, Eq)]
+#[derive(Debug, Clone, Drop, PartialEq, Eq)]
 pub enum ResponderId {
     /// `[1] Name`.
     ByName(ExplicitContextTag1<Name>),

@@ -9,7 +9,9 @@ ghost use Rattle.der_types.specs.ExactMembers.{struct_values};
 ghost use Rattle.der_types.specs.SampleTrees.{exact_example};
 
 use der_pkix::GeneralName;
-use der_types::{BitString, Exact, ExactMembers, Integer, Notated, NotatedMembers, OtherThan};
+use der_types::{
+    BitString, Exact, ExactMembers, Integer, Notated, NotatedMembers, OtherThan, copies,
+};
 use der_x509::{AlgorithmIdentifier, Certificate, CertificateSerialNumber, Extensions};
 use picky_asn1_der::asn1::{
     ByteBuf, ExplicitContextTag0, ExplicitContextTag1, ExplicitContextTag2, Tag,
@@ -21,6 +23,7 @@ use picky_asn1_der::{
     Deserialize, DeserializeMembers, Deserializer, List, Result, Serialize, SerializeMembers,
     Serializer, Struct, deserialize_struct_as,
 };
+use std::alloc::AllocError;
 
 /// `OCSPRequest` of OCSP-2013-88, as a SEQUENCE.
 #[derive(Debug, Drop, PartialEq, Eq)]
@@ -91,6 +94,22 @@ impl Exact for OcspRequest {
         (λ m. (record { tbs_request = m.0; optional_signature = m.1.0 }, refl {a = m})) };
 
     ghost exact = { Prim.assumption };
+}
+
+impl Clone for OcspRequest {
+    ghost is_clone = { λ x y. ⟦<TbsRequest as Clone>⟧.is_clone x.tbs_request y.tbs_request
+        × ⟦<Option<ExplicitContextTag0<Signature>> as Clone>⟧.is_clone x.optional_signature y.optional_signature };
+
+    fn clone(&self) -> std::result::Result<OcspRequest, AllocError> {
+        let (tbs_request, optional_signature) = copies::two(
+            &self.tbs_request,
+            &self.optional_signature,
+        )?;
+        Ok(OcspRequest {
+            tbs_request,
+            optional_signature,
+        })
+    }
 }
 
 impl Faithful for OcspRequest {
@@ -211,6 +230,28 @@ impl Exact for TbsRequest {
     ghost exact = { Prim.assumption };
 }
 
+impl Clone for TbsRequest {
+    ghost is_clone = { λ x y. ⟦<Option<ExplicitContextTag0<OtherThan<Version, 0>>> as Clone>⟧.is_clone x.version y.version
+        × ⟦<Option<ExplicitContextTag1<GeneralName>> as Clone>⟧.is_clone x.requestor_name y.requestor_name
+        × ⟦<Vec<Request> as Clone>⟧.is_clone x.request_list y.request_list
+        × ⟦<Option<ExplicitContextTag2<Extensions>> as Clone>⟧.is_clone x.request_extensions y.request_extensions };
+
+    fn clone(&self) -> std::result::Result<TbsRequest, AllocError> {
+        let (version, requestor_name, request_list, request_extensions) = copies::four(
+            &self.version,
+            &self.requestor_name,
+            &self.request_list,
+            &self.request_extensions,
+        )?;
+        Ok(TbsRequest {
+            version,
+            requestor_name,
+            request_list,
+            request_extensions,
+        })
+    }
+}
+
 impl Faithful for TbsRequest {
     ghost sameness = { struct_sameness ⟦<TbsRequestParts as FaithfulMembers>⟧.sameness ⟦<Self as Struct>⟧.parts };
 
@@ -304,6 +345,25 @@ impl Exact for Signature {
     ghost exact = { Prim.assumption };
 }
 
+impl Clone for Signature {
+    ghost is_clone = { λ x y. ⟦<AlgorithmIdentifier as Clone>⟧.is_clone x.signature_algorithm y.signature_algorithm
+        × ⟦<BitString as Clone>⟧.is_clone x.signature y.signature
+        × ⟦<Option<ExplicitContextTag0<Vec<Certificate>>> as Clone>⟧.is_clone x.certs y.certs };
+
+    fn clone(&self) -> std::result::Result<Signature, AllocError> {
+        let (signature_algorithm, signature, certs) = copies::three(
+            &self.signature_algorithm,
+            &self.signature,
+            &self.certs,
+        )?;
+        Ok(Signature {
+            signature_algorithm,
+            signature,
+            certs,
+        })
+    }
+}
+
 impl Faithful for Signature {
     ghost sameness = { struct_sameness ⟦<SignatureParts as FaithfulMembers>⟧.sameness ⟦<Self as Struct>⟧.parts };
 
@@ -389,6 +449,22 @@ impl Exact for Request {
         (λ m. (record { req_cert = m.0; single_request_extensions = m.1.0 }, refl {a = m})) };
 
     ghost exact = { Prim.assumption };
+}
+
+impl Clone for Request {
+    ghost is_clone = { λ x y. ⟦<CertId as Clone>⟧.is_clone x.req_cert y.req_cert
+        × ⟦<Option<ExplicitContextTag0<Extensions>> as Clone>⟧.is_clone x.single_request_extensions y.single_request_extensions };
+
+    fn clone(&self) -> std::result::Result<Request, AllocError> {
+        let (req_cert, single_request_extensions) = copies::two(
+            &self.req_cert,
+            &self.single_request_extensions,
+        )?;
+        Ok(Request {
+            req_cert,
+            single_request_extensions,
+        })
+    }
 }
 
 impl Faithful for Request {
@@ -495,6 +571,28 @@ impl Exact for CertId {
         )) };
 
     ghost exact = { Prim.assumption };
+}
+
+impl Clone for CertId {
+    ghost is_clone = { λ x y. ⟦<AlgorithmIdentifier as Clone>⟧.is_clone x.hash_algorithm y.hash_algorithm
+        × ⟦<ByteBuf as Clone>⟧.is_clone x.issuer_name_hash y.issuer_name_hash
+        × ⟦<ByteBuf as Clone>⟧.is_clone x.issuer_key_hash y.issuer_key_hash
+        × ⟦<CertificateSerialNumber as Clone>⟧.is_clone x.serial_number y.serial_number };
+
+    fn clone(&self) -> std::result::Result<CertId, AllocError> {
+        let (hash_algorithm, issuer_name_hash, issuer_key_hash, serial_number) = copies::four(
+            &self.hash_algorithm,
+            &self.issuer_name_hash,
+            &self.issuer_key_hash,
+            &self.serial_number,
+        )?;
+        Ok(CertId {
+            hash_algorithm,
+            issuer_name_hash,
+            issuer_key_hash,
+            serial_number,
+        })
+    }
 }
 
 impl Faithful for CertId {

@@ -12,7 +12,7 @@ use der_cms::ContentInfo;
 use der_pkix::GeneralName;
 use der_types::{
     Exact, ExactMembers, GeneralizedTime, InRange, Integer, NamedBits, Notated, NotatedMembers,
-    ObjectIdentifier, WithSize,
+    ObjectIdentifier, WithSize, copies,
 };
 use der_x509::{AlgorithmIdentifier, Extensions};
 use picky_asn1_der::asn1::{
@@ -26,6 +26,7 @@ use picky_asn1_der::{
     Deserialize, DeserializeMembers, Deserializer, List, Result, Serialize, SerializeMembers,
     Serializer, Struct, deserialize_struct_as,
 };
+use std::alloc::AllocError;
 
 /// `TimeStampReq` of PKIXTSP, as a SEQUENCE.
 #[derive(Debug, Drop, PartialEq, Eq)]
@@ -151,6 +152,34 @@ impl Exact for TimeStampReq {
     ghost exact = { Prim.assumption };
 }
 
+impl Clone for TimeStampReq {
+    ghost is_clone = { λ x y. ⟦<Integer as Clone>⟧.is_clone x.version y.version
+        × ⟦<MessageImprint as Clone>⟧.is_clone x.message_imprint y.message_imprint
+        × ⟦<Option<TsaPolicyId> as Clone>⟧.is_clone x.req_policy y.req_policy
+        × ⟦<Option<Integer> as Clone>⟧.is_clone x.nonce y.nonce
+        × ⟦<bool as Clone>⟧.is_clone x.cert_req y.cert_req
+        × ⟦<Option<ImplicitList0<Extensions>> as Clone>⟧.is_clone x.extensions y.extensions };
+
+    fn clone(&self) -> std::result::Result<TimeStampReq, AllocError> {
+        let (version, message_imprint, req_policy, nonce, cert_req, extensions) = copies::six(
+            &self.version,
+            &self.message_imprint,
+            &self.req_policy,
+            &self.nonce,
+            &self.cert_req,
+            &self.extensions,
+        )?;
+        Ok(TimeStampReq {
+            version,
+            message_imprint,
+            req_policy,
+            nonce,
+            cert_req,
+            extensions,
+        })
+    }
+}
+
 impl Faithful for TimeStampReq {
     ghost sameness = { struct_sameness ⟦<TimeStampReqParts as FaithfulMembers>⟧.sameness ⟦<Self as Struct>⟧.parts };
 
@@ -228,6 +257,22 @@ impl Exact for MessageImprint {
         (λ m. (record { hash_algorithm = m.0; hashed_message = m.1 }, refl {a = m})) };
 
     ghost exact = { Prim.assumption };
+}
+
+impl Clone for MessageImprint {
+    ghost is_clone = { λ x y. ⟦<AlgorithmIdentifier as Clone>⟧.is_clone x.hash_algorithm y.hash_algorithm
+        × ⟦<ByteBuf as Clone>⟧.is_clone x.hashed_message y.hashed_message };
+
+    fn clone(&self) -> std::result::Result<MessageImprint, AllocError> {
+        let (hash_algorithm, hashed_message) = copies::two(
+            &self.hash_algorithm,
+            &self.hashed_message,
+        )?;
+        Ok(MessageImprint {
+            hash_algorithm,
+            hashed_message,
+        })
+    }
 }
 
 impl Faithful for MessageImprint {
@@ -310,6 +355,19 @@ impl Exact for TimeStampResp {
         (λ m. (record { status = m.0; time_stamp_token = m.1.0 }, refl {a = m})) };
 
     ghost exact = { Prim.assumption };
+}
+
+impl Clone for TimeStampResp {
+    ghost is_clone = { λ x y. ⟦<PkiStatusInfo as Clone>⟧.is_clone x.status y.status
+        × ⟦<Option<TimeStampToken> as Clone>⟧.is_clone x.time_stamp_token y.time_stamp_token };
+
+    fn clone(&self) -> std::result::Result<TimeStampResp, AllocError> {
+        let (status, time_stamp_token) = copies::two(&self.status, &self.time_stamp_token)?;
+        Ok(TimeStampResp {
+            status,
+            time_stamp_token,
+        })
+    }
 }
 
 impl Faithful for TimeStampResp {
@@ -403,6 +461,25 @@ impl Exact for PkiStatusInfo {
         (λ m. (record { status = m.0; status_string = m.1.0; fail_info = m.2.0 }, refl {a = m})) };
 
     ghost exact = { Prim.assumption };
+}
+
+impl Clone for PkiStatusInfo {
+    ghost is_clone = { λ x y. ⟦<PkiStatus as Clone>⟧.is_clone x.status y.status
+        × ⟦<Option<PkiFreeText> as Clone>⟧.is_clone x.status_string y.status_string
+        × ⟦<Option<PkiFailureInfo> as Clone>⟧.is_clone x.fail_info y.fail_info };
+
+    fn clone(&self) -> std::result::Result<PkiStatusInfo, AllocError> {
+        let (status, status_string, fail_info) = copies::three(
+            &self.status,
+            &self.status_string,
+            &self.fail_info,
+        )?;
+        Ok(PkiStatusInfo {
+            status,
+            status_string,
+            fail_info,
+        })
+    }
 }
 
 impl Faithful for PkiStatusInfo {
@@ -587,6 +664,48 @@ impl Exact for TstInfo {
     ghost exact = { Prim.assumption };
 }
 
+impl Clone for TstInfo {
+    ghost is_clone = { λ x y. ⟦<Integer as Clone>⟧.is_clone x.version y.version
+        × ⟦<TsaPolicyId as Clone>⟧.is_clone x.policy y.policy
+        × ⟦<MessageImprint as Clone>⟧.is_clone x.message_imprint y.message_imprint
+        × ⟦<Integer as Clone>⟧.is_clone x.serial_number y.serial_number
+        × ⟦<GeneralizedTime as Clone>⟧.is_clone x.gen_time y.gen_time
+        × ⟦<Option<Accuracy> as Clone>⟧.is_clone x.accuracy y.accuracy
+        × ⟦<bool as Clone>⟧.is_clone x.ordering y.ordering
+        × ⟦<Option<Integer> as Clone>⟧.is_clone x.nonce y.nonce
+        × ⟦<Option<ExplicitContextTag0<GeneralName>> as Clone>⟧.is_clone x.tsa y.tsa
+        × ⟦<Option<ImplicitList1<Extensions>> as Clone>⟧.is_clone x.extensions y.extensions };
+
+    fn clone(&self) -> std::result::Result<TstInfo, AllocError> {
+        let (version, policy, message_imprint, serial_number, gen_time) = copies::five(
+            &self.version,
+            &self.policy,
+            &self.message_imprint,
+            &self.serial_number,
+            &self.gen_time,
+        )?;
+        let (accuracy, ordering, nonce, tsa, extensions) = copies::five(
+            &self.accuracy,
+            &self.ordering,
+            &self.nonce,
+            &self.tsa,
+            &self.extensions,
+        )?;
+        Ok(TstInfo {
+            version,
+            policy,
+            message_imprint,
+            serial_number,
+            gen_time,
+            accuracy,
+            ordering,
+            nonce,
+            tsa,
+            extensions,
+        })
+    }
+}
+
 impl Faithful for TstInfo {
     ghost sameness = { struct_sameness ⟦<TstInfoParts as FaithfulMembers>⟧.sameness ⟦<Self as Struct>⟧.parts };
 
@@ -678,6 +797,21 @@ impl Exact for Accuracy {
         (λ m. (record { seconds = m.0.0; millis = m.1.0; micros = m.2.0 }, refl {a = m})) };
 
     ghost exact = { Prim.assumption };
+}
+
+impl Clone for Accuracy {
+    ghost is_clone = { λ x y. ⟦<Option<Integer> as Clone>⟧.is_clone x.seconds y.seconds
+        × ⟦<Option<ImplicitContextTag0<InRange<u16, 1, 999>>> as Clone>⟧.is_clone x.millis y.millis
+        × ⟦<Option<ImplicitContextTag1<InRange<u16, 1, 999>>> as Clone>⟧.is_clone x.micros y.micros };
+
+    fn clone(&self) -> std::result::Result<Accuracy, AllocError> {
+        let (seconds, millis, micros) = copies::three(&self.seconds, &self.millis, &self.micros)?;
+        Ok(Accuracy {
+            seconds,
+            millis,
+            micros,
+        })
+    }
 }
 
 impl Faithful for Accuracy {

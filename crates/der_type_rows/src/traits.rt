@@ -1,5 +1,15 @@
 //! Which traits the types of the library have: a generic function for each trait, and for each family of types a
-//! function that calls them for all of its types.
+//! function that calls them for all of its types. Eight types may be named as one tuple, which has what all of them
+//! have.
+
+mod algorithms;
+mod cms;
+mod kerberos;
+mod pkcs12;
+mod pkix;
+mod status;
+mod versions;
+mod x509;
 
 use der_types::{
     Asn1Set, AtLeast, AtMost, BitString, BmpString, DateTime, Encoded, Enumerated, GeneralString,
@@ -44,7 +54,7 @@ fn has_all_and_text<T: Clone + Ord + Hash + Debug + Display>() {
     has_display::<T>();
 }
 
-// What every type of values of `picky_asn1_der` and `Encoded` have.
+// What `Encoded`, every type of values of `picky_asn1_der`, and every type that a module of ASN.1 is compiled to have.
 fn has_most<T: Clone + PartialEq + Debug>() {
     has_clone::<T>();
     has_debug::<T>();
@@ -58,6 +68,7 @@ pub(crate) fn all(alloc: Global) -> Result<String, AllocError> {
     around();
     errors();
     plain();
+    of_modules();
     String::from_str(alloc, "named")
 }
 
@@ -132,4 +143,16 @@ fn plain() {
     has_most::<Asn1RawDer>();
     has_most::<Asn1DerError>();
     has_most::<Tag>();
+}
+
+// Types of modules of ASN.1.
+fn of_modules() {
+    x509::all();
+    cms::all();
+    kerberos::all();
+    pkix::all();
+    status::all();
+    algorithms::all();
+    pkcs12::all();
+    versions::all();
 }

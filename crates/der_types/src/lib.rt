@@ -11,6 +11,7 @@ mod character_set;
 mod characters;
 mod constraint;
 mod contents;
+pub mod copies;
 mod date_time;
 mod dotted;
 mod encoded;

@@ -11,7 +11,7 @@ ghost use Rattle.der_types.specs.SampleTrees.{exact_example};
 
 use crate::Room;
 use der_elements::LaterElementsFrom;
-use der_types::{Exact, ExactMembers, Notated, NotatedMembers};
+use der_types::{Exact, ExactMembers, Notated, NotatedMembers, copies};
 use picky_asn1_der::asn1::{
     ImplicitContextTag0, ImplicitContextTag1, ImplicitContextTag2, ImplicitContextTag3,
     ImplicitContextTag4, ImplicitContextTag5, ImplicitContextTag6, ImplicitContextTag7,
@@ -24,6 +24,7 @@ use picky_asn1_der::{
     Added, AddedMembers, Deserialize, DeserializeMembers, Deserializer, List, Result, Serialize,
     SerializeMembers, Serializer, Struct, deserialize_members_as, deserialize_struct_as,
 };
+use std::alloc::AllocError;
 
 /// `Lease-3` of Leases, as a SEQUENCE.
 #[derive(Debug, Drop, PartialEq, Eq)]
@@ -131,6 +132,31 @@ impl Exact for Lease3 {
     ghost exact = { Prim.assumption };
 }
 
+impl Clone for Lease3 {
+    ghost is_clone = { λ x y. ⟦<ImplicitContextTag0<u32> as Clone>⟧.is_clone x.number y.number
+        × ⟦<ImplicitContextTag1<String> as Clone>⟧.is_clone x.tenant y.tenant
+        × ⟦<Option<ImplicitContextTag2<u8>> as Clone>⟧.is_clone x.notice y.notice
+        × ⟦<ImplicitContextTag3<bool> as Clone>⟧.is_clone x.furnished y.furnished
+        × ⟦<Added<Lease3Additions> as Clone>⟧.is_clone x.additions y.additions };
+
+    fn clone(&self) -> std::result::Result<Lease3, AllocError> {
+        let (number, tenant, notice, furnished, additions) = copies::five(
+            &self.number,
+            &self.tenant,
+            &self.notice,
+            &self.furnished,
+            &self.additions,
+        )?;
+        Ok(Lease3 {
+            number,
+            tenant,
+            notice,
+            furnished,
+            additions,
+        })
+    }
+}
+
 impl Faithful for Lease3 {
     ghost sameness = { struct_sameness ⟦<Lease3Parts as FaithfulMembers>⟧.sameness ⟦<Self as Struct>⟧.parts };
 
@@ -213,6 +239,16 @@ impl FaithfulMembers for Lease3Additions {
         ⟦<Lease3AdditionsParts as SerializeMembers>⟧.members };
 
     ghost respects = { Prim.assumption };
+}
+
+impl Clone for Lease3Additions {
+    ghost is_clone = { λ x y. ⟦<ImplicitContextTag4<u16> as Clone>⟧.is_clone x.deposit y.deposit
+        × ⟦<Added<Lease3Additions2> as Clone>⟧.is_clone x.additions y.additions };
+
+    fn clone(&self) -> std::result::Result<Lease3Additions, AllocError> {
+        let (deposit, additions) = copies::two(&self.deposit, &self.additions)?;
+        Ok(Lease3Additions { deposit, additions })
+    }
 }
 
 /// The members that an extension added to `Lease-3` of Leases, and all members after them.
@@ -309,6 +345,28 @@ impl FaithfulMembers for Lease3Additions2 {
     ghost respects = { Prim.assumption };
 }
 
+impl Clone for Lease3Additions2 {
+    ghost is_clone = { λ x y. ⟦<ImplicitContextTag5<bool> as Clone>⟧.is_clone x.garden y.garden
+        × ⟦<Option<ImplicitContextTag6<String>> as Clone>⟧.is_clone x.shed y.shed
+        × ⟦<Option<ImplicitContextTag7<u8>> as Clone>⟧.is_clone x.pets y.pets
+        × ⟦<Added<Lease3Additions3> as Clone>⟧.is_clone x.additions y.additions };
+
+    fn clone(&self) -> std::result::Result<Lease3Additions2, AllocError> {
+        let (garden, shed, pets, additions) = copies::four(
+            &self.garden,
+            &self.shed,
+            &self.pets,
+            &self.additions,
+        )?;
+        Ok(Lease3Additions2 {
+            garden,
+            shed,
+            pets,
+            additions,
+        })
+    }
+}
+
 /// The members that an extension added to `Lease-3` of Leases, and all members after them.
 #[derive(Debug, Drop, PartialEq, Eq)]
 pub struct Lease3Additions3 {
@@ -391,4 +449,23 @@ impl FaithfulMembers for Lease3Additions3 {
         ⟦<Lease3Additions3Parts as SerializeMembers>⟧.members };
 
     ghost respects = { Prim.assumption };
+}
+
+impl Clone for Lease3Additions3 {
+    ghost is_clone = { λ x y. ⟦<ImplicitContextTag8<u8> as Clone>⟧.is_clone x.keys y.keys
+        × ⟦<ImplicitList<Vec<Room>, 0xA9> as Clone>⟧.is_clone x.rooms y.rooms
+        × ⟦<LaterElementsFrom<10> as Clone>⟧.is_clone x.later_members y.later_members };
+
+    fn clone(&self) -> std::result::Result<Lease3Additions3, AllocError> {
+        let (keys, rooms, later_members) = copies::three(
+            &self.keys,
+            &self.rooms,
+            &self.later_members,
+        )?;
+        Ok(Lease3Additions3 {
+            keys,
+            rooms,
+            later_members,
+        })
+    }
 }

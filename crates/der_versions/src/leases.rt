@@ -10,7 +10,7 @@ ghost use Rattle.der_types.specs.ExactMembers.{struct_values};
 ghost use Rattle.der_types.specs.SampleTrees.{exact_example};
 
 use der_elements::LaterElementsFrom;
-use der_types::{Exact, ExactMembers, Notated, NotatedMembers};
+use der_types::{Exact, ExactMembers, Notated, NotatedMembers, copies};
 use picky_asn1_der::asn1::{
     ImplicitContextTag0, ImplicitContextTag1, ImplicitContextTag2, ImplicitContextTag3,
     ImplicitContextTag4, ImplicitContextTag5, ImplicitContextTag6, Tag,
@@ -22,6 +22,7 @@ use picky_asn1_der::{
     Added, AddedMembers, Deserialize, DeserializeMembers, Deserializer, List, Result, Serialize,
     SerializeMembers, Serializer, Struct, deserialize_members_as, deserialize_struct_as,
 };
+use std::alloc::AllocError;
 
 /// `Lease-1` of Leases, as a SEQUENCE.
 #[derive(Debug, Drop, PartialEq, Eq)]
@@ -127,6 +128,31 @@ impl Exact for Lease1 {
         )) };
 
     ghost exact = { Prim.assumption };
+}
+
+impl Clone for Lease1 {
+    ghost is_clone = { λ x y. ⟦<ImplicitContextTag0<u32> as Clone>⟧.is_clone x.number y.number
+        × ⟦<ImplicitContextTag1<String> as Clone>⟧.is_clone x.tenant y.tenant
+        × ⟦<Option<ImplicitContextTag2<u8>> as Clone>⟧.is_clone x.notice y.notice
+        × ⟦<ImplicitContextTag3<bool> as Clone>⟧.is_clone x.furnished y.furnished
+        × ⟦<LaterElementsFrom<4> as Clone>⟧.is_clone x.later_members y.later_members };
+
+    fn clone(&self) -> std::result::Result<Lease1, AllocError> {
+        let (number, tenant, notice, furnished, later_members) = copies::five(
+            &self.number,
+            &self.tenant,
+            &self.notice,
+            &self.furnished,
+            &self.later_members,
+        )?;
+        Ok(Lease1 {
+            number,
+            tenant,
+            notice,
+            furnished,
+            later_members,
+        })
+    }
 }
 
 impl Faithful for Lease1 {
@@ -245,6 +271,31 @@ impl Exact for Lease2 {
     ghost exact = { Prim.assumption };
 }
 
+impl Clone for Lease2 {
+    ghost is_clone = { λ x y. ⟦<ImplicitContextTag0<u32> as Clone>⟧.is_clone x.number y.number
+        × ⟦<ImplicitContextTag1<String> as Clone>⟧.is_clone x.tenant y.tenant
+        × ⟦<Option<ImplicitContextTag2<u8>> as Clone>⟧.is_clone x.notice y.notice
+        × ⟦<ImplicitContextTag3<bool> as Clone>⟧.is_clone x.furnished y.furnished
+        × ⟦<Added<Lease2Additions> as Clone>⟧.is_clone x.additions y.additions };
+
+    fn clone(&self) -> std::result::Result<Lease2, AllocError> {
+        let (number, tenant, notice, furnished, additions) = copies::five(
+            &self.number,
+            &self.tenant,
+            &self.notice,
+            &self.furnished,
+            &self.additions,
+        )?;
+        Ok(Lease2 {
+            number,
+            tenant,
+            notice,
+            furnished,
+            additions,
+        })
+    }
+}
+
 impl Faithful for Lease2 {
     ghost sameness = { struct_sameness ⟦<Lease2Parts as FaithfulMembers>⟧.sameness ⟦<Self as Struct>⟧.parts };
 
@@ -327,6 +378,16 @@ impl FaithfulMembers for Lease2Additions {
         ⟦<Lease2AdditionsParts as SerializeMembers>⟧.members };
 
     ghost respects = { Prim.assumption };
+}
+
+impl Clone for Lease2Additions {
+    ghost is_clone = { λ x y. ⟦<ImplicitContextTag4<u16> as Clone>⟧.is_clone x.deposit y.deposit
+        × ⟦<Added<Lease2Additions2> as Clone>⟧.is_clone x.additions y.additions };
+
+    fn clone(&self) -> std::result::Result<Lease2Additions, AllocError> {
+        let (deposit, additions) = copies::two(&self.deposit, &self.additions)?;
+        Ok(Lease2Additions { deposit, additions })
+    }
 }
 
 /// The members that an extension added to `Lease-2` of Leases, and all members after them.
@@ -413,6 +474,25 @@ impl FaithfulMembers for Lease2Additions2 {
     ghost respects = { Prim.assumption };
 }
 
+impl Clone for Lease2Additions2 {
+    ghost is_clone = { λ x y. ⟦<ImplicitContextTag5<bool> as Clone>⟧.is_clone x.garden y.garden
+        × ⟦<Option<ImplicitContextTag6<String>> as Clone>⟧.is_clone x.shed y.shed
+        × ⟦<LaterElementsFrom<7> as Clone>⟧.is_clone x.later_members y.later_members };
+
+    fn clone(&self) -> std::result::Result<Lease2Additions2, AllocError> {
+        let (garden, shed, later_members) = copies::three(
+            &self.garden,
+            &self.shed,
+            &self.later_members,
+        )?;
+        Ok(Lease2Additions2 {
+            garden,
+            shed,
+            later_members,
+        })
+    }
+}
+
 /// `Room` of Leases, as a SEQUENCE.
 #[derive(Debug, Drop, PartialEq, Eq)]
 pub struct Room {
@@ -480,6 +560,19 @@ impl Exact for Room {
         (λ m. (record { name = m.0; later_members = m.1 }, refl {a = m})) };
 
     ghost exact = { Prim.assumption };
+}
+
+impl Clone for Room {
+    ghost is_clone = { λ x y. ⟦<ImplicitContextTag0<String> as Clone>⟧.is_clone x.name y.name
+        × ⟦<LaterElementsFrom<1> as Clone>⟧.is_clone x.later_members y.later_members };
+
+    fn clone(&self) -> std::result::Result<Room, AllocError> {
+        let (name, later_members) = copies::two(&self.name, &self.later_members)?;
+        Ok(Room {
+            name,
+            later_members,
+        })
+    }
 }
 
 impl Faithful for Room {

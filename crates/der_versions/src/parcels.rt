@@ -10,7 +10,7 @@ ghost use Rattle.der_types.specs.ExactMembers.{struct_values};
 ghost use Rattle.der_types.specs.SampleTrees.{exact_example};
 
 use der_elements::LaterElements;
-use der_types::{Exact, ExactMembers, Ia5String, Notated, NotatedMembers};
+use der_types::{Exact, ExactMembers, Ia5String, Notated, NotatedMembers, copies};
 use picky_asn1_der::asn1::{ImplicitList0, Tag};
 use picky_asn1_der::de::{Begins, Faithful, FaithfulMembers, Inhabited};
 use picky_asn1_der::misc::{ReadExt, WriteExt};
@@ -20,6 +20,7 @@ use picky_asn1_der::{
     Result, Serialize, SerializeMembers, Serializer, Struct, deserialize_members_as,
     deserialize_struct_as,
 };
+use std::alloc::AllocError;
 
 /// `Parcel-1` of Parcels, as a SEQUENCE.
 #[derive(Debug, Drop, PartialEq, Eq)]
@@ -105,6 +106,28 @@ impl Exact for Parcel1 {
         (λ m. (record { number = m.0; fragile = m.1; note = m.2.0; later_members = m.3 }, refl {a = m})) };
 
     ghost exact = { Prim.assumption };
+}
+
+impl Clone for Parcel1 {
+    ghost is_clone = { λ x y. ⟦<u32 as Clone>⟧.is_clone x.number y.number
+        × ⟦<bool as Clone>⟧.is_clone x.fragile y.fragile
+        × ⟦<Option<String> as Clone>⟧.is_clone x.note y.note
+        × ⟦<LaterElements<OneOf<String, NoneOf>> as Clone>⟧.is_clone x.later_members y.later_members };
+
+    fn clone(&self) -> std::result::Result<Parcel1, AllocError> {
+        let (number, fragile, note, later_members) = copies::four(
+            &self.number,
+            &self.fragile,
+            &self.note,
+            &self.later_members,
+        )?;
+        Ok(Parcel1 {
+            number,
+            fragile,
+            note,
+            later_members,
+        })
+    }
 }
 
 impl Faithful for Parcel1 {
@@ -196,6 +219,28 @@ impl Exact for Parcel2 {
         (λ m. (record { number = m.0; fragile = m.1; note = m.2.0; additions = m.3 }, refl {a = m})) };
 
     ghost exact = { Prim.assumption };
+}
+
+impl Clone for Parcel2 {
+    ghost is_clone = { λ x y. ⟦<u32 as Clone>⟧.is_clone x.number y.number
+        × ⟦<bool as Clone>⟧.is_clone x.fragile y.fragile
+        × ⟦<Option<String> as Clone>⟧.is_clone x.note y.note
+        × ⟦<Added<Parcel2Additions> as Clone>⟧.is_clone x.additions y.additions };
+
+    fn clone(&self) -> std::result::Result<Parcel2, AllocError> {
+        let (number, fragile, note, additions) = copies::four(
+            &self.number,
+            &self.fragile,
+            &self.note,
+            &self.additions,
+        )?;
+        Ok(Parcel2 {
+            number,
+            fragile,
+            note,
+            additions,
+        })
+    }
 }
 
 impl Faithful for Parcel2 {
@@ -292,6 +337,25 @@ impl FaithfulMembers for Parcel2Additions {
     ghost respects = { Prim.assumption };
 }
 
+impl Clone for Parcel2Additions {
+    ghost is_clone = { λ x y. ⟦<Ia5String as Clone>⟧.is_clone x.sender y.sender
+        × ⟦<Option<ImplicitList0<Vec<u8>>> as Clone>⟧.is_clone x.stamps y.stamps
+        × ⟦<Added<Parcel2Additions2> as Clone>⟧.is_clone x.additions y.additions };
+
+    fn clone(&self) -> std::result::Result<Parcel2Additions, AllocError> {
+        let (sender, stamps, additions) = copies::three(
+            &self.sender,
+            &self.stamps,
+            &self.additions,
+        )?;
+        Ok(Parcel2Additions {
+            sender,
+            stamps,
+            additions,
+        })
+    }
+}
+
 /// The members that an extension added to `Parcel-2` of Parcels, and all members after them.
 #[derive(Debug, Drop, PartialEq, Eq)]
 pub struct Parcel2Additions2 {
@@ -367,4 +431,17 @@ impl FaithfulMembers for Parcel2Additions2 {
         ⟦<Parcel2Additions2Parts as SerializeMembers>⟧.members };
 
     ghost respects = { Prim.assumption };
+}
+
+impl Clone for Parcel2Additions2 {
+    ghost is_clone = { λ x y. ⟦<bool as Clone>⟧.is_clone x.returned y.returned
+        × ⟦<LaterElements<NoneOf> as Clone>⟧.is_clone x.later_members y.later_members };
+
+    fn clone(&self) -> std::result::Result<Parcel2Additions2, AllocError> {
+        let (returned, later_members) = copies::two(&self.returned, &self.later_members)?;
+        Ok(Parcel2Additions2 {
+            returned,
+            later_members,
+        })
+    }
 }

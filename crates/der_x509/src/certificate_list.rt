@@ -9,7 +9,7 @@ ghost use Rattle.der_types.specs.ExactMembers.{struct_values};
 ghost use Rattle.der_types.specs.SampleTrees.{exact_example};
 
 use crate::{AlgorithmIdentifier, CertificateSerialNumber, Extensions, Name, Time, Version};
-use der_types::{BitString, Exact, ExactMembers, Notated, NotatedMembers};
+use der_types::{BitString, Exact, ExactMembers, Notated, NotatedMembers, copies};
 use picky_asn1_der::asn1::{ExplicitContextTag0, Tag};
 use picky_asn1_der::de::{Begins, Faithful, FaithfulMembers, Inhabited};
 use picky_asn1_der::misc::{ReadExt, WriteExt};
@@ -18,6 +18,7 @@ use picky_asn1_der::{
     Deserialize, DeserializeMembers, Deserializer, List, Result, Serialize, SerializeMembers,
     Serializer, Struct, deserialize_struct_as,
 };
+use std::alloc::AllocError;
 
 /// A list of revoked certificates (RFC 5280, 5.1). `CertificateList` of PKIX1Explicit88, as a
 /// SEQUENCE.
@@ -96,6 +97,25 @@ impl Exact for CertificateList {
         (λ m. (record { tbs_cert_list = m.0; signature_algorithm = m.1; signature = m.2 }, refl {a = m})) };
 
     ghost exact = { Prim.assumption };
+}
+
+impl Clone for CertificateList {
+    ghost is_clone = { λ x y. ⟦<TbsCertList as Clone>⟧.is_clone x.tbs_cert_list y.tbs_cert_list
+        × ⟦<AlgorithmIdentifier as Clone>⟧.is_clone x.signature_algorithm y.signature_algorithm
+        × ⟦<BitString as Clone>⟧.is_clone x.signature y.signature };
+
+    fn clone(&self) -> std::result::Result<CertificateList, AllocError> {
+        let (tbs_cert_list, signature_algorithm, signature) = copies::three(
+            &self.tbs_cert_list,
+            &self.signature_algorithm,
+            &self.signature,
+        )?;
+        Ok(CertificateList {
+            tbs_cert_list,
+            signature_algorithm,
+            signature,
+        })
+    }
 }
 
 impl Faithful for CertificateList {
@@ -241,6 +261,45 @@ impl Exact for TbsCertList {
     ghost exact = { Prim.assumption };
 }
 
+impl Clone for TbsCertList {
+    ghost is_clone = { λ x y. ⟦<Option<Version> as Clone>⟧.is_clone x.version y.version
+        × ⟦<AlgorithmIdentifier as Clone>⟧.is_clone x.signature y.signature
+        × ⟦<Name as Clone>⟧.is_clone x.issuer y.issuer
+        × ⟦<Time as Clone>⟧.is_clone x.this_update y.this_update
+        × ⟦<Option<Time> as Clone>⟧.is_clone x.next_update y.next_update
+        × ⟦<Option<Vec<RevokedCertificate>> as Clone>⟧.is_clone x.revoked_certificates y.revoked_certificates
+        × ⟦<Option<ExplicitContextTag0<Extensions>> as Clone>⟧.is_clone x.crl_extensions y.crl_extensions };
+
+    fn clone(&self) -> std::result::Result<TbsCertList, AllocError> {
+        let (
+            version,
+            signature,
+            issuer,
+            this_update,
+            next_update,
+            revoked_certificates,
+            crl_extensions,
+        ) = copies::seven(
+            &self.version,
+            &self.signature,
+            &self.issuer,
+            &self.this_update,
+            &self.next_update,
+            &self.revoked_certificates,
+            &self.crl_extensions,
+        )?;
+        Ok(TbsCertList {
+            version,
+            signature,
+            issuer,
+            this_update,
+            next_update,
+            revoked_certificates,
+            crl_extensions,
+        })
+    }
+}
+
 impl Faithful for TbsCertList {
     ghost sameness = { struct_sameness ⟦<TbsCertListParts as FaithfulMembers>⟧.sameness ⟦<Self as Struct>⟧.parts };
 
@@ -328,6 +387,25 @@ impl Exact for RevokedCertificate {
         (λ m. (record { user_certificate = m.0; revocation_date = m.1; crl_entry_extensions = m.2.0 }, refl {a = m})) };
 
     ghost exact = { Prim.assumption };
+}
+
+impl Clone for RevokedCertificate {
+    ghost is_clone = { λ x y. ⟦<CertificateSerialNumber as Clone>⟧.is_clone x.user_certificate y.user_certificate
+        × ⟦<Time as Clone>⟧.is_clone x.revocation_date y.revocation_date
+        × ⟦<Option<Extensions> as Clone>⟧.is_clone x.crl_entry_extensions y.crl_entry_extensions };
+
+    fn clone(&self) -> std::result::Result<RevokedCertificate, AllocError> {
+        let (user_certificate, revocation_date, crl_entry_extensions) = copies::three(
+            &self.user_certificate,
+            &self.revocation_date,
+            &self.crl_entry_extensions,
+        )?;
+        Ok(RevokedCertificate {
+            user_certificate,
+            revocation_date,
+            crl_entry_extensions,
+        })
+    }
 }
 
 impl Faithful for RevokedCertificate {

@@ -8,7 +8,7 @@ ghost use Rattle.der_types.specs.Notation.{Notation};
 ghost use Rattle.der_types.specs.ExactMembers.{struct_values};
 ghost use Rattle.der_types.specs.SampleTrees.{exact_example};
 
-use der_types::{Exact, ExactMembers, Notated, NotatedMembers, ObjectIdentifier, WithSize};
+use der_types::{Exact, ExactMembers, Notated, NotatedMembers, ObjectIdentifier, WithSize, copies};
 use picky_asn1_der::asn1::{ByteBuf, Tag};
 use picky_asn1_der::de::{Begins, Faithful, FaithfulMembers, Inhabited};
 use picky_asn1_der::misc::{ReadExt, WriteExt};
@@ -17,6 +17,7 @@ use picky_asn1_der::{
     Deserialize, DeserializeMembers, Deserializer, List, Result, Serialize, SerializeMembers,
     Serializer, Struct, deserialize_struct_as,
 };
+use std::alloc::AllocError;
 
 /// All extensions of a certificate or a list (RFC 5280, 4.1.2.9). `Extensions` of PKIX1Explicit88:
 /// `SEQUENCE SIZE (1..MAX) OF Extension`.
@@ -100,6 +101,25 @@ impl Exact for Extension {
         (λ m. (record { extn_id = m.0; critical = m.1.value; extn_value = m.2 }, refl {a = m})) };
 
     ghost exact = { Prim.assumption };
+}
+
+impl Clone for Extension {
+    ghost is_clone = { λ x y. ⟦<ObjectIdentifier as Clone>⟧.is_clone x.extn_id y.extn_id
+        × ⟦<bool as Clone>⟧.is_clone x.critical y.critical
+        × ⟦<ByteBuf as Clone>⟧.is_clone x.extn_value y.extn_value };
+
+    fn clone(&self) -> std::result::Result<Extension, AllocError> {
+        let (extn_id, critical, extn_value) = copies::three(
+            &self.extn_id,
+            &self.critical,
+            &self.extn_value,
+        )?;
+        Ok(Extension {
+            extn_id,
+            critical,
+            extn_value,
+        })
+    }
 }
 
 impl Faithful for Extension {

@@ -9,7 +9,9 @@ ghost use Rattle.der_types.specs.ExactMembers.{struct_values};
 ghost use Rattle.der_types.specs.SampleTrees.{exact_example};
 
 use der_elements::AnyElement;
-use der_types::{BitString, Exact, ExactMembers, Notated, NotatedMembers, ObjectIdentifier};
+use der_types::{
+    BitString, Exact, ExactMembers, Notated, NotatedMembers, ObjectIdentifier, copies,
+};
 use picky_asn1_der::asn1::Tag;
 use picky_asn1_der::de::{Begins, Faithful, FaithfulMembers, Inhabited};
 use picky_asn1_der::misc::{ReadExt, WriteExt};
@@ -18,6 +20,7 @@ use picky_asn1_der::{
     Deserialize, DeserializeMembers, Deserializer, List, Result, Serialize, SerializeMembers,
     Serializer, Struct, deserialize_struct_as,
 };
+use std::alloc::AllocError;
 
 /// A public key and the algorithm that it is for (RFC 5280, 4.1.2.7). `SubjectPublicKeyInfo` of
 /// PKIX1Explicit88, as a SEQUENCE.
@@ -87,6 +90,22 @@ impl Exact for SubjectPublicKeyInfo {
         (λ m. (record { algorithm = m.0; subject_public_key = m.1 }, refl {a = m})) };
 
     ghost exact = { Prim.assumption };
+}
+
+impl Clone for SubjectPublicKeyInfo {
+    ghost is_clone = { λ x y. ⟦<AlgorithmIdentifier as Clone>⟧.is_clone x.algorithm y.algorithm
+        × ⟦<BitString as Clone>⟧.is_clone x.subject_public_key y.subject_public_key };
+
+    fn clone(&self) -> std::result::Result<SubjectPublicKeyInfo, AllocError> {
+        let (algorithm, subject_public_key) = copies::two(
+            &self.algorithm,
+            &self.subject_public_key,
+        )?;
+        Ok(SubjectPublicKeyInfo {
+            algorithm,
+            subject_public_key,
+        })
+    }
 }
 
 impl Faithful for SubjectPublicKeyInfo {
@@ -168,6 +187,19 @@ impl Exact for AlgorithmIdentifier {
         (λ m. (record { algorithm = m.0; parameters = m.1.0 }, refl {a = m})) };
 
     ghost exact = { Prim.assumption };
+}
+
+impl Clone for AlgorithmIdentifier {
+    ghost is_clone = { λ x y. ⟦<ObjectIdentifier as Clone>⟧.is_clone x.algorithm y.algorithm
+        × ⟦<Option<AnyElement> as Clone>⟧.is_clone x.parameters y.parameters };
+
+    fn clone(&self) -> std::result::Result<AlgorithmIdentifier, AllocError> {
+        let (algorithm, parameters) = copies::two(&self.algorithm, &self.parameters)?;
+        Ok(AlgorithmIdentifier {
+            algorithm,
+            parameters,
+        })
+    }
 }
 
 impl Faithful for AlgorithmIdentifier {

@@ -15,7 +15,7 @@ ghost use Rattle.der_types.specs.SampleTrees.{exact_example};
 use der_elements::AnyElement;
 use der_types::{
     Exact, ExactAlternatives, ExactMembers, Notated, NotatedAlternatives, NotatedMembers,
-    ObjectIdentifier, WithSize,
+    ObjectIdentifier, WithSize, copies,
 };
 use picky_asn1_der::OneOf::This;
 use picky_asn1_der::asn1::{Asn1SetOf, Tag};
@@ -27,9 +27,10 @@ use picky_asn1_der::{
     Alternatives, Choice, Deserialize, DeserializeMembers, Deserializer, List, NoneOf, OneOf,
     Result, Serialize, SerializeMembers, Serializer, Struct, deserialize_struct_as,
 };
+use std::alloc::AllocError;
 
 /// A distinguished name (RFC 5280, 4.1.2.4). `Name` of PKIX1Explicit88, as a CHOICE.
-#[derive(Debug, Drop, PartialEq, Eq)]
+#[derive(Debug, Clone, Drop, PartialEq, Eq)]
 pub enum Name {
     /// The steps of the name. `RDNSequence`.
     RdnSequence(RdnSequence),
@@ -188,6 +189,16 @@ impl Exact for AttributeTypeAndValue {
         (λ m. (record { type_ = m.0; value = m.1 }, refl {a = m})) };
 
     ghost exact = { Prim.assumption };
+}
+
+impl Clone for AttributeTypeAndValue {
+    ghost is_clone = { λ x y. ⟦<AttributeType as Clone>⟧.is_clone x.type_ y.type_
+        × ⟦<AttributeValue as Clone>⟧.is_clone x.value y.value };
+
+    fn clone(&self) -> std::result::Result<AttributeTypeAndValue, AllocError> {
+        let (type_, value) = copies::two(&self.type_, &self.value)?;
+        Ok(AttributeTypeAndValue { type_, value })
+    }
 }
 
 impl Faithful for AttributeTypeAndValue {

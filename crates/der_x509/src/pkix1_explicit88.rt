@@ -25,7 +25,7 @@ use crate::{AlgorithmIdentifier, Extensions, Name, SubjectPublicKeyInfo};
 use der_types::{
     BitString, Contents, Exact, ExactAlternatives, ExactContents, ExactDefault, ExactMembers,
     GeneralizedTime, Integer, Notated, NotatedAlternatives, NotatedDefault, NotatedMembers,
-    UtcTime, WithSize, deserialize_contents_as,
+    UtcTime, WithSize, copies, deserialize_contents_as,
 };
 use picky_asn1_der::OneOf::{Other, This};
 use picky_asn1_der::asn1::{
@@ -41,6 +41,7 @@ use picky_asn1_der::{
     Alternatives, Choice, Deserialize, DeserializeMembers, Deserializer, List, NoneOf, OneOf,
     Result, Serialize, SerializeMembers, Serializer, Struct, deserialize_struct_as,
 };
+use std::alloc::AllocError;
 
 /// A certificate (RFC 5280, 4.1). `Certificate` of PKIX1Explicit88, as a SEQUENCE.
 #[derive(Debug, Drop, PartialEq, Eq)]
@@ -118,6 +119,25 @@ impl Exact for Certificate {
         (λ m. (record { tbs_certificate = m.0; signature_algorithm = m.1; signature = m.2 }, refl {a = m})) };
 
     ghost exact = { Prim.assumption };
+}
+
+impl Clone for Certificate {
+    ghost is_clone = { λ x y. ⟦<TbsCertificate as Clone>⟧.is_clone x.tbs_certificate y.tbs_certificate
+        × ⟦<AlgorithmIdentifier as Clone>⟧.is_clone x.signature_algorithm y.signature_algorithm
+        × ⟦<BitString as Clone>⟧.is_clone x.signature y.signature };
+
+    fn clone(&self) -> std::result::Result<Certificate, AllocError> {
+        let (tbs_certificate, signature_algorithm, signature) = copies::three(
+            &self.tbs_certificate,
+            &self.signature_algorithm,
+            &self.signature,
+        )?;
+        Ok(Certificate {
+            tbs_certificate,
+            signature_algorithm,
+            signature,
+        })
+    }
 }
 
 impl Faithful for Certificate {
@@ -289,6 +309,49 @@ impl Exact for TbsCertificate {
         )) };
 
     ghost exact = { Prim.assumption };
+}
+
+impl Clone for TbsCertificate {
+    ghost is_clone = { λ x y. ⟦<ExplicitContextTag0<Version> as Clone>⟧.is_clone x.version y.version
+        × ⟦<CertificateSerialNumber as Clone>⟧.is_clone x.serial_number y.serial_number
+        × ⟦<AlgorithmIdentifier as Clone>⟧.is_clone x.signature y.signature
+        × ⟦<Name as Clone>⟧.is_clone x.issuer y.issuer
+        × ⟦<Validity as Clone>⟧.is_clone x.validity y.validity
+        × ⟦<Name as Clone>⟧.is_clone x.subject y.subject
+        × ⟦<SubjectPublicKeyInfo as Clone>⟧.is_clone x.subject_public_key_info y.subject_public_key_info
+        × ⟦<Option<ImplicitContextTag1<UniqueIdentifier>> as Clone>⟧.is_clone x.issuer_unique_id y.issuer_unique_id
+        × ⟦<Option<ImplicitContextTag2<UniqueIdentifier>> as Clone>⟧.is_clone x.subject_unique_id y.subject_unique_id
+        × ⟦<Option<ExplicitContextTag3<Extensions>> as Clone>⟧.is_clone x.extensions y.extensions };
+
+    fn clone(&self) -> std::result::Result<TbsCertificate, AllocError> {
+        let (version, serial_number, signature, issuer, validity) = copies::five(
+            &self.version,
+            &self.serial_number,
+            &self.signature,
+            &self.issuer,
+            &self.validity,
+        )?;
+        let (subject, subject_public_key_info, issuer_unique_id, subject_unique_id, extensions) =
+            copies::five(
+                &self.subject,
+                &self.subject_public_key_info,
+                &self.issuer_unique_id,
+                &self.subject_unique_id,
+                &self.extensions,
+            )?;
+        Ok(TbsCertificate {
+            version,
+            serial_number,
+            signature,
+            issuer,
+            validity,
+            subject,
+            subject_public_key_info,
+            issuer_unique_id,
+            subject_unique_id,
+            extensions,
+        })
+    }
 }
 
 impl Faithful for TbsCertificate {
@@ -567,6 +630,19 @@ impl Exact for Validity {
     ghost exact = { Prim.assumption };
 }
 
+impl Clone for Validity {
+    ghost is_clone = { λ x y. ⟦<Time as Clone>⟧.is_clone x.not_before y.not_before
+        × ⟦<Time as Clone>⟧.is_clone x.not_after y.not_after };
+
+    fn clone(&self) -> std::result::Result<Validity, AllocError> {
+        let (not_before, not_after) = copies::two(&self.not_before, &self.not_after)?;
+        Ok(Validity {
+            not_before,
+            not_after,
+        })
+    }
+}
+
 impl Faithful for Validity {
     ghost sameness = { struct_sameness ⟦<ValidityParts as FaithfulMembers>⟧.sameness ⟦<Self as Struct>⟧.parts };
 
@@ -579,7 +655,7 @@ impl Inhabited for Validity {
 
 /// A time, without a fraction of a second (RFC 5280, 4.1.2.5). Any year is read in both forms,
 /// where RFC 5280 wants a UTCTime up to 2049. `Time` of PKIX1Explicit88, as a CHOICE.
-#[derive(Debug, Drop, PartialEq, Eq)]
+#[derive(Debug, Clone, Drop, PartialEq, Eq)]
 pub enum Time {
     /// A time in the years 1950 to 2049. `UTCTime`.
     UtcTime(UtcTime),

@@ -20,7 +20,7 @@ use picky_asn1_der::{
 /// Bits after the ones with names are kept. `KeyUsage` of PKIX1Implicit88: `BIT STRING {
 /// digitalSignature (0), contentCommitment (1), keyEncipherment (2), dataEncipherment (3),
 /// keyAgreement (4), keyCertSign (5), cRLSign (6), encipherOnly (7), decipherOnly (8) }`.
-#[derive(Debug, Drop, PartialEq, Eq)]
+#[derive(Debug, Clone, Drop, PartialEq, Eq)]
 pub struct KeyUsage(pub NamedBits);
 
 impl Serialize for KeyUsage {

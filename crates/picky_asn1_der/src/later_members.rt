@@ -102,8 +102,8 @@ impl<A: Alternatives> LaterMembers<A> {
     }
 }
 
-/// It has copies of the elements. Copies that `new` doesn't allow, which no type of this library makes, count as a failed
-/// allocation.
+/// It has copies of the elements. Copies that `new` doesn't allow, which no type of this library makes, count as a
+/// failed allocation.
 impl<A: Alternatives> Clone for LaterMembers<A> {
     ghost is_clone = { λ x y. ⟦<Vec<Asn1RawDer> as Clone>⟧.is_clone x.elements y.elements };
 

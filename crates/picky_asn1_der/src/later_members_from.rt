@@ -86,8 +86,8 @@ impl<const N: u8> LaterMembersFrom<N> {
     }
 }
 
-/// It has copies of the elements. Copies that `new` doesn't allow, which no type of this library makes, count as a failed
-/// allocation.
+/// It has copies of the elements. Copies that `new` doesn't allow, which no type of this library makes, count as a
+/// failed allocation.
 impl<const N: u8> Clone for LaterMembersFrom<N> {
     ghost is_clone = { λ x y. ⟦<Vec<Asn1RawDer> as Clone>⟧.is_clone x.elements y.elements };
 

@@ -3,6 +3,7 @@ import re
 from dataclasses import dataclass
 from typing import Optional
 
+from ..emit.copies import is_copied
 from ..emit.struct import REFERENCES
 from ..meaning.declarations import AddedDeclaration, ChoiceDeclaration, Declaration, EnumDeclaration, Field, Item as Named, NewtypeDeclaration, StructDeclaration, TestedDeclaration
 from ..meaning.examples import has_example
@@ -19,7 +20,7 @@ _SIGNED = re.compile(r"i(8|16|32|64|128)$")
 # types without an ASN.1 type, and what to use
 _REFUSED = {"f32": "no number of ASN.1", "f64": "no number of ASN.1", "str": "not owned: use `String`", "Box": "no type that can be written"}
 # the notes of a type and of a field; one with `=` has a word after it
-_TYPE_NOTES = ("skip", "set", "added", "integer", "notated", "exact", "faithful", "test")
+_TYPE_NOTES = ("skip", "set", "added", "integer", "notated", "exact", "faithful", "clone", "test")
 _FIELD_NOTES = ("element", "default")
 # the types of a last field that has no member of its own, but further ones
 _LAST = ("Added", "LaterElements", "LaterElementsFrom", "LaterMembers", "LaterMembersFrom")
@@ -33,6 +34,7 @@ class Derived:
     notated: bool = False
     exact: bool = False
     faithful: bool = False
+    cloned: bool = False
 
     @property
     def inhabited(self) -> bool:
@@ -85,7 +87,11 @@ def _derived(file: RustFile, it: Item, notes: Notes, module: str) -> Derived:
     exact, faithful = notes.has("exact"), notes.has("faithful")
     if (exact or notes.has("notated")) and isinstance(declaration, TestedDeclaration):
         raise file.source.error(it.line, f"`{it.name}` has a test, which no notation has: it can't be `notated` or `exact`")
-    return Derived(declaration, exact or notes.has("notated"), exact, faithful)
+    if notes.has("clone") and not (is_copied(declaration) or isinstance(declaration, TestedDeclaration)):
+        raise file.source.error(it.line, f"`{it.name}` has no several fields and no test, so `#[derive(Clone)]` is enough")
+    if notes.has("clone") and "Clone" in it.derives:
+        raise file.source.error(it.line, f"`{it.name}` has `Clone` already")
+    return Derived(declaration, exact or notes.has("notated"), exact, faithful, notes.has("clone"))
 
 
 def _check_derives(file: RustFile, it: Item) -> None:

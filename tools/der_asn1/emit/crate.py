@@ -12,7 +12,7 @@ from ..meaning.terms import names_of
 from ..parse import tree
 from .choice import answers_path, serialize_answers
 from .constructors import Made, constructor_file, is_made
-from .copies import COPIES, copies_file, is_copied
+from .copies import COPIES, is_copied
 from .enum import TERMS_FILE, terms_file
 from .folder import NOTE
 from .imports import MOST_GROUPED
@@ -29,7 +29,7 @@ from .values import Value, value_file
 # the crates that each crate uses
 NEEDS = "der_types picky_asn1_der picky_der_core picky_der_ser picky_der_de".split()
 # what no file of a module or a group can be called
-RESERVED = frozenset([ONLY, ELEMENTS, COPIES, "constructors", "named", "values", "notation", "lib", "main", *NEEDS])
+RESERVED = frozenset([ONLY, ELEMENTS, "constructors", "named", "values", "notation", "lib", "main", *NEEDS])
 _REPOSITORY = Path(__file__).resolve().parents[3]
 
 
@@ -70,18 +70,11 @@ class Crate:
             found["src/values.rt"] = self.file("//!", value_file(self.values, self.constants), modules)
         if self.names:
             found["src/named.rt"] = self.file("//!", named_file(self.names), {it.module for it in self.names})
-        copied = self.copied()
-        if copied:
-            found[f"src/{COPIES}.rt"] = self.file("//!", copies_file(copied), set())
         made = self.with_constructors()
         if made:
             lines = constructor_file(made, self.homes(), self.types)
             found["src/constructors.rt"] = self.file("//!", lines, {it.module for it in made})
         return dict(sorted(found.items()))
-
-    def copied(self) -> list[StructDeclaration]:
-        """The types whose `Clone` is by the functions of a file."""
-        return [it for it in self.sorted_types() if is_copied(it)] if "Clone" in self.derives else []
 
     def with_constructors(self) -> list[Made]:
         """The types that have constructors, in the order of the files."""
@@ -147,7 +140,7 @@ class Crate:
         """The crate of each type, by its name, and of the defaults of enumerations: `crate` for this one."""
         defaults = [name for it in self.types.values() if isinstance(it, EnumDeclaration) for name in it.defaults]
         elements = {TRIED: f"crate::{ELEMENTS}"} if self.has_unions() else {}
-        copies = {COPIES: "crate", "AllocError": "std::alloc"} if self.copied() else {}
+        copies = {COPIES: "der_types", "AllocError": "std::alloc"}
         return {**copies, **dict.fromkeys([*self.types, *defaults], "crate"), **elements, **self.elsewhere}
 
     def sorted_types(self) -> list[Declaration]:
@@ -177,7 +170,6 @@ class Crate:
         sources = ", ".join(sorted({it.module for it in self.types.values()}))
         lines = [*comment("", "//!", f"The types of {sources}."), "#![tactic(auto)]", ""]
         private += [ELEMENTS] if self.has_unions() else []
-        private += [COPIES] if self.copied() else []
         lines += [f"pub mod {it};" if it in public else f"mod {it};" for it in sorted({*by_home, *public, *private})]
         lines += [""] if by_home else []
         is_grouped = sum(map(len, by_home.values())) <= MOST_GROUPED

@@ -11,6 +11,7 @@ from ..meaning.wording import joined
 from . import added as emit_added, choice as emit_choice, enum as emit_enum, newtype as emit_newtype, struct as emit_struct
 from .added import added_impls, added_uses
 from .choice import choice_impls, choice_uses, serialize_answers, variants_import
+from .copies import COPIES, clone_impl, copies_uses
 from .enum import enum_impls, enum_uses, terms_file
 from .faithful import faithful_impl, faithful_uses, inhabited_impl, inhabited_uses
 from .folder import NOTE
@@ -18,7 +19,7 @@ from .imports import Uses
 from .newtype import newtype_impls, newtype_uses
 from .private_names import PrivateNames
 from .struct import struct_impls, struct_uses, tuple_names
-from .tested import tested_impls, tested_uses
+from .tested import tested_clone_impl, tested_impls, tested_uses
 
 # the module of what is written, below that of the file
 MODULE = "derived"
@@ -33,6 +34,8 @@ _FAITHFUL = frozenset("FaithfulMembers members_at".split())
 # names of the library that the compiler has no use for, by their modules
 _HOMES = {
     "Element": "picky_asn1_der::ser",
+    COPIES: "der_types",
+    "AllocError": "std::alloc",
 }
 # what a file that uses the library can't have as a name of its own
 LIBRARY = LIBRARY_NAMES | frozenset(_HOMES)
@@ -142,6 +145,8 @@ def uses_of(it: Derived, place: Place) -> Uses:
         found.add(faithful_uses(declared, f"Rattle.{place.crate}.specs.{place.terms}"))
     if it.inhabited:
         found.add(inhabited_uses())
+    if it.cloned:
+        found.add(Uses({"AllocError"}) if isinstance(declared, TestedDeclaration) else copies_uses(declared))
     found.add(Uses({declared.name}))
     return found
 
@@ -210,7 +215,13 @@ def items_of(it: Derived, place: Place, names: PrivateNames) -> list[str]:
         *after_a_line(emitter.exact_impl(declared, *given[1]) if it.exact else []),
         *after_a_line(faithful_impl(declared, inner, place.home) if it.faithful else []),
         *after_a_line(inhabited_impl(declared.name) if it.inhabited else []),
+        *after_a_line(cloned(declared) if it.cloned else []),
     ]
+
+
+def cloned(declared: Declaration) -> list[str]:
+    """The implementation of `Clone`."""
+    return tested_clone_impl(declared) if isinstance(declared, TestedDeclaration) else clone_impl(declared)
 
 
 def after_a_line(lines: list[str]) -> list[str]:

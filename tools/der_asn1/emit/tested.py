@@ -108,3 +108,22 @@ def constrained_impl(declared: TestedDeclaration, known: Determined) -> list[str
         *([line] if len(line) <= GHOST_WIDTH else [start, f"{_TWO}{end}"]),
         "}",
     ]
+
+
+def tested_clone_impl(declared: TestedDeclaration) -> list[str]:
+    """The implementation of `Clone`: a copy of the value, which passes the test, too."""
+    name, part = declared.name, declared.part
+    return [
+        "/// It has a copy of the value. A copy that fails the test, which no type of the library makes, counts as a failed",
+        "/// allocation.",
+        f"impl Clone for {name} {{",
+        f"{STEP}ghost is_clone = {{ λ x y. ⟦<{declared.type} as Clone>⟧.is_clone x.{part} y.{part} }};",
+        "",
+        f"{STEP}fn clone(&self) -> std::result::Result<{name}, AllocError> {{",
+        f"{_TWO}match {name}::new(self.{part}.clone()?) {{",
+        f"{_THREE}Some(copy) => Ok(copy),",
+        f"{_THREE}None => Err(AllocError),",
+        f"{_TWO}}}",
+        f"{STEP}}}",
+        "}",
+    ]

@@ -1,7 +1,7 @@
 """Copies of structs."""
 import unittest
 
-from ..emit.copies import clone_impl, copies_file, is_copied, parts_of
+from ..emit.copies import clone_impl, is_copied, parts_of
 from . import given
 
 
@@ -50,13 +50,6 @@ class Impl(unittest.TestCase):
         text = self.text(7, "a-long-name-")
         self.assertIn("        let (\n            a_long_name_a,\n", text)
         self.assertIn("            a_long_name_g,\n        ) = copies::seven(\n            &self.a_long_name_a,\n", text)
-
-
-class Functions(unittest.TestCase):
-    def test_those_that_are_called(self):
-        text = "\n".join(copies_file([struct_of(7), struct_of(2)]))
-        self.assertEqual(["two", "three", "four", "seven"], [it.split("<")[0] for it in text.split("pub(crate) fn ")[1:]])
-        self.assertIn("    let (a, b, c, d) = four(a, b, c, d)?;\n    let (e, f, g) = three(e, f, g)?;\n    Ok((a, b, c, d, e, f, g))\n", text)
 
 
 if __name__ == "__main__":

@@ -79,7 +79,7 @@ class OwnFiles(unittest.TestCase):
         self.assertIn(f"{derive}pub struct Flags(", self.text("src/types.rt"))
         self.assertIn(f"{derive.replace(' Clone,', '')}pub struct Lamp {{", self.text("src/types.rt"))
         self.assertIn("impl Clone for Lamp {", self.text("src/types.rt"))
-        self.assertIn("mod copies;\n", self.text("src/lib.rt"))
+        self.assertIn("copies};\n", self.text("src/types.rt"))
 
     def test_traits_that_cannot_be(self):
         for words, wanted in (("Default", "`Default` can't be derived for all types"), ("Ord", "`Ord` needs `PartialOrd`")):

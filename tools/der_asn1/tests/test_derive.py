@@ -172,6 +172,15 @@ class Writing(unittest.TestCase):
         self.assertIn("struct_sameness ⟦<Members as FaithfulMembers>⟧.sameness", derived(struct_of("a: u8,", note="faithful")))
         self.assertIn("content_sameness 0x0A (λ it. a_number it ∷ [])", derived(enum_of("A,", derives="Copy, Clone, PartialEq", note="faithful")))
 
+    def test_clone(self):
+        text = derived(struct_of("a: u8,", "b: T,", name="A<T>", note="clone"))
+        self.assertIn("impl<T: Clone> Clone for A<T> {\n", text)
+        self.assertIn("        let (a, b) = copies::two(&self.a, &self.b)?;\n", text)
+        self.assertIn("use der_types::copies;\n", text)
+        text = derived("mod derived;\n" + EVEN.replace("is_even\n", "is_even, clone\n", 1))
+        self.assertIn("        match Even::new(self.number.clone()?) {\n", text)
+        self.assertNotIn("copies", text)
+
     def test_a_readable_value(self):
         self.assertIn("impl Inhabited for A {", derived(struct_of("a: u8,", note="exact")))
         self.assertNotIn("Inhabited", derived(struct_of("a: WithSize<ByteBuf, 2000, 2000>,", note="exact")))

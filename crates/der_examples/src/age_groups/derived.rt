@@ -5,6 +5,7 @@ ghost use Rattle.std.specs.Prelude.{refl};
 ghost use Rattle.picky_der_de.specs.MembersFacts.{sequence_of, sequence_shape, struct_facts};
 
 use super::AgeGroups;
+use der_types::copies;
 use picky_asn1_der::asn1::Tag;
 use picky_asn1_der::de::Begins;
 use picky_asn1_der::misc::{ReadExt, WriteExt};
@@ -13,6 +14,7 @@ use picky_asn1_der::{
     Deserialize, DeserializeMembers, Deserializer, List, Result, Serialize, SerializeMembers,
     Serializer, Struct, deserialize_struct_as,
 };
+use std::alloc::AllocError;
 
 type Members = (u32, u32, u32, u32, u32, u32, u32, u32, Members2);
 
@@ -131,4 +133,69 @@ impl Begins for AgeGroups {
 
 impl List for AgeGroups {
     ghost is_list = { λ it. tt };
+}
+
+impl Clone for AgeGroups {
+    ghost is_clone = { λ x y. ⟦<u32 as Clone>⟧.is_clone x.under_5 y.under_5
+        × ⟦<u32 as Clone>⟧.is_clone x.from_5 y.from_5
+        × ⟦<u32 as Clone>⟧.is_clone x.from_10 y.from_10
+        × ⟦<u32 as Clone>⟧.is_clone x.from_15 y.from_15
+        × ⟦<u32 as Clone>⟧.is_clone x.from_20 y.from_20
+        × ⟦<u32 as Clone>⟧.is_clone x.from_25 y.from_25
+        × ⟦<u32 as Clone>⟧.is_clone x.from_30 y.from_30
+        × ⟦<u32 as Clone>⟧.is_clone x.from_35 y.from_35
+        × ⟦<u32 as Clone>⟧.is_clone x.from_40 y.from_40
+        × ⟦<u32 as Clone>⟧.is_clone x.from_45 y.from_45
+        × ⟦<u32 as Clone>⟧.is_clone x.from_50 y.from_50
+        × ⟦<u32 as Clone>⟧.is_clone x.from_55 y.from_55
+        × ⟦<u32 as Clone>⟧.is_clone x.from_60 y.from_60
+        × ⟦<u32 as Clone>⟧.is_clone x.from_65 y.from_65
+        × ⟦<u32 as Clone>⟧.is_clone x.from_70 y.from_70
+        × ⟦<u32 as Clone>⟧.is_clone x.from_75 y.from_75
+        × ⟦<u32 as Clone>⟧.is_clone x.from_80 y.from_80 };
+
+    fn clone(&self) -> std::result::Result<AgeGroups, AllocError> {
+        let (under_5, from_5, from_10, from_15, from_20) = copies::five(
+            &self.under_5,
+            &self.from_5,
+            &self.from_10,
+            &self.from_15,
+            &self.from_20,
+        )?;
+        let (from_25, from_30, from_35, from_40, from_45, from_50) = copies::six(
+            &self.from_25,
+            &self.from_30,
+            &self.from_35,
+            &self.from_40,
+            &self.from_45,
+            &self.from_50,
+        )?;
+        let (from_55, from_60, from_65, from_70, from_75, from_80) = copies::six(
+            &self.from_55,
+            &self.from_60,
+            &self.from_65,
+            &self.from_70,
+            &self.from_75,
+            &self.from_80,
+        )?;
+        Ok(AgeGroups {
+            under_5,
+            from_5,
+            from_10,
+            from_15,
+            from_20,
+            from_25,
+            from_30,
+            from_35,
+            from_40,
+            from_45,
+            from_50,
+            from_55,
+            from_60,
+            from_65,
+            from_70,
+            from_75,
+            from_80,
+        })
+    }
 }

@@ -6,6 +6,7 @@ ghost use Rattle.picky_der_de.specs.MembersFacts.{sequence_of, sequence_shape, s
 
 use super::CertificationRequestInfo;
 use crate::Attribute;
+use der_types::copies;
 use der_x509::{Name, SubjectPublicKeyInfo};
 use picky_asn1_der::asn1::{Asn1SetOf, ImplicitList0, Tag};
 use picky_asn1_der::de::Begins;
@@ -14,6 +15,7 @@ use picky_asn1_der::{
     Deserialize, DeserializeMembers, Deserializer, List, Result, Serialize, SerializeMembers,
     Serializer, Struct, deserialize_struct_as,
 };
+use std::alloc::AllocError;
 
 type Members = (
     u8,
@@ -76,4 +78,26 @@ impl Begins for CertificationRequestInfo {
 
 impl List for CertificationRequestInfo {
     ghost is_list = { λ it. tt };
+}
+
+impl Clone for CertificationRequestInfo {
+    ghost is_clone = { λ x y. ⟦<u8 as Clone>⟧.is_clone x.version y.version
+        × ⟦<Name as Clone>⟧.is_clone x.subject y.subject
+        × ⟦<SubjectPublicKeyInfo as Clone>⟧.is_clone x.public_key y.public_key
+        × ⟦<ImplicitList0<Asn1SetOf<Attribute>> as Clone>⟧.is_clone x.attributes y.attributes };
+
+    fn clone(&self) -> std::result::Result<CertificationRequestInfo, AllocError> {
+        let (version, subject, public_key, attributes) = copies::four(
+            &self.version,
+            &self.subject,
+            &self.public_key,
+            &self.attributes,
+        )?;
+        Ok(CertificationRequestInfo {
+            version,
+            subject,
+            public_key,
+            attributes,
+        })
+    }
 }

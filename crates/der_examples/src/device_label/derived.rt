@@ -10,7 +10,7 @@ ghost use Rattle.der_types.specs.SampleTrees.{exact_example};
 use super::DeviceLabel;
 use der_types::{
     Exact, ExactMembers, Ia5String, InRange, Notated, NotatedMembers, NumericString,
-    PrintableString, WithSize,
+    PrintableString, WithSize, copies,
 };
 use picky_asn1_der::asn1::Tag;
 use picky_asn1_der::de::{Begins, Inhabited};
@@ -19,6 +19,7 @@ use picky_asn1_der::{
     Deserialize, DeserializeMembers, Deserializer, List, Result, Serialize, SerializeMembers,
     Serializer, Struct, deserialize_struct_as,
 };
+use std::alloc::AllocError;
 
 type Members = (
     WithSize<PrintableString, 2, 2>,
@@ -97,4 +98,26 @@ impl Exact for DeviceLabel {
 
 impl Inhabited for DeviceLabel {
     ghost example = { exact_example ⟦<Self as Exact>⟧.values ⟦<Self as Notated>⟧.notation ⟦<Self as Serialize>⟧.meaning refl Prim.assumption };
+}
+
+impl Clone for DeviceLabel {
+    ghost is_clone = { λ x y. ⟦<WithSize<PrintableString, 2, 2> as Clone>⟧.is_clone x.country y.country
+        × ⟦<InRange<u32, 0, 65536> as Clone>⟧.is_clone x.serial y.serial
+        × ⟦<NumericString as Clone>⟧.is_clone x.article y.article
+        × ⟦<WithSize<Vec<Ia5String>, 1, 4> as Clone>⟧.is_clone x.contacts y.contacts };
+
+    fn clone(&self) -> std::result::Result<DeviceLabel, AllocError> {
+        let (country, serial, article, contacts) = copies::four(
+            &self.country,
+            &self.serial,
+            &self.article,
+            &self.contacts,
+        )?;
+        Ok(DeviceLabel {
+            country,
+            serial,
+            article,
+            contacts,
+        })
+    }
 }

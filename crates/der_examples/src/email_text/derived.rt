@@ -13,6 +13,7 @@ use picky_asn1_der::asn1::Tag;
 use picky_asn1_der::de::Begins;
 use picky_asn1_der::misc::{ReadExt, WriteExt};
 use picky_asn1_der::{Deserialize, Deserializer, Result, Serialize, Serializer};
+use std::alloc::AllocError;
 
 impl EmailText {
     /// Returns the value, or `None` if it doesn't pass the test.
@@ -84,5 +85,18 @@ impl Deserialize for EmailText {
 impl Begins for EmailText {
     fn begins_with(tag: Tag) -> bool {
         <Ia5String as Begins>::begins_with(tag)
+    }
+}
+
+/// It has a copy of the value. A copy that fails the test, which no type of the library makes, counts as a failed
+/// allocation.
+impl Clone for EmailText {
+    ghost is_clone = { λ x y. ⟦<Ia5String as Clone>⟧.is_clone x.text y.text };
+
+    fn clone(&self) -> std::result::Result<EmailText, AllocError> {
+        match EmailText::new(self.text.clone()?) {
+            Some(copy) => Ok(copy),
+            None => Err(AllocError),
+        }
     }
 }

@@ -12,6 +12,7 @@ use picky_asn1_der::asn1::Tag;
 use picky_asn1_der::de::Begins;
 use picky_asn1_der::misc::{ReadExt, WriteExt};
 use picky_asn1_der::{Deserialize, Deserializer, Result, Serialize, Serializer};
+use std::alloc::AllocError;
 
 impl EvenNumber {
     /// Returns the value, or `None` if it doesn't pass the test.
@@ -83,5 +84,18 @@ impl Deserialize for EvenNumber {
 impl Begins for EvenNumber {
     fn begins_with(tag: Tag) -> bool {
         <u32 as Begins>::begins_with(tag)
+    }
+}
+
+/// It has a copy of the value. A copy that fails the test, which no type of the library makes, counts as a failed
+/// allocation.
+impl Clone for EvenNumber {
+    ghost is_clone = { λ x y. ⟦<u32 as Clone>⟧.is_clone x.number y.number };
+
+    fn clone(&self) -> std::result::Result<EvenNumber, AllocError> {
+        match EvenNumber::new(self.number.clone()?) {
+            Some(copy) => Ok(copy),
+            None => Err(AllocError),
+        }
     }
 }

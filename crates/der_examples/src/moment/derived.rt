@@ -5,6 +5,7 @@ ghost use Rattle.std.specs.Prelude.{refl};
 ghost use Rattle.picky_der_de.specs.MembersFacts.{sequence_of, sequence_shape, struct_facts};
 
 use super::Moment;
+use der_types::copies;
 use picky_asn1_der::asn1::Tag;
 use picky_asn1_der::de::Begins;
 use picky_asn1_der::misc::{ReadExt, WriteExt};
@@ -12,6 +13,7 @@ use picky_asn1_der::{
     Deserialize, DeserializeMembers, Deserializer, List, Result, Serialize, SerializeMembers,
     Serializer, Struct, deserialize_struct_as,
 };
+use std::alloc::AllocError;
 
 type Members = (u16, u8, u8, u8, u8, u8, u16, ());
 
@@ -72,4 +74,35 @@ impl Begins for Moment {
 
 impl List for Moment {
     ghost is_list = { λ it. tt };
+}
+
+impl Clone for Moment {
+    ghost is_clone = { λ x y. ⟦<u16 as Clone>⟧.is_clone x.year y.year
+        × ⟦<u8 as Clone>⟧.is_clone x.month y.month
+        × ⟦<u8 as Clone>⟧.is_clone x.day y.day
+        × ⟦<u8 as Clone>⟧.is_clone x.hour y.hour
+        × ⟦<u8 as Clone>⟧.is_clone x.minute y.minute
+        × ⟦<u8 as Clone>⟧.is_clone x.second y.second
+        × ⟦<u16 as Clone>⟧.is_clone x.millisecond y.millisecond };
+
+    fn clone(&self) -> std::result::Result<Moment, AllocError> {
+        let (year, month, day, hour, minute, second, millisecond) = copies::seven(
+            &self.year,
+            &self.month,
+            &self.day,
+            &self.hour,
+            &self.minute,
+            &self.second,
+            &self.millisecond,
+        )?;
+        Ok(Moment {
+            year,
+            month,
+            day,
+            hour,
+            minute,
+            second,
+            millisecond,
+        })
+    }
 }

@@ -5,6 +5,7 @@ ghost use Rattle.std.specs.Prelude.{refl};
 ghost use Rattle.picky_der_de.specs.MembersFacts.{sequence_of, sequence_shape, struct_facts};
 
 use super::Parcel;
+use der_types::copies;
 use picky_asn1_der::asn1::Tag;
 use picky_asn1_der::de::Begins;
 use picky_asn1_der::misc::{ReadExt, WriteExt};
@@ -13,6 +14,7 @@ use picky_asn1_der::{
     Deserialize, DeserializeMembers, Deserializer, LaterMembers, List, NoneOf, OneOf, Result,
     Serialize, SerializeMembers, Serializer, Struct, deserialize_struct_as,
 };
+use std::alloc::AllocError;
 
 type Members = (
     u32,
@@ -71,4 +73,26 @@ impl Begins for Parcel {
 
 impl List for Parcel {
     ghost is_list = { λ it. tt };
+}
+
+impl Clone for Parcel {
+    ghost is_clone = { λ x y. ⟦<u32 as Clone>⟧.is_clone x.number y.number
+        × ⟦<bool as Clone>⟧.is_clone x.fragile y.fragile
+        × ⟦<Option<String> as Clone>⟧.is_clone x.note y.note
+        × ⟦<LaterMembers<OneOf<String, NoneOf>> as Clone>⟧.is_clone x.later y.later };
+
+    fn clone(&self) -> std::result::Result<Parcel, AllocError> {
+        let (number, fragile, note, later) = copies::four(
+            &self.number,
+            &self.fragile,
+            &self.note,
+            &self.later,
+        )?;
+        Ok(Parcel {
+            number,
+            fragile,
+            note,
+            later,
+        })
+    }
 }

@@ -7,7 +7,7 @@ ghost use Rattle.picky_der_de.specs.MembersFacts.{sequence_of, sequence_shape, s
 use super::{
     ChildInformation, EmployeeNumber, PersonName, PersonnelMembers, RecordDate, TaggedName,
 };
-use der_types::{Asn1Set, TagOrdered, VisibleString};
+use der_types::{Asn1Set, TagOrdered, VisibleString, copies};
 use picky_asn1_der::asn1::{
     ExplicitContextTag0, ExplicitContextTag1, ExplicitContextTag2, ImplicitList3, Tag,
 };
@@ -18,6 +18,7 @@ use picky_asn1_der::{
     Deserialize, DeserializeMembers, Deserializer, List, Result, Serialize, SerializeMembers,
     Serializer, Struct, deserialize_struct_as,
 };
+use std::alloc::AllocError;
 
 type PersonNameParts = (VisibleString, VisibleString, VisibleString, ());
 
@@ -193,4 +194,32 @@ impl List for PersonnelMembers {
 
 impl TagOrdered for PersonnelMembers {
     ghost ordered = { refl };
+}
+
+impl Clone for PersonnelMembers {
+    ghost is_clone = { λ x y. ⟦<TaggedName as Clone>⟧.is_clone x.name y.name
+        × ⟦<EmployeeNumber as Clone>⟧.is_clone x.number y.number
+        × ⟦<ExplicitContextTag0<VisibleString> as Clone>⟧.is_clone x.title y.title
+        × ⟦<ExplicitContextTag1<RecordDate> as Clone>⟧.is_clone x.date_of_hire y.date_of_hire
+        × ⟦<ExplicitContextTag2<TaggedName> as Clone>⟧.is_clone x.name_of_spouse y.name_of_spouse
+        × ⟦<Option<ImplicitList3<Vec<Asn1Set<ChildInformation>>>> as Clone>⟧.is_clone x.children y.children };
+
+    fn clone(&self) -> std::result::Result<PersonnelMembers, AllocError> {
+        let (name, number, title, date_of_hire, name_of_spouse, children) = copies::six(
+            &self.name,
+            &self.number,
+            &self.title,
+            &self.date_of_hire,
+            &self.name_of_spouse,
+            &self.children,
+        )?;
+        Ok(PersonnelMembers {
+            name,
+            number,
+            title,
+            date_of_hire,
+            name_of_spouse,
+            children,
+        })
+    }
 }

@@ -5,6 +5,7 @@ ghost use Rattle.std.specs.Prelude.{refl};
 ghost use Rattle.picky_der_de.specs.MembersFacts.{sequence_of, sequence_shape, struct_facts};
 
 use super::PrivateKeyInfo;
+use der_types::copies;
 use der_x509::AlgorithmIdentifier;
 use picky_asn1_der::asn1::{ByteBuf, Tag, TaggedBytes};
 use picky_asn1_der::de::Begins;
@@ -14,6 +15,7 @@ use picky_asn1_der::{
     Deserialize, DeserializeMembers, Deserializer, List, Result, Serialize, SerializeMembers,
     Serializer, Struct, deserialize_struct_as,
 };
+use std::alloc::AllocError;
 
 type Members = (
     u8,
@@ -74,4 +76,26 @@ impl Begins for PrivateKeyInfo {
 
 impl List for PrivateKeyInfo {
     ghost is_list = { λ it. tt };
+}
+
+impl Clone for PrivateKeyInfo {
+    ghost is_clone = { λ x y. ⟦<u8 as Clone>⟧.is_clone x.version y.version
+        × ⟦<AlgorithmIdentifier as Clone>⟧.is_clone x.algorithm y.algorithm
+        × ⟦<ByteBuf as Clone>⟧.is_clone x.key y.key
+        × ⟦<Option<TaggedBytes<0xA0>> as Clone>⟧.is_clone x.attributes y.attributes };
+
+    fn clone(&self) -> std::result::Result<PrivateKeyInfo, AllocError> {
+        let (version, algorithm, key, attributes) = copies::four(
+            &self.version,
+            &self.algorithm,
+            &self.key,
+            &self.attributes,
+        )?;
+        Ok(PrivateKeyInfo {
+            version,
+            algorithm,
+            key,
+            attributes,
+        })
+    }
 }

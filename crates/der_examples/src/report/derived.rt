@@ -6,6 +6,7 @@ ghost use Rattle.picky_der_de.specs.MembersFacts.{sequence_of, sequence_shape, s
 
 use super::Report;
 use crate::{Gust, Moment};
+use der_types::copies;
 use picky_asn1_der::asn1::{Asn1SetOf, ByteBuf, ExplicitContextTag, OctetStringAsn1Container, Tag};
 use picky_asn1_der::de::Begins;
 use picky_asn1_der::misc::{ReadExt, WriteExt};
@@ -14,6 +15,7 @@ use picky_asn1_der::{
     Deserialize, DeserializeMembers, Deserializer, List, Result, Serialize, SerializeMembers,
     Serializer, Struct, deserialize_struct_as,
 };
+use std::alloc::AllocError;
 
 type Members = (
     String,
@@ -135,4 +137,65 @@ impl Begins for Report {
 
 impl List for Report {
     ghost is_list = { λ it. tt };
+}
+
+impl Clone for Report {
+    ghost is_clone = { λ x y. ⟦<String as Clone>⟧.is_clone x.station y.station
+        × ⟦<u32 as Clone>⟧.is_clone x.number y.number
+        × ⟦<Moment as Clone>⟧.is_clone x.moment y.moment
+        × ⟦<bool as Clone>⟧.is_clone x.automatic y.automatic
+        × ⟦<Option<u16> as Clone>⟧.is_clone x.height y.height
+        × ⟦<u32 as Clone>⟧.is_clone x.pressure y.pressure
+        × ⟦<u8 as Clone>⟧.is_clone x.humidity y.humidity
+        × ⟦<u128 as Clone>⟧.is_clone x.serial y.serial
+        × ⟦<ByteBuf as Clone>⟧.is_clone x.seal y.seal
+        × ⟦<char as Clone>⟧.is_clone x.grade y.grade
+        × ⟦<() as Clone>⟧.is_clone x.reserved y.reserved
+        × ⟦<[u16; 2] as Clone>⟧.is_clone x.days y.days
+        × ⟦<ExplicitContextTag<Vec<u16>, 0> as Clone>⟧.is_clone x.offsets y.offsets
+        × ⟦<Asn1SetOf<ByteBuf> as Clone>⟧.is_clone x.authors y.authors
+        × ⟦<OctetStringAsn1Container<(u8, bool)> as Clone>⟧.is_clone x.sealed y.sealed
+        × ⟦<Vec<Gust> as Clone>⟧.is_clone x.gusts y.gusts };
+
+    fn clone(&self) -> std::result::Result<Report, AllocError> {
+        let (station, number, moment, automatic, height, pressure, humidity, serial) =
+            copies::eight(
+                &self.station,
+                &self.number,
+                &self.moment,
+                &self.automatic,
+                &self.height,
+                &self.pressure,
+                &self.humidity,
+                &self.serial,
+            )?;
+        let (seal, grade, reserved, days, offsets, authors, sealed, gusts) = copies::eight(
+            &self.seal,
+            &self.grade,
+            &self.reserved,
+            &self.days,
+            &self.offsets,
+            &self.authors,
+            &self.sealed,
+            &self.gusts,
+        )?;
+        Ok(Report {
+            station,
+            number,
+            moment,
+            automatic,
+            height,
+            pressure,
+            humidity,
+            serial,
+            seal,
+            grade,
+            reserved,
+            days,
+            offsets,
+            authors,
+            sealed,
+            gusts,
+        })
+    }
 }

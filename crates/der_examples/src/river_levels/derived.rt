@@ -9,7 +9,7 @@ ghost use Rattle.der_types.specs.ExactMembers.{struct_values};
 ghost use Rattle.der_types.specs.SampleTrees.{exact_example};
 
 use super::RiverLevels;
-use der_types::{Exact, ExactMembers, Notated, NotatedMembers};
+use der_types::{Exact, ExactMembers, Notated, NotatedMembers, copies};
 use picky_asn1_der::asn1::Tag;
 use picky_asn1_der::de::{Begins, Faithful, FaithfulMembers, Inhabited};
 use picky_asn1_der::misc::{ReadExt, WriteExt};
@@ -18,6 +18,7 @@ use picky_asn1_der::{
     Deserialize, DeserializeMembers, Deserializer, List, Result, Serialize, SerializeMembers,
     Serializer, Struct, deserialize_struct_as,
 };
+use std::alloc::AllocError;
 
 type Members = (u16, u16, u16, u16, u16, u16, u16, u16, Members2);
 
@@ -221,4 +222,95 @@ impl Faithful for RiverLevels {
 
 impl Inhabited for RiverLevels {
     ghost example = { exact_example ⟦<Self as Exact>⟧.values ⟦<Self as Notated>⟧.notation ⟦<Self as Serialize>⟧.meaning refl Prim.assumption };
+}
+
+impl Clone for RiverLevels {
+    ghost is_clone = { λ x y. ⟦<u16 as Clone>⟧.is_clone x.day y.day
+        × ⟦<u16 as Clone>⟧.is_clone x.at_00 y.at_00
+        × ⟦<u16 as Clone>⟧.is_clone x.at_01 y.at_01
+        × ⟦<u16 as Clone>⟧.is_clone x.at_02 y.at_02
+        × ⟦<u16 as Clone>⟧.is_clone x.at_03 y.at_03
+        × ⟦<u16 as Clone>⟧.is_clone x.at_04 y.at_04
+        × ⟦<u16 as Clone>⟧.is_clone x.at_05 y.at_05
+        × ⟦<u16 as Clone>⟧.is_clone x.at_06 y.at_06
+        × ⟦<u16 as Clone>⟧.is_clone x.at_07 y.at_07
+        × ⟦<u16 as Clone>⟧.is_clone x.at_08 y.at_08
+        × ⟦<u16 as Clone>⟧.is_clone x.at_09 y.at_09
+        × ⟦<u16 as Clone>⟧.is_clone x.at_10 y.at_10
+        × ⟦<u16 as Clone>⟧.is_clone x.at_11 y.at_11
+        × ⟦<u16 as Clone>⟧.is_clone x.at_12 y.at_12
+        × ⟦<u16 as Clone>⟧.is_clone x.at_13 y.at_13
+        × ⟦<u16 as Clone>⟧.is_clone x.at_14 y.at_14
+        × ⟦<u16 as Clone>⟧.is_clone x.at_15 y.at_15
+        × ⟦<u16 as Clone>⟧.is_clone x.at_16 y.at_16
+        × ⟦<u16 as Clone>⟧.is_clone x.at_17 y.at_17
+        × ⟦<u16 as Clone>⟧.is_clone x.at_18 y.at_18
+        × ⟦<u16 as Clone>⟧.is_clone x.at_19 y.at_19
+        × ⟦<u16 as Clone>⟧.is_clone x.at_20 y.at_20
+        × ⟦<u16 as Clone>⟧.is_clone x.at_21 y.at_21
+        × ⟦<u16 as Clone>⟧.is_clone x.at_22 y.at_22
+        × ⟦<u16 as Clone>⟧.is_clone x.at_23 y.at_23 };
+
+    fn clone(&self) -> std::result::Result<RiverLevels, AllocError> {
+        let (day, at_00, at_01, at_02, at_03, at_04) = copies::six(
+            &self.day,
+            &self.at_00,
+            &self.at_01,
+            &self.at_02,
+            &self.at_03,
+            &self.at_04,
+        )?;
+        let (at_05, at_06, at_07, at_08, at_09, at_10) = copies::six(
+            &self.at_05,
+            &self.at_06,
+            &self.at_07,
+            &self.at_08,
+            &self.at_09,
+            &self.at_10,
+        )?;
+        let (at_11, at_12, at_13, at_14, at_15, at_16) = copies::six(
+            &self.at_11,
+            &self.at_12,
+            &self.at_13,
+            &self.at_14,
+            &self.at_15,
+            &self.at_16,
+        )?;
+        let (at_17, at_18, at_19, at_20, at_21, at_22, at_23) = copies::seven(
+            &self.at_17,
+            &self.at_18,
+            &self.at_19,
+            &self.at_20,
+            &self.at_21,
+            &self.at_22,
+            &self.at_23,
+        )?;
+        Ok(RiverLevels {
+            day,
+            at_00,
+            at_01,
+            at_02,
+            at_03,
+            at_04,
+            at_05,
+            at_06,
+            at_07,
+            at_08,
+            at_09,
+            at_10,
+            at_11,
+            at_12,
+            at_13,
+            at_14,
+            at_15,
+            at_16,
+            at_17,
+            at_18,
+            at_19,
+            at_20,
+            at_21,
+            at_22,
+            at_23,
+        })
+    }
 }

@@ -6,6 +6,7 @@ ghost use Rattle.picky_der_de.specs.MembersFacts.{sequence_of, sequence_shape, s
 
 use super::SignedData;
 use crate::{EncapsulatedContentInfo, SignerInfo};
+use der_types::copies;
 use der_x509::AlgorithmIdentifier;
 use picky_asn1_der::asn1::{Asn1SetOf, ImplicitList0, ImplicitList1, Tag};
 use picky_asn1_der::de::Begins;
@@ -15,6 +16,7 @@ use picky_asn1_der::{
     Asn1RawDer, Deserialize, DeserializeMembers, Deserializer, List, Result, Serialize,
     SerializeMembers, Serializer, Struct, deserialize_struct_as,
 };
+use std::alloc::AllocError;
 
 type Members = (
     u8,
@@ -97,4 +99,33 @@ impl Begins for SignedData {
 
 impl List for SignedData {
     ghost is_list = { λ it. tt };
+}
+
+impl Clone for SignedData {
+    ghost is_clone = { λ x y. ⟦<u8 as Clone>⟧.is_clone x.version y.version
+        × ⟦<Asn1SetOf<AlgorithmIdentifier> as Clone>⟧.is_clone x.digest_algorithms y.digest_algorithms
+        × ⟦<EncapsulatedContentInfo as Clone>⟧.is_clone x.content y.content
+        × ⟦<Option<ImplicitList0<Asn1SetOf<Asn1RawDer>>> as Clone>⟧.is_clone x.certificates y.certificates
+        × ⟦<Option<ImplicitList1<Asn1SetOf<Asn1RawDer>>> as Clone>⟧.is_clone x.revocation_lists y.revocation_lists
+        × ⟦<Asn1SetOf<SignerInfo> as Clone>⟧.is_clone x.signer_infos y.signer_infos };
+
+    fn clone(&self) -> std::result::Result<SignedData, AllocError> {
+        let (version, digest_algorithms, content, certificates, revocation_lists, signer_infos) =
+            copies::six(
+                &self.version,
+                &self.digest_algorithms,
+                &self.content,
+                &self.certificates,
+                &self.revocation_lists,
+                &self.signer_infos,
+            )?;
+        Ok(SignedData {
+            version,
+            digest_algorithms,
+            content,
+            certificates,
+            revocation_lists,
+            signer_infos,
+        })
+    }
 }

@@ -6,6 +6,7 @@ ghost use Rattle.picky_der_de.specs.MembersFacts.{sequence_of, sequence_shape, s
 
 use super::SignerInfo;
 use crate::Attribute;
+use der_types::copies;
 use der_x509::AlgorithmIdentifier;
 use picky_asn1_der::asn1::{Asn1SetOf, ByteBuf, ImplicitList0, ImplicitList1, Tag};
 use picky_asn1_der::de::Begins;
@@ -15,6 +16,7 @@ use picky_asn1_der::{
     Asn1RawDer, Deserialize, DeserializeMembers, Deserializer, List, Result, Serialize,
     SerializeMembers, Serializer, Struct, deserialize_struct_as,
 };
+use std::alloc::AllocError;
 
 type Members = (
     u8,
@@ -102,4 +104,43 @@ impl Begins for SignerInfo {
 
 impl List for SignerInfo {
     ghost is_list = { λ it. tt };
+}
+
+impl Clone for SignerInfo {
+    ghost is_clone = { λ x y. ⟦<u8 as Clone>⟧.is_clone x.version y.version
+        × ⟦<Asn1RawDer as Clone>⟧.is_clone x.identifier y.identifier
+        × ⟦<AlgorithmIdentifier as Clone>⟧.is_clone x.digest_algorithm y.digest_algorithm
+        × ⟦<Option<ImplicitList0<Asn1SetOf<Attribute>>> as Clone>⟧.is_clone x.signed_attributes y.signed_attributes
+        × ⟦<AlgorithmIdentifier as Clone>⟧.is_clone x.signature_algorithm y.signature_algorithm
+        × ⟦<ByteBuf as Clone>⟧.is_clone x.signature y.signature
+        × ⟦<Option<ImplicitList1<Asn1SetOf<Attribute>>> as Clone>⟧.is_clone x.unsigned_attributes y.unsigned_attributes };
+
+    fn clone(&self) -> std::result::Result<SignerInfo, AllocError> {
+        let (
+            version,
+            identifier,
+            digest_algorithm,
+            signed_attributes,
+            signature_algorithm,
+            signature,
+            unsigned_attributes,
+        ) = copies::seven(
+            &self.version,
+            &self.identifier,
+            &self.digest_algorithm,
+            &self.signed_attributes,
+            &self.signature_algorithm,
+            &self.signature,
+            &self.unsigned_attributes,
+        )?;
+        Ok(SignerInfo {
+            version,
+            identifier,
+            digest_algorithm,
+            signed_attributes,
+            signature_algorithm,
+            signature,
+            unsigned_attributes,
+        })
+    }
 }

@@ -14,6 +14,7 @@ use picky_asn1_der::asn1::Tag;
 use picky_asn1_der::de::Begins;
 use picky_asn1_der::misc::{ReadExt, WriteExt};
 use picky_asn1_der::{Deserialize, Deserializer, Result, Serialize, Serializer};
+use std::alloc::AllocError;
 
 impl Temperature {
     /// Returns the value, or `None` if it doesn't pass the test.
@@ -86,5 +87,18 @@ impl Deserialize for Temperature {
 impl Begins for Temperature {
     fn begins_with(tag: Tag) -> bool {
         <i8 as Begins>::begins_with(tag)
+    }
+}
+
+/// It has a copy of the value. A copy that fails the test, which no type of the library makes, counts as a failed
+/// allocation.
+impl Clone for Temperature {
+    ghost is_clone = { λ x y. ⟦<i8 as Clone>⟧.is_clone x.degrees y.degrees };
+
+    fn clone(&self) -> std::result::Result<Temperature, AllocError> {
+        match Temperature::new(self.degrees.clone()?) {
+            Some(copy) => Ok(copy),
+            None => Err(AllocError),
+        }
     }
 }

@@ -6,6 +6,7 @@ ghost use Rattle.picky_der_de.specs.MembersFacts.{sequence_of, sequence_shape, s
 
 use super::TicketBody;
 use crate::{EncryptedData, PrincipalName};
+use der_types::copies;
 use picky_asn1_der::asn1::{
     ExplicitContextTag0, ExplicitContextTag1, ExplicitContextTag2, ExplicitContextTag3,
     GeneralStringAsn1, Tag,
@@ -16,6 +17,7 @@ use picky_asn1_der::{
     Deserialize, DeserializeMembers, Deserializer, List, Result, Serialize, SerializeMembers,
     Serializer, Struct, deserialize_struct_as,
 };
+use std::alloc::AllocError;
 
 type Members = (
     ExplicitContextTag0<u8>,
@@ -69,4 +71,26 @@ impl Begins for TicketBody {
 
 impl List for TicketBody {
     ghost is_list = { λ it. tt };
+}
+
+impl Clone for TicketBody {
+    ghost is_clone = { λ x y. ⟦<ExplicitContextTag0<u8> as Clone>⟧.is_clone x.tkt_vno y.tkt_vno
+        × ⟦<ExplicitContextTag1<GeneralStringAsn1> as Clone>⟧.is_clone x.realm y.realm
+        × ⟦<ExplicitContextTag2<PrincipalName> as Clone>⟧.is_clone x.sname y.sname
+        × ⟦<ExplicitContextTag3<EncryptedData> as Clone>⟧.is_clone x.enc_part y.enc_part };
+
+    fn clone(&self) -> std::result::Result<TicketBody, AllocError> {
+        let (tkt_vno, realm, sname, enc_part) = copies::four(
+            &self.tkt_vno,
+            &self.realm,
+            &self.sname,
+            &self.enc_part,
+        )?;
+        Ok(TicketBody {
+            tkt_vno,
+            realm,
+            sname,
+            enc_part,
+        })
+    }
 }

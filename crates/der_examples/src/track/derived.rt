@@ -6,6 +6,7 @@ ghost use Rattle.picky_der_de.specs.MembersFacts.{sequence_of, sequence_shape, s
 
 use super::Track;
 use crate::Point;
+use der_types::copies;
 use picky_asn1_der::asn1::{Asn1SetOf, ByteBuf, ExplicitContextTag, Tag};
 use picky_asn1_der::de::Begins;
 use picky_asn1_der::misc::{ReadExt, WriteExt};
@@ -13,6 +14,7 @@ use picky_asn1_der::{
     Deserialize, DeserializeMembers, Deserializer, List, Result, Serialize, SerializeMembers,
     Serializer, Struct, deserialize_struct_as,
 };
+use std::alloc::AllocError;
 
 type Members = (
     bool,
@@ -66,4 +68,26 @@ impl Begins for Track {
 
 impl List for Track {
     ghost is_list = { λ it. tt };
+}
+
+impl Clone for Track {
+    ghost is_clone = { λ x y. ⟦<bool as Clone>⟧.is_clone x.closed y.closed
+        × ⟦<Vec<Point> as Clone>⟧.is_clone x.points y.points
+        × ⟦<[u16; 2] as Clone>⟧.is_clone x.days y.days
+        × ⟦<ExplicitContextTag<Asn1SetOf<ByteBuf>, 0> as Clone>⟧.is_clone x.names y.names };
+
+    fn clone(&self) -> std::result::Result<Track, AllocError> {
+        let (closed, points, days, names) = copies::four(
+            &self.closed,
+            &self.points,
+            &self.days,
+            &self.names,
+        )?;
+        Ok(Track {
+            closed,
+            points,
+            days,
+            names,
+        })
+    }
 }

@@ -6,6 +6,7 @@ ghost use Rattle.picky_der_de.specs.MembersFacts.{sequence_of, sequence_shape, s
 
 use super::Vessel;
 use crate::{NumberOrFlag, Point, Setting};
+use der_types::copies;
 use picky_asn1_der::asn1::{
     ByteBuf, ExplicitContextTag0, ExplicitContextTag1, ExplicitContextTag2, ExplicitContextTag3,
     Tag,
@@ -17,6 +18,7 @@ use picky_asn1_der::{
     Deserialize, DeserializeMembers, Deserializer, List, Result, Serialize, SerializeMembers,
     Serializer, Struct, deserialize_struct_as,
 };
+use std::alloc::AllocError;
 
 type Members = (
     String,
@@ -196,4 +198,78 @@ impl Begins for Vessel {
 
 impl List for Vessel {
     ghost is_list = { λ it. tt };
+}
+
+impl Clone for Vessel {
+    ghost is_clone = { λ x y. ⟦<String as Clone>⟧.is_clone x.name y.name
+        × ⟦<u32 as Clone>⟧.is_clone x.number y.number
+        × ⟦<Option<ExplicitContextTag0<String>> as Clone>⟧.is_clone x.call_sign y.call_sign
+        × ⟦<u64 as Clone>⟧.is_clone x.tonnage y.tonnage
+        × ⟦<bool as Clone>⟧.is_clone x.is_military y.is_military
+        × ⟦<Point as Clone>⟧.is_clone x.home y.home
+        × ⟦<u8 as Clone>⟧.is_clone x.decks y.decks
+        × ⟦<Option<ExplicitContextTag1<Setting>> as Clone>⟧.is_clone x.owner y.owner
+        × ⟦<Option<ByteBuf> as Clone>⟧.is_clone x.seal y.seal
+        × ⟦<Setting as Clone>⟧.is_clone x.engine y.engine
+        × ⟦<Vec<u16> as Clone>⟧.is_clone x.speeds y.speeds
+        × ⟦<Option<ExplicitContextTag2<Point>> as Clone>⟧.is_clone x.berth y.berth
+        × ⟦<(u16, u16) as Clone>⟧.is_clone x.size y.size
+        × ⟦<bool as Clone>⟧.is_clone x.is_moored y.is_moored
+        × ⟦<NumberOrFlag as Clone>⟧.is_clone x.flag y.flag
+        × ⟦<Option<String> as Clone>⟧.is_clone x.pilot y.pilot
+        × ⟦<Option<Vec<u16>> as Clone>⟧.is_clone x.tugs y.tugs
+        × ⟦<u32 as Clone>⟧.is_clone x.draught y.draught
+        × ⟦<ByteBuf as Clone>⟧.is_clone x.chart y.chart
+        × ⟦<Option<ExplicitContextTag3<String>> as Clone>⟧.is_clone x.remark y.remark };
+
+    fn clone(&self) -> std::result::Result<Vessel, AllocError> {
+        let (name, number, call_sign, tonnage, is_military, home) = copies::six(
+            &self.name,
+            &self.number,
+            &self.call_sign,
+            &self.tonnage,
+            &self.is_military,
+            &self.home,
+        )?;
+        let (decks, owner, seal, engine, speeds, berth, size) = copies::seven(
+            &self.decks,
+            &self.owner,
+            &self.seal,
+            &self.engine,
+            &self.speeds,
+            &self.berth,
+            &self.size,
+        )?;
+        let (is_moored, flag, pilot, tugs, draught, chart, remark) = copies::seven(
+            &self.is_moored,
+            &self.flag,
+            &self.pilot,
+            &self.tugs,
+            &self.draught,
+            &self.chart,
+            &self.remark,
+        )?;
+        Ok(Vessel {
+            name,
+            number,
+            call_sign,
+            tonnage,
+            is_military,
+            home,
+            decks,
+            owner,
+            seal,
+            engine,
+            speeds,
+            berth,
+            size,
+            is_moored,
+            flag,
+            pilot,
+            tugs,
+            draught,
+            chart,
+            remark,
+        })
+    }
 }

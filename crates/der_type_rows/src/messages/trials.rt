@@ -20,7 +20,7 @@ pub(crate) enum Task {
 }
 
 /// The result of bytes of a type.
-pub(crate) fn result_as<T: Deserialize>(
+pub(crate) fn result_as<T: Deserialize + Clone>(
     alloc: Global,
     task: Task,
     bytes: &[u8],
@@ -31,11 +31,17 @@ pub(crate) fn result_as<T: Deserialize>(
     }
 }
 
-// Reads a value and checks that it is written as the same bytes. For a refusal it says how many bytes were consumed.
-fn read<T: Deserialize>(alloc: Global, bytes: &[u8]) -> Result<String, AllocError> {
+// Reads a value and checks that it is written as the same bytes, and a copy, too. For a refusal it says how many bytes
+// were consumed.
+fn read<T: Deserialize + Clone>(alloc: Global, bytes: &[u8]) -> Result<String, AllocError> {
     match from_der::<T>(alloc, bytes) {
         Ok(value) if is_written_as(alloc, &value, bytes) => {
-            format!(in alloc; "same {} bytes", bytes.len())
+            let copy = value.clone()?;
+            if copy == value && is_written_as(alloc, &copy, bytes) {
+                format!(in alloc; "same {} bytes", bytes.len())
+            } else {
+                String::from_str(alloc, "another copy")
+            }
         }
         Ok(_) => String::from_str(alloc, "other bytes"),
         Err(refusal) => format!(in alloc; "refused {} at {}", refusal.error, refusal.position),
@@ -68,7 +74,7 @@ impl From<AllocError> for Wrong {
 
 // Reads the whole message. Then each prefix must be refused as cut short, and each change must be refused or be the
 // encoding of another value.
-fn tried<T: Deserialize>(alloc: Global, bytes: &[u8]) -> Result<String, AllocError> {
+fn tried<T: Deserialize + Clone>(alloc: Global, bytes: &[u8]) -> Result<String, AllocError> {
     let whole = read::<T>(alloc, bytes)?;
     match try_fronts::<T>(alloc, bytes).and_then(|_| try_changes::<T>(alloc, bytes)) {
         Ok(()) => format!(in alloc; "{whole}, and its fronts and changes"),
