@@ -5,14 +5,14 @@ from typing import Iterable
 
 from ..meaning.causes import Allowed, Cause
 from ..meaning.declarations import AliasDeclaration, ChoiceDeclaration, Declaration, Declarations, EnumDeclaration, ListedDeclaration
-from ..meaning.declarations import SetDeclaration, StructDeclaration, UnionDeclaration
+from ..meaning.declarations import SetDeclaration, UnionDeclaration
 from ..meaning.library_table import LIBRARY_NAMES
 from ..meaning.named import Constant, Names
 from ..meaning.terms import names_of
 from ..parse import tree
 from .choice import answers_path, serialize_answers
 from .constructors import Made, constructor_file, is_made
-from .copies import COPIES, is_copied
+from .copies import COPIES
 from .enum import TERMS_FILE, terms_file
 from .folder import NOTE
 from .imports import MOST_GROUPED

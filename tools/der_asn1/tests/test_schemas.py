@@ -55,7 +55,14 @@ PRINTED = [
 ]
 
 # types that a table has no node for
-WITHOUT = ["SEQUENCE { a NULL, ... }", "SEQUENCE { a NULL, ..., b NULL }", "SEQUENCE OF SEQUENCE { ... }"]
+WITHOUT = [
+    "SEQUENCE { a NULL, ... }",
+    "SEQUENCE { a NULL, ..., b NULL }",
+    "SEQUENCE OF SEQUENCE { ... }",
+    "CHOICE { a NULL, ... }",
+    'IA5String ("a" | "b")',
+    "SEQUENCE { a NULL OPTIONAL, b BOOLEAN OPTIONAL } (WITH COMPONENTS { ..., a PRESENT } | WITH COMPONENTS { ..., b PRESENT })",
+]
 
 # a type, and another one in place of a part of its printed table
 ALTERED = [
