@@ -54,6 +54,11 @@ class Report:
         others = {id(it.module) for it in self.rows if not it.level.is_plain}
         return [it for it in self.modules if id(it) not in others and it.path not in self.wrong]
 
+    def complete_modules(self) -> list[tree.Module]:
+        """The modules that could be written: those without an error, in which all is there that their types name."""
+        others = {id(it.module) for it in self.rows if it.meaning.missing & OUTSIDE}
+        return [it for it in self.modules if id(it) not in others and it.path not in self.wrong]
+
 
 def report_of(
     modules: list[tree.Module],
@@ -140,6 +145,7 @@ def summary(report: Report) -> list[str]:
     closed = [it for it in exact if Note.OPEN not in it.meaning.notes]
     lines = [
         f"{share(len(report.plain_modules()), len(report.modules))} modules written without a flag",
+        f"{share(len(report.plain_modules()), len(report.complete_modules()))} modules written without a flag, of those whose notation is complete",
         f"{share(len(plain), total)} types written without a flag",
         f"{share(len(exact), total)} types exact and written",
         f"{share(len(closed), total)} types exact and written, without an open type",
