@@ -150,6 +150,7 @@ def summary(report: Report) -> list[str]:
         f"{share(len(exact), total)} types exact and written",
         f"{share(len(closed), total)} types exact and written, without an open type",
         f"{share(sum(not it.meaning.missing & OUTSIDE for it in exact), len(complete))} types exact and written, of those whose notation is complete",
+        f"{share(sum(not it.meaning.missing for it in complete), len(complete))} types exact, or exact to a depth, and written, of these",
         f"{share(len(to_depth), total)} types written to a depth, since they contain themselves",
         f"{share(len(by_hand), total)} types exact only with types by hand, in place of which `--allow-wider` writes wider ones",
     ]
