@@ -11,7 +11,7 @@ ghost use Rattle.der_ber_types.specs.Content.{
 };
 ghost use Rattle.der_ber_types.specs.Pushed.{IsPushed, IsMemberPushed};
 
-use crate::error::TypeError;
+use crate::TypeError;
 use crate::inside::{Inside, inside_of};
 use crate::order::in_order;
 use der_path::first_element;
@@ -151,7 +151,7 @@ fn content_in_der(
 }
 
 // The same bytes.
-pub(crate) fn copied(alloc: Global, bytes: &[u8]) -> Result<Vec<u8>, AllocError>
+fn copied(alloc: Global, bytes: &[u8]) -> Result<Vec<u8>, AllocError>
     ensures { IfOk result (λ copy. copy.items ≡ bytes.now) }
 {
     let mut copy = Vec::with_capacity(alloc, bytes.len())?;
@@ -191,11 +191,7 @@ fn truth(alloc: Global, content: &[u8]) -> Result<Vec<u8>, TypeError>
 }
 
 // Appends a tag and a length.
-pub(crate) fn push_header(
-    bytes: &mut Vec<u8>,
-    tag: Tag,
-    content_len: usize,
-) -> Result<(), AllocError>
+fn push_header(bytes: &mut Vec<u8>, tag: Tag, content_len: usize) -> Result<(), AllocError>
     ensures { OnOk result (bytes.new.items ≡ bytes.old.items ++ tag ∷ length_octets content_len) }
 {
     bytes.push(tag.inner())?;

@@ -6,9 +6,7 @@ mod content;
 mod error;
 mod inside;
 mod kinds;
-mod message;
 mod order;
 
 pub use by_type::to_der;
-pub use error::ToDerError;
-pub use message::{ContentType, message_to_der};
+pub use error::TypeError;

@@ -1,12 +1,14 @@
-//! For each row on standard input, a type and bytes, writes to standard output what `to_der` returns for them, or
-//! `message_to_der` for a message.
+//! For each row on standard input, a type and bytes, writes to standard output what `to_der` returns for them with
+//! whole strings.
 #![tactic(auto)]
 
-use der_ber_types::{ContentType, ToDerError, message_to_der, to_der};
-use der_cms::values;
+mod cms;
+
+use der_ber::{BerError, with_whole_strings};
+use der_ber_types::{TypeError, to_der};
 use der_fixtures::{bytes_of, text_of};
 use der_schema::Schema;
-use der_schemas::{cms, x509};
+use der_schemas::x509;
 use std::alloc::{AllocError, Global};
 use std::io;
 
@@ -19,37 +21,17 @@ fn main(rt: HostRuntime) -> io::Result<()> {
     Ok(())
 }
 
-// The schema of the type with this name, or `None` for a message.
+// The schema of the type with this name.
 fn schema_of(name: &str) -> Option<Schema> {
     match name {
         "certificate" => Some(x509::certificate()),
         "certificate_list" => Some(x509::certificate_list()),
         "signed_data" => Some(cms::signed_data()),
+        "enveloped_data" => Some(cms::enveloped_data()),
         "encrypted_data" => Some(cms::encrypted_data()),
+        "digested_data" => Some(cms::digested_data()),
         _ => None,
     }
-}
-
-// The contents of messages.
-fn contents() -> [ContentType; 4] {
-    [
-        ContentType {
-            identifier: values::ID_SIGNED_DATA,
-            schema: cms::signed_data(),
-        },
-        ContentType {
-            identifier: values::ID_ENVELOPED_DATA,
-            schema: cms::enveloped_data(),
-        },
-        ContentType {
-            identifier: values::ID_DIGESTED_DATA,
-            schema: cms::digested_data(),
-        },
-        ContentType {
-            identifier: values::ID_ENCRYPTED_DATA,
-            schema: cms::encrypted_data(),
-        },
-    ]
 }
 
 // The bytes in DER, or why there are none. An empty line is its own result, and so is a heading, which begins with `#`.
@@ -60,17 +42,22 @@ fn result_of(alloc: Global, row: &str) -> Result<String, AllocError> {
     let Some((name, text)) = row.split_once(' ') else {
         return String::from_str(alloc, "no bytes");
     };
+    let Some(schema) = schema_of(name) else {
+        return String::from_str(alloc, "no type");
+    };
     let Ok(bytes) = bytes_of(alloc, text) else {
         return String::from_str(alloc, "no bytes");
     };
-    let result = match schema_of(name) {
-        Some(schema) => to_der(alloc, schema, &bytes),
-        None => message_to_der(alloc, &contents(), &bytes),
+    let whole = match with_whole_strings(alloc, &bytes) {
+        Ok(whole) => whole,
+        Err(BerError::Broken { position, rule }) => {
+            return format!(in alloc; "{position} {rule:?}");
+        }
+        Err(BerError::OutOfMemory) => return Err(AllocError),
     };
-    match result {
+    match to_der(alloc, schema, &whole) {
         Ok(der) => text_of(alloc, &der),
-        Err(ToDerError::Broken { position, rule }) => format!(in alloc; "{position} {rule:?}"),
-        Err(ToDerError::OtherType) => String::from_str(alloc, "OtherType"),
-        Err(ToDerError::OutOfMemory) => Err(AllocError),
+        Err(TypeError::OtherType) => String::from_str(alloc, "OtherType"),
+        Err(TypeError::OutOfMemory) => Err(AllocError),
     }
 }

@@ -4,7 +4,8 @@ use Rattle.std.proofs.Common.{refl, subst}
 use Rattle.std.proofs.Common.{suc, ◌+◌, ◌<◌, ◌≤◌, add-one, append_assoc, append-nil, arith, drop, drop-cons, get_or}
 use Rattle.std.proofs.Common.{drop_of_length-le, length, map}
 use Rattle.std.proofs.lemmas.List.{map-append}
-use Rattle.std.specs.Prelude.{slice_get}
+use Rattle.std.proofs.lemmas.Bool.{eqb-true}
+use Rattle.std.specs.Prelude.{slice_get, ◌==◌}
 use Rattle.std.proofs.lemmas.Result.{IfOk-weaker}
 use Rattle.serde_json.specs.Data.{Data, Members, array, no_members, object, put}
 use Rattle.serde_json.specs.View.{items_of, view}
@@ -110,39 +111,48 @@ abbrev pub LeadsOn : List Node → List Member → List ℕ → List Member → 
 LeadsOn nodes members content left rest now =
     (whole : Data) → AreMembers nodes left rest now whole → AreMembers nodes members content no_members whole
 
-pub one_more_member : (nodes : List Node) (members : List Member) (i : ℕ) (m : Member)
-    (first after rest content : List ℕ) (d : Data) (before now : Members) → i < length members
-    → get_or members i m ≡ m → rest ≡ first ++ after → IsJson nodes m.node true first d → now ≡ put m.name.now d before
+-- the member at an index, and those after it: `other` is what is past the end
+members_at : (members : List Member) (i : ℕ) (other : Member) → i < length members
+    → drop i members ≡ get_or members i other ∷ drop (i + 1) members
+members_at members i other h =
+    drop-cons members i other h ∙ ap (λ (k : ℕ). get_or members i other ∷ drop k members) (sym (add-one i))
+
+pub one_more_member : (nodes : List Node) (members : List Member) (i : ℕ) (other : Member)
+    (first after rest content : List ℕ) (d : Data) (before now : Members) → i < length members → rest ≡ first ++ after
+    → IsJson nodes (get_or members i other).node true first d → now ≡ put (get_or members i other).name.now d before
     → LeadsOn nodes members content (drop i members) rest before
     → LeadsOn nodes members content (drop (i + 1) members) after now
-one_more_member nodes members i m first after rest content d before now h at parts json is goes whole others =
-    let left : drop i members ≡ m ∷ drop (i + 1) members =
-    drop-cons members i m h ∙ ap (λ it. it ∷ drop (suc i) members) at
-    ∙ ap (λ k. m ∷ drop k members) (sym (add-one i)) in
+one_more_member nodes members i other first after rest content d before now h parts json is goes whole others =
+    let m : Member = get_or members i other in
     let these : AreMembers nodes (m ∷ drop (i + 1) members) (first ++ after) before whole =
     AreMembers.there nodes m (drop (i + 1) members) first after d before whole json
-    (subst (λ ms. AreMembers nodes (drop (i + 1) members) after ms whole) is others) in
-    goes whole (subst (λ ms. AreMembers nodes ms rest before whole) (sym left)
-    (subst (λ bytes. AreMembers nodes (m ∷ drop (i + 1) members) bytes before whole) (sym parts) these))
+    (subst (λ (ms : Members). AreMembers nodes (drop (i + 1) members) after ms whole) is others) in
+    goes whole (subst (λ (ms : List Member). AreMembers nodes ms rest before whole) (sym (members_at members i other h))
+    (subst (λ (bytes : List ℕ). AreMembers nodes (m ∷ drop (i + 1) members) bytes before whole) (sym parts) these))
 
-pub one_absent_member : (nodes : List Node) (members : List Member) (i : ℕ) (m : Member) (rest content : List ℕ)
-    (before : Members) → i < length members → get_or members i m ≡ m → can_be_absent m.presence ≡ true
-    → LeadsOn nodes members content (drop i members) rest before
-    → LeadsOn nodes members content (drop (i + 1) members) rest before
-one_absent_member nodes members i m rest content before h at absent goes whole others =
-    let left : drop i members ≡ m ∷ drop (i + 1) members =
-    drop-cons members i m h ∙ ap (λ it. it ∷ drop (suc i) members) at
-    ∙ ap (λ k. m ∷ drop k members) (sym (add-one i)) in
-    goes whole (subst (λ ms. AreMembers nodes ms rest before whole) (sym left)
-    (AreMembers.absent nodes m (drop (i + 1) members) rest before whole absent others))
+pub one_absent_member : (nodes : List Node) (members : List Member) (i : ℕ) (other : Member)
+    (rest after content : List ℕ)
+    (before now : Members) → i < length members → can_be_absent (get_or members i other).presence ≡ true → after ≡ rest
+    → now ≡ before → LeadsOn nodes members content (drop i members) rest before
+    → LeadsOn nodes members content (drop (i + 1) members) after now
+one_absent_member nodes members i other rest after content before now h absent same is goes whole others =
+    let m : Member = get_or members i other in
+    let here : AreMembers nodes (drop (i + 1) members) rest before whole =
+    subst (λ (bytes : List ℕ). AreMembers nodes (drop (i + 1) members) bytes before whole) same
+    (subst (λ (ms : Members). AreMembers nodes (drop (i + 1) members) after ms whole) is others) in
+    goes whole (subst (λ (ms : List Member). AreMembers nodes ms rest before whole) (sym (members_at members i other h))
+    (AreMembers.absent nodes m (drop (i + 1) members) rest before whole absent here))
 
 pub all_members : (nodes : List Node) (members : List Member) (i : ℕ) (rest content : List ℕ) (now : Members)
     → length members ≤ i → rest ≡ [] → LeadsOn nodes members content (drop i members) rest now
     → AreMembers nodes members content no_members (object now)
 all_members nodes members i rest content now end none goes =
-    goes (object now) (subst (λ ms. AreMembers nodes ms rest now (object now)) (sym (drop_of_length-le members i end))
+    goes (object now) (subst (λ ms. AreMembers nodes ms rest now (object now)) (sym (drop_of_length-le members end))
     (subst (λ bytes. AreMembers nodes [] bytes now (object now)) (sym none) (AreMembers.end-of-members nodes now)))
 
-pub empty_of : (s : List ℕ) → length s ≡ 0 → s ≡ []
-empty_of [] e = refl
-empty_of (b ∷ bs) e = absurd (omega arith)
+nil_of : (s : List ℕ) → length s ≡ 0 → s ≡ []
+nil_of [] e = refl
+nil_of (b ∷ bs) e = absurd (omega arith)
+
+pub empty_of : (s : List ℕ) → true ≡ (length s == 0) → s ≡ []
+empty_of s e = nil_of s (eqb-true (length s) 0 (sym e))

@@ -23,7 +23,7 @@ pub(crate) fn path_text(
     }
     match schema_of(named) {
         Some(schema) => by_names(alloc, schema, bytes, position, reason.cause),
-        None => by_numbers(alloc, bytes, reason.offset),
+        None => path_by_numbers(alloc, bytes, reason.offset),
     }
 }
 
@@ -60,11 +60,12 @@ fn by_names(
     }
 }
 
-// The path by numbers of the element at this offset.
-fn by_numbers(alloc: Global, bytes: &[u8], offset: usize) -> Result<String, AllocError> {
-    let path = text_of(alloc, &path_at(alloc, bytes, offset)?)?;
-    if path.is_empty() {
-        return Ok(path);
+/// Returns what is printed of the element at this offset after a reason: its path by numbers, as `; element 0.2.1`, or
+/// nothing of the first element. The only error is a failed allocation.
+pub fn path_by_numbers(alloc: Global, bytes: &[u8], offset: usize) -> Result<String, AllocError> {
+    if offset == 0 {
+        return Ok(String::new(alloc));
     }
+    let path = text_of(alloc, &path_at(alloc, bytes, offset)?)?;
     format!(in alloc; "; element {path}")
 }

@@ -1,7 +1,6 @@
-//! The schemas of certificates, of names, and of messages of CMS and of Kerberos.
+//! The schemas of certificates, of names and of messages of Kerberos.
 #![tactic(auto)]
 
-pub mod cms;
 pub mod kerberos;
 pub mod pkix;
 pub mod x509;

@@ -52,8 +52,12 @@ content_in_der-returns-in-One t c =
 
 pub each_in_der-loop-rest-smaller : goal.each_in_der-loop-rest-smaller
 each_in_der-loop-rest-smaller t c =
-    pushed-shorter c.args.nodes.now c.args.index c.loop-rest.rest.now c.in-Some.after.now _ _
-    (rw c.in-Some.is at c.in_ok-after.ensures.ok)
+    let nodes = c.args.nodes.now in
+    let rest = c.loop-rest.rest.now in
+    let after = c.in-Some.after.now in
+    let pushed : IsPushed nodes c.args.index rest after c.loop-rest.der.items c.push_element.new.der.items =
+    rw c.in-Some.is at c.in_ok-after.ensures.ok in
+    pushed-shorter nodes c.args.index rest after c.loop-rest.der.items c.push_element.new.der.items pushed
 
 pub each_in_der-loop-rest-preserved : goal.each_in_der-loop-rest-preserved
 each_in_der-loop-rest-preserved t c =
@@ -63,7 +67,11 @@ each_in_der-loop-rest-preserved t c =
     let pushed : IsPushed nodes c.args.index rest after c.loop-rest.der.items c.push_element.new.der.items =
     rw c.in-Some.is at c.in_ok-after.ensures.ok in
     record {
-      fewer = omega (arith, pushed-shorter nodes c.args.index rest after _ _ pushed, c.loop-rest.invariant.fewer);
+      fewer = omega (
+        arith,
+        pushed-shorter nodes c.args.index rest after c.loop-rest.der.items c.push_element.new.der.items pushed,
+        c.loop-rest.invariant.fewer,
+      );
       so_far = each-more nodes c.args.index c.args.bytes.now rest after c.loop-rest.der.items
           c.push_element.new.der.items c.loop-rest.invariant.so_far pushed;
     }
