@@ -54,6 +54,11 @@ class Report:
         others = {id(it.module) for it in self.rows if not it.level.is_plain}
         return [it for it in self.modules if id(it) not in others and it.path not in self.wrong]
 
+    def complete_modules(self) -> list[tree.Module]:
+        """The modules that could be written: those without an error, in which all is there that their types name."""
+        others = {id(it.module) for it in self.rows if it.meaning.missing & OUTSIDE}
+        return [it for it in self.modules if id(it) not in others and it.path not in self.wrong]
+
 
 def report_of(
     modules: list[tree.Module],
@@ -140,10 +145,12 @@ def summary(report: Report) -> list[str]:
     closed = [it for it in exact if Note.OPEN not in it.meaning.notes]
     lines = [
         f"{share(len(report.plain_modules()), len(report.modules))} modules written without a flag",
+        f"{share(len(report.plain_modules()), len(report.complete_modules()))} modules written without a flag, of those whose notation is complete",
         f"{share(len(plain), total)} types written without a flag",
         f"{share(len(exact), total)} types exact and written",
         f"{share(len(closed), total)} types exact and written, without an open type",
         f"{share(sum(not it.meaning.missing & OUTSIDE for it in exact), len(complete))} types exact and written, of those whose notation is complete",
+        f"{share(sum(not it.meaning.missing for it in complete), len(complete))} types exact, or exact to a depth, and written, of these",
         f"{share(len(to_depth), total)} types written to a depth, since they contain themselves",
         f"{share(len(by_hand), total)} types exact only with types by hand, in place of which `--allow-wider` writes wider ones",
     ]

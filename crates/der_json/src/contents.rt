@@ -162,7 +162,7 @@ fn identifier_value(alloc: Global, content: Part<'_>) -> Result<Value, JsonError
     if has_wide_arc(identifier.arcs()) {
         return Err(JsonError::TooLarge(content.place));
     }
-    Ok(Value::String(identifier_text(alloc, &identifier)?))
+    Ok(Value::from(identifier_text(alloc, &identifier)?))
 }
 
 fn relative_value(alloc: Global, content: Part<'_>) -> Result<Value, JsonError>
@@ -175,7 +175,7 @@ fn relative_value(alloc: Global, content: Part<'_>) -> Result<Value, JsonError>
     if has_wide_arc(identifier.arcs()) {
         return Err(JsonError::TooLarge(content.place));
     }
-    Ok(Value::String(relative_text(alloc, &identifier)?))
+    Ok(Value::from(relative_text(alloc, &identifier)?))
 }
 
 // Whether an arc has more than 64 bits.

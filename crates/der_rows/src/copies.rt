@@ -40,7 +40,10 @@ impl Copied for Asn1RawDer {
 
 impl Copied for AnyElement {
     fn copied(&self) -> DerResult<AnyElement> {
-        self.clone()
+        match self.clone() {
+            Ok(copy) => Ok(copy),
+            Err(_) => Err(OutOfMemory),
+        }
     }
 }
 

@@ -50,7 +50,7 @@ class ModuleChecks:
 
     def imported(self, name: tree.Import, module: tree.Module) -> None:
         """What a module imports is in the module that it names, which exports it (X.680, 13.16)."""
-        home = self.program.module_named(name.module)
+        home = self.program.home_of(name)
         if home is None:
             return
         if home is module:

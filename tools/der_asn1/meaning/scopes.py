@@ -53,6 +53,7 @@ class Program:
         self.modules, self.problems = modules, problems
         self.by_name, self.by_stem, self.indexes = {}, {}, {}
         self.by_import = {}  # modules that are imported from under another name than theirs
+        self.of_one_name: dict[str, list[tree.Module]] = {}
         self.all_modules = [*modules, *imported]
         for module in modules:
             self.add(module, True)
@@ -62,6 +63,7 @@ class Program:
     def add(self, module: tree.Module, is_own: bool) -> None:
         """Makes a module known by its name and that of its file. The first one of a name has it."""
         first = self.by_name.setdefault(module.name.lower(), module)
+        self.of_one_name.setdefault(module.name.lower(), []).append(module)
         if is_own and first is not module:
             said = self.problems.error if first.path == module.path else self.problems.deviation
             said(module.place, f"the module `{module.name}` is in {first.path}, too, which is used", "X.680, 13.1")
@@ -87,9 +89,30 @@ class Program:
         """The scope of a module's own names."""
         return Scope(module, (module.path, module.name))
 
+    def home_of(self, name: tree.Import, module: Optional[tree.Module] = None) -> Optional[tree.Module]:
+        """The module that a name is imported from, if it is given. It isn't the module that asks.
+
+        Of several modules of one name it is the first one. If the name has parameters, it is the first one in which it has some (X.683, 9.1).
+        """
+        first = self.module_named(name.module, module)
+        if first is None or not name.has_parameters:
+            return first
+        homes = [first, *self.of_one_name[first.name.lower()]]
+        return next((it for it in homes if it is not module and self.has_parameters(name.name, it)), first)
+
+    def has_parameters(self, name: str, module: tree.Module) -> bool:
+        """Whether a module has an assignment of this name with parameters."""
+        found = self.indexes[id(module)].get(name)
+        return bool(found and found.parameters)
+
+    def import_of(self, name: str, module: tree.Module) -> Optional[tree.Import]:
+        """The import of a name, or None."""
+        return next((it for it in module.imports if it.name == name), None)
+
     def source_of(self, name: str, module: tree.Module) -> Optional[str]:
         """The name of the module that a name is imported from, or None."""
-        return next((it.module for it in module.imports if it.name == name), None)
+        found = self.import_of(name, module)
+        return found.module if found else None
 
     def why_not_imported(self, name: tree.Import, module: tree.Module) -> str:
         """Why a module that is given has no name that another module, or itself, imports from it."""
@@ -136,8 +159,8 @@ class Program:
         found = self.indexes[id(module)].get(name)
         if found:
             return Found(found, self.scope_of(module))
-        source = self.source_of(name, module)
-        return self.find_in(name, self.module_named(source, module), (*visited, id(module))) if source else None
+        source = self.import_of(name, module)
+        return self.find_in(name, self.home_of(source, module), (*visited, id(module))) if source else None
 
     def apply(self, found: Found, arguments: list[tree.Argument], scope: Scope) -> Optional[Scope]:
         """The scope inside of a parameterized assignment with these arguments, or None if there are too few (X.683, 9.7)."""

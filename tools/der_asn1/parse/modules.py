@@ -81,13 +81,13 @@ class ModuleParser(ClassParser):
         """IMPORTS (X.680, 13.16)."""
         start = self.accept("IMPORTS")
         while start and not self.accept(";"):
-            names = [self.symbol(start)]
+            names = [(self.symbol(start), self.empty_braces())]
             while self.accept(","):
-                names.append(self.symbol(start))
+                names.append((self.symbol(start), self.empty_braces()))
             self.expect("FROM", "X.680, 13.16")
             source = self.expect_kind(self.now.kind if self.now.kind is Kind.LOWER else Kind.UPPER, "the name of a module", "X.680, 13.16")
             identifier = self.assigned_identifier()
-            module.imports.extend(tree.Import(it.place, it.text, source.text, identifier) for it in names)
+            module.imports.extend(tree.Import(it.place, it.text, source.text, identifier, braces) for it, braces in names)
 
     def symbol(self, start: Token) -> Token:
         """A name that is imported. It may be that of a macro or a class whose name is reserved today."""
@@ -95,10 +95,14 @@ class ModuleParser(ClassParser):
             if self.now.kind is Kind.END:
                 raise NotationError(start.place, "`IMPORTS` isn't closed by `;`", "X.680, 13.1")
             self.refuse("a name that is imported", "X.680, 13.16")
-        token = self.take()
-        if self.at("{") and self.ahead().is_symbol("}"):
+        return self.take()
+
+    def empty_braces(self) -> bool:
+        """Whether `{}` is here, which is consumed: the name before it has parameters (X.683, 9.1)."""
+        found = self.at("{") and self.ahead().is_symbol("}")
+        if found:
             self.braced()
-        return token
+        return found
 
     def assigned_identifier(self) -> list[Token]:
         """The object identifier of the module that is imported from (X.680, 13.16): what is in its braces, or the name of one."""

@@ -521,12 +521,16 @@ class UnreadAssignment(Assignment):
 
 @dataclass
 class Import:
-    """A name that is imported, and the module that has it, by its name and its object identifier if that is there (X.680, 13.16)."""
+    """A name that is imported, and the module that has it, by its name and its object identifier if that is there (X.680, 13.16).
+
+    `has_parameters` is whether `{}` after the name says that it has some (X.683, 9.1).
+    """
 
     place: Place
     name: str
     module: str
     identifier: list[Token] = field(default_factory=list, compare=False)
+    has_parameters: bool = False
 
 
 @dataclass

@@ -54,9 +54,10 @@ def items(text):
 
 
 def example(stem):
-    """A file of the examples, without the notes at the ends of its lines, and what is derived for it."""
+    """A file of the examples, without the notes at the ends of its lines and `Clone`, which an option adds, and what is derived for it."""
     found = [os.path.join(ROOT, "crates/der_examples/src", it) for it in (f"{stem}.rt", f"{stem}/derived.rt")]
-    return re.sub(r" // asn1:.*", "", "\n".join(Path(it).read_text(encoding="utf-8") for it in found))
+    text = "\n".join(Path(it).read_text(encoding="utf-8") for it in found)
+    return re.sub(r" // asn1:.*", "", text).replace("#[derive(Debug, Clone, Drop", "#[derive(Debug, Drop")
 
 
 def as_derived(crate, name, stem):

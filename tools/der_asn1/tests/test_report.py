@@ -226,15 +226,23 @@ class Command(unittest.TestCase):
     def test_what_the_report_calls_exact_is_written(self):
         """Two sizes are exact by hand alone, and so is what contains them."""
         _, out, _ = self.run_on({"m.asn1": module_text("T ::= SEQUENCE { a U, b NULL }\nU ::= OCTET STRING (SIZE (1 | 5))\nV ::= NULL")}, "--report")
-        self.assertIn("0 of 1 (0.0 %) modules written without a flag\n1 of 3 (33.3 %) types written without a flag\n", out)
+        self.assertIn("0 of 1 (0.0 %) modules written without a flag\n0 of 1 (0.0 %) modules written without a flag, of those whose", out)
+        self.assertIn("1 of 3 (33.3 %) types written without a flag\n", out)
         self.assertIn("1 of 3 (33.3 %) types exact and written\n", out)
         self.assertIn("2 of 3 (66.7 %) types exact only with types by hand", out)
+
+    def test_a_module_that_names_what_is_not_there_is_not_complete(self):
+        """And so isn't one with an error."""
+        texts = {"m.asn1": module_text("T ::= Missing"), "n.asn1": module_text("T ::= NULL\nT ::= BOOLEAN").replace("M ", "N ", 1)}
+        _, out, _ = self.run_on({**texts, "o.asn1": module_text("T ::= NULL").replace("M ", "O ", 1)}, "--report")
+        self.assertIn("1 of 3 (33.3 %) modules written without a flag\n1 of 1 (100.0 %) modules written without a flag, of those whose", out)
 
     def test_a_module_that_was_written_for_no_compiler(self):
         """Each of its types is written without a flag, but for a REAL and what contains it."""
         text = (GOLDEN / "fleet.asn1").read_text(encoding="utf-8")
         _, out, _ = self.run_on({"fleet.asn1": text}, "--report")
-        self.assertIn("1 of 2 (50.0 %) modules written without a flag\n36 of 39 (92.3 %) types written without a flag\n32 of 39", out)
+        self.assertIn("1 of 2 (50.0 %) modules written without a flag\n", out)
+        self.assertIn("36 of 39 (92.3 %) types written without a flag\n32 of 39", out)
         status, _, err = self.run_on({"fleet.asn1": text}, "--strict", "--out", "{folder}/fleet")
         self.assertEqual(1, status)
         wanted = f"`Consumption` would be kept as bytes: {RARE}; 3 types contain it. `--allow-raw Consumption` allows it"

@@ -28,6 +28,12 @@ class Names(unittest.TestCase):
         self.assertEqual(0, two.meaning("U").level)
         self.assertEqual({1}, two.meaning("U").rust.firsts)
 
+    def test_an_import_with_braces_is_of_the_module_in_which_the_name_has_parameters(self):
+        plain, other = "N DEFINITIONS ::= BEGIN T ::= BOOLEAN END", "N DEFINITIONS ::= BEGIN T { A } ::= SEQUENCE { a A } END"
+        three = Given("M DEFINITIONS ::= BEGIN IMPORTS T{} FROM N; U ::= T { NULL } END", plain, other)
+        self.assertEqual(0, three.meaning("U").level)
+        self.assertEqual([], three.problems.of(Severity.ERROR))
+
     def test_a_name_that_leads_nowhere_has_its_place(self):
         one = given("T ::= SEQUENCE { a Missing }")
         one.meaning("T")

@@ -93,7 +93,7 @@ class Erlang:
 
     def run(self, *words: str, given: str = "") -> list[str]:
         """The lines that a program prints in the folder."""
-        return subprocess.run(words, cwd=self.folder, input=given, capture_output=True, text=True, check=True).stdout.splitlines()
+        return subprocess.run(words, cwd=self.folder, input=given, capture_output=True, encoding="utf-8", check=True).stdout.splitlines()
 
     def values(self, types: Sequence[tuple[Path, str]], count: int) -> list[tuple[Path, str, bytes]]:
         """The encodings of as many random values of each type, without those that Erlang can't make."""

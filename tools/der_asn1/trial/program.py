@@ -116,7 +116,7 @@ class Trial:
         """What is read of each row, which is a module, a type of it and bytes: `same`, or the error and how many bytes were consumed."""
         text = "".join(f"{module}.{kind} {data.hex()}\n" for module, kind, data in rows)
         words = ["rt", "try", "--steps", _STEPS, "--seconds", _SECONDS]
-        done = subprocess.run(words, cwd=self.folder / "crates/reader", input=text, capture_output=True, text=True, check=False)
+        done = subprocess.run(words, cwd=self.folder / "crates/reader", input=text, capture_output=True, encoding="utf-8", check=False)
         found = done.stdout.splitlines()[: len(rows)]
         if done.returncode or len(found) < len(rows):
             raise SystemExit(done.stdout[-4000:] + done.stderr[-4000:])

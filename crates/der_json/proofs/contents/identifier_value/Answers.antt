@@ -14,6 +14,6 @@ returns c =
       narrow = ap (λ (s : List ℕ). list_any is_err (map fitted (arcs_of s))) (sym same)
           ∙ ap (λ (arcs : List ℕ). list_any is_err (map fitted arcs)) (sym c.arcs.ensures) ∙ sym c.has_wide_arc.ensures
           ∙ c.if-has_wide_arc.false;
-      is = ap string (c.in_ok-identifier_text.ensures
+      is = c.from.ensures ∙ ap string (c.in_ok-identifier_text.ensures
           ∙ ap (λ (s : List ℕ). dotted_or_marked (map fitted (arcs_of s))) same);
     }

@@ -1,4 +1,4 @@
-use Rattle.std.proofs.Common.{ℕ, List, map, sym, ap, ◌∙◌}
+use Rattle.std.proofs.Common.{ℕ, Global, List, Vec, map, sym, ap, ◌∙◌}
 use Rattle.std.specs.Prelude.{is_err}
 use Rattle.std.specs.List.{list_any}
 use Rattle.serde_json.specs.Data.{string}
@@ -9,12 +9,12 @@ use Rattle.der_json.proofs.contents.relative_value.Goals as goal
 
 pub returns : goal.returns
 returns c =
-    let same = c.in-Some.ensures.some ∙ c.in_ok-copied.ensures in
+    let same = ap (λ (bytes : Vec ℕ Global). bytes.items) c.in-Some.ensures.some ∙ c.in_ok-copied.ensures in
     record {
       is_valid = ap is_relative_oid (sym same) ∙ c.in-Some.identifier.canonical;
       narrow = ap (λ (s : List ℕ). list_any is_err (map fitted (numbers_after 0 s))) (sym same)
           ∙ ap (λ (arcs : List ℕ). list_any is_err (map fitted arcs)) (sym c.arcs.ensures) ∙ sym c.has_wide_arc.ensures
           ∙ c.if-has_wide_arc.false;
-      is = ap string (c.in_ok-relative_text.ensures
+      is = c.from.ensures ∙ ap string (c.in_ok-relative_text.ensures
           ∙ ap (λ (s : List ℕ). dotted_or_marked (map fitted (numbers_after 0 s))) same);
     }

@@ -1,11 +1,13 @@
 use Rattle.std.proofs.Common.{◌≡◌, ℕ, List, [], ◌++◌, Some, sym, ap, ◌∙◌, refl, subst}
+use Rattle.serde_json.specs.Data.{no_members}
 use Rattle.serde_json.specs.View.{members_view, view}
+use Rattle.serde_json.proofs.Views.{view-Array, view-Object}
 use Rattle.picky_der_core.specs.Encoding.{plain_encoding}
 use Rattle.der_schema.specs.declared.node.Kind.TheVariants as kind
 use Rattle.der_schema.specs.declared.node.Member.{Member}
 use Rattle.der_schema.specs.declared.node.Presence.TheVariants as presence
 use Rattle.der_json.specs.declared.part.Part.{Part}
-use Rattle.der_json.specs.Json.{IsJson}
+use Rattle.der_json.specs.Json.{AreMembers, IsArray, IsJson}
 use Rattle.der_json.proofs.ValueLemmas.{of_any, of_choice, of_content_under, of_list, of_plain, of_same, of_sequence}
 use Rattle.der_json.proofs.ValueLemmas.{of_wrapped, all_items, all_members, empty_of, one_absent_member, one_more_item}
 use Rattle.der_json.proofs.ValueLemmas.{one_more_member}
@@ -21,8 +23,9 @@ array-loop-rest-preserved t c =
 
 pub array-returns : goal.array-returns
 array-returns t c =
-    all_items c.args.self.nodes.now c.args.item c.loop-rest.rest.bytes.now c.args.content.bytes.now
-    c.loop-rest.list.items (empty_of c.loop-rest.rest.bytes.now c.loop-rest-test.ensures) c.loop-rest.invariant
+    subst (IsArray c.args.self.nodes.now c.args.item c.args.content.bytes.now) (sym (view-Array c.loop-rest.list))
+    (all_items c.args.self.nodes.now c.args.item c.loop-rest.rest.bytes.now c.args.content.bytes.now
+    c.loop-rest.list.items (empty_of c.loop-rest.rest.bytes.now c.loop-rest-test.ensures) c.loop-rest.invariant)
 
 -- what stands for a member past the end
 abbrev no_member : Member
@@ -53,9 +56,11 @@ object-loop-member-preserved t c = λ whole h. elim c.if-not-is_absent.branch [
 
 pub object-returns : goal.object-returns
 object-returns t c =
-    all_members c.args.self.nodes.now c.args.members.now c.loop-member.member-index c.loop-member.rest.bytes.now
+    subst (AreMembers c.args.self.nodes.now c.args.members.now c.args.content.bytes.now no_members)
+    (sym (view-Object c.loop-member.object))
+    (all_members c.args.self.nodes.now c.args.members.now c.loop-member.member-index c.loop-member.rest.bytes.now
     c.args.content.bytes.now (members_view c.loop-member.object.entries) c.loop-member-test.false
-    (empty_of c.loop-member.rest.bytes.now c.if-not-is_empty.ensures) c.loop-member.invariant
+    (empty_of c.loop-member.rest.bytes.now c.if-not-is_empty.ensures) c.loop-member.invariant)
 
 pub value-returns-in_ok-content-in-Sequence : goal.value-returns-in_ok-content-in-Sequence
 value-returns-in_ok-content-in-Sequence t c =
