@@ -2,7 +2,8 @@
 //! whole strings.
 #![tactic(auto)]
 
-mod cms;
+mod encrypted;
+mod signed;
 
 use der_ber::{BerError, with_whole_strings};
 use der_ber_types::{TypeError, to_der};
@@ -26,10 +27,9 @@ fn schema_of(name: &str) -> Option<Schema> {
     match name {
         "certificate" => Some(x509::certificate()),
         "certificate_list" => Some(x509::certificate_list()),
-        "signed_data" => Some(cms::signed_data()),
-        "enveloped_data" => Some(cms::enveloped_data()),
-        "encrypted_data" => Some(cms::encrypted_data()),
-        "digested_data" => Some(cms::digested_data()),
+        "signed_data" => Some(signed::signed_data()),
+        "encrypted_data" => Some(encrypted::encrypted_data()),
+        "digested_data" => Some(encrypted::digested_data()),
         _ => None,
     }
 }
