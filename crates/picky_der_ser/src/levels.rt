@@ -1,21 +1,18 @@
-//! The levels of a serializer, in one vector.
-ghost use Rattle.std.specs.Prelude.{◌≡◌, ◌≢◌, ◌<◌, ◌≤◌, ◌^◌, ◌+◌, List, [], ◌∷◌, ◌++◌};
-ghost use Rattle.std.specs.Prelude.{true, false, length, None, Some, IfSome, IfNone, IsSome, IfOk, OnOk};
+//! What a serializer holds in memory of the levels that are open, and where its next value goes.
+ghost use Rattle.std.specs.Prelude.{◌≡◌, ◌≢◌, ◌∷◌, [], true, false, length, None, Some, IfSome, IfNone, IsSome, IfOk, OnOk};
+ghost use Rattle.std.specs.Prelude.{◌+◌};
 ghost use Rattle.picky_der_core.specs.Primitive.{Primitive};
 ghost use Rattle.picky_der_core.specs.OpenWrappers.{under};
 ghost use Rattle.picky_der_core.specs.Encoding.{der};
 ghost use Rattle.picky_der_core.specs.Tree.{Tree};
-ghost use Rattle.picky_der_ser.specs.Headers.{tree_of, headers, HasNumber, CanBeOpen, CanAllBeOpen};
-ghost use Rattle.picky_der_ser.specs.State.{Level, root, with_bytes, at_next_member, in_order, final_content};
-ghost use Rattle.picky_der_ser.specs.State.{EntersLevel, HasLevelNumbers};
+ghost use Rattle.picky_der_ser.specs.Headers.{tree_of, HasNumber, CanBeOpen, CanAllBeOpen};
+ghost use Rattle.picky_der_ser.specs.State.{Level, Held, root, extended, in_order, at_next_member, final_content};
+ghost use Rattle.picky_der_ser.specs.State.{HasLevelNumbers};
+ghost use Rattle.picky_der_ser.specs.Marks.{level_at, held_around, IsMark};
 
 use crate::Header;
-use crate::header::{fill_short, push_few, push_headers, push_short};
-use crate::header_insertion::{enclose, push_enclosed};
-use crate::header_room::widen_rooms;
-use crate::marks::{Mark, Marks};
+use crate::header::{Headers, enclose, fill_short, headers, push_few, push_short, room_of};
 use crate::order::{arrange, begin_member};
-use crate::wrapper_stack::Wrappers;
 use picky_der_core::asn1::{Tag, Wrapper};
 use std::alloc::{AllocError, Global};
 use std::marker::Model;
@@ -28,345 +25,222 @@ pub(crate) const FIRST_ROOM: usize = 1_000;
 // headers around it grow.
 const SPARE_ROOM: usize = 128;
 
-// The contents of the levels are one after the other, the innermost last. The wrappers around them are too, and their
-// seams. The seams of a set say how many bytes of its content are before each member but the first.
-//
-// Vectors in each mark would be copied and dropped with most levels too, which have no seams and are in no wrapper.
-//
-// A flag alone says whether a member of the innermost level is being written, so that no mark moves at a member.
-#[derive(Drop)]
-pub(crate) struct Levels {
-    scratch: Vec<u8>,
-    seams: Vec<usize>,
-    wrappers: Wrappers,
-    marks: Marks,
-    // Whether the innermost level was opened last, and no member of it is being written.
-    pending: bool,
+// The bytes in a room before its headers come.
+const BLANK: [u8; 5] = [0; 5];
+
+// A level: where the room for its headers begins, and where its content.
+#[derive(Clone, Copy)]
+pub(crate) struct Mark {
+    pub(crate) at: usize,
+    pub(crate) start: usize,
+    // How many seams are of levels around it.
+    pub(crate) first_seam: usize,
+    pub(crate) header: Header,
+    pub(crate) around: Option<Wrapper>,
+    // Whether it is in another level.
+    pub(crate) inside: bool,
 }
 
-impl Model for Levels {
-    ghost use Rattle.std.specs.Prelude.{length};
-    ghost use Rattle.picky_der_ser.specs.State.{Stack, stack_code};
-    ghost use Rattle.picky_der_ser.specs.Marks.{inside_of, pending_of, AreMarks, HasMark};
+// Where the next value goes.
+#[derive(Clone, Copy)]
+pub(crate) enum Place {
+    // To the sink, outside all levels.
+    Sink,
 
-    ghost Value = { Stack };
+    // To the bytes that are held, as a member of a level or as a part of one. The mark of this level is with the call
+    // that writes the member.
+    Member,
 
-    ghost coded = { stack_code };
+    // There, in this wrapper. The flag is false outside all levels.
+    Wrapped(Wrapper, bool),
 
-    ghost view = { λ s. record {
-      inside = inside_of s.pending s.marks.marks s.scratch.items s.seams.items s.wrappers.of_levels;
-      pending = pending_of s.pending s.marks.marks s.scratch.items s.seams.items s.wrappers.of_levels;
-      around = s.wrappers.around;
-    } };
+    // This level was opened last, and no member of it is being written. Another value than a member drops it.
+    Level(Mark),
+}
 
-    ghost invariant = { λ s. AreMarks s.marks.marks (length s.scratch.items) s.seams.items s.wrappers.of_levels
-        × HasMark s.pending s.marks.marks s.marks.spare };
+// The bytes of all levels, one after the other, the innermost last. The seams of a set say how many bytes of its content
+// are before each member but the first.
+#[derive(Drop)]
+pub(crate) struct Levels {
+    bytes: Vec<u8>,
+    seams: Vec<usize>,
+    place: Place,
 }
 
 impl Levels {
-    pub(crate) fn new(alloc: Global) -> Levels
-        ensures { result ≡ record { inside = []; pending = None; around = [] } }
-    {
-        Levels {
-            scratch: Vec::new(alloc),
-            seams: Vec::new(alloc),
-            wrappers: Wrappers::new(alloc),
-            marks: Marks::new(alloc),
-            pending: false,
-        }
+    pub(crate) fn new(alloc: Global) -> Levels {
+        Levels { bytes: Vec::new(alloc), seams: Vec::new(alloc), place: Place::Sink }
     }
 
     // Levels within one that is around all, in this vector, which has no bytes. Inlined, so that they are made in their
     // final place.
     #[inline(always)]
-    pub(crate) fn new_in_root(alloc: Global, scratch: Vec<u8>) -> Levels
-        requires { scratch.items ≡ [] }
-        ensures { result ≡ record { inside = root ∷ []; pending = None; around = [] } }
-    {
-        Levels {
-            scratch,
-            seams: Vec::new(alloc),
-            wrappers: Wrappers::new(alloc),
-            marks: Marks::new_in_root(alloc),
-            pending: false,
-        }
+    pub(crate) fn new_in_root(alloc: Global, bytes: Vec<u8>) -> Levels {
+        Levels { bytes, seams: Vec::new(alloc), place: Place::Member }
     }
 
-    // Returns what is in the level of which a member was being written. Inlined, so that the levels aren't copied
-    // first.
+    // All bytes that are held, without those of a level that was opened and hasn't ended.
     #[inline(always)]
-    pub(crate) fn into_content(self) -> Vec<u8>
-        ensures { (l : Level) (ls : List Level) → self.inside ≡ l ∷ ls → result.items ≡ l.content }
-    {
-        if !self.marks.is_one_at_front() {
-            return self.into_inner_content();
-        }
-        let Levels {
-            scratch,
-            seams: _,
-            wrappers: _,
-            marks: _,
-            pending: _,
-        } = self;
-        scratch
-    }
-
-    // The same if another level is in it, or something is before its contents.
-    #[cold]
-    #[inline(never)]
-    fn into_inner_content(mut self) -> Vec<u8>
-        ensures { (l : Level) (ls : List Level) → self.inside ≡ l ∷ ls → result.items ≡ l.content }
-    {
+    pub(crate) fn into_bytes(mut self) -> Vec<u8> {
         self.give_up();
-        let start = self.marks.last().map_or(0, |mark| mark.start);
-        let Levels {
-            mut scratch,
-            seams: _,
-            wrappers: _,
-            marks: _,
-            pending: _,
-        } = self;
-        scratch.drain(..start);
-        scratch
+        let Levels { bytes, seams: _, place: _ } = self;
+        bytes
     }
 
     // Whether a member of some level is being written.
-    pub(crate) fn is_inside(&self) -> bool
-        ensures no { result ≡ false → self.now.inside ≡ [] }
-        ensures yes { result ≡ true → self.now.inside ≢ [] }
-    {
-        self.marks.are_more_than(usize::from(self.pending))
+    pub(crate) fn is_inside(&self) -> bool {
+        match self.place {
+            Place::Sink => false,
+            Place::Member => true,
+            Place::Wrapped(_, inside) => inside,
+            Place::Level(mark) => mark.inside,
+        }
     }
 
-    // Drops the level that was opened last and hasn't ended. When a member is written there mostly is none.
-    pub(crate) fn give_up(&mut self)
-        ensures { self.new ≡ record self.old { pending = None } }
-    {
-        if self.pending {
-            self.drop_pending();
+    // Drops the level that was opened last and hasn't ended. When a value is written there mostly is none.
+    #[inline(always)]
+    pub(crate) fn give_up(&mut self) {
+        if let Place::Level(mark) = self.place {
+            self.drop_level(mark);
         }
     }
 
     #[cold]
     #[inline(never)]
-    fn drop_pending(&mut self)
-        requires { IsSome self.old.pending }
-        ensures { self.new ≡ record self.old { pending = None } }
-    {
-        if let Some(mark) = self.marks.pop() {
-            self.pending = false;
-            self.scratch.truncate(mark.at);
-            self.seams.truncate(mark.first_seam);
-            self.wrappers.drop_from(mark.first_wrapper);
+    fn drop_level(&mut self, mark: Mark) {
+        self.bytes.truncate(mark.at);
+        self.seams.truncate(mark.first_seam);
+        self.place = if mark.inside { Place::Member } else { Place::Sink };
+    }
+
+    // The open wrapper.
+    pub(crate) fn around(&self) -> Option<Wrapper> {
+        match self.place {
+            Place::Wrapped(wrapper, _) => Some(wrapper),
+            _ => None,
         }
     }
 
-    // Opens a level in the open wrappers. It replaces one that was opened and hasn't ended.
-    pub(crate) fn open(&mut self, header: Header)
-        requires { HasNumber header }
-        ensures { self.new ≡ record self.old {
-          pending = Some
-              (record { header = header; around = self.old.around; content = []; seams = [] });
-          around = [];
-        } }
-    {
+    // Opens a level in the open wrapper. It replaces one that was opened and hasn't ended.
+    #[inline(always)]
+    pub(crate) fn open(&mut self, header: Header) {
         self.give_up();
-        let at = self.scratch.len();
-        // The room for a short header, if there is room for it, so that this doesn't fail.
-        if self.wrappers.is_bare() && self.scratch.capacity() - at >= 2 {
-            let _ = self.scratch.extend_from_slice(&[0; 2]);
+        let (around, inside) = (self.around(), self.is_inside());
+        let at = self.bytes.len();
+        // The room for short headers, if there is room for it, so that this doesn't fail.
+        if self.bytes.capacity() - at >= BLANK.len() {
+            let _ = self.bytes.extend_from_slice(&BLANK[..room_of(around, header)]);
         }
-        let first_wrapper = self.wrappers.take();
-        self.marks.push(Mark {
-            header,
+        self.place = Place::Level(Mark {
             at,
-            start: self.scratch.len(),
+            start: self.bytes.len(),
             first_seam: self.seams.len(),
-            first_wrapper,
+            header,
+            around,
+            inside,
         });
-        self.pending = true;
     }
 
-    // Makes room for the headers of a level without members: as many bytes as the headers of an empty content have.
-    fn make_room(&mut self) -> Result<(), AllocError>
-        ensures { OnOk result (self.new ≡ self.old) }
-    {
-        if let Some(mark) = self.marks.last() {
-            if self.scratch.len() == mark.at {
-                let around = self.wrappers.around_from(mark.first_wrapper);
-                push_headers(&mut self.scratch, around, mark.header, 0)?;
-                self.marks.set_start(self.scratch.len());
-            }
-        }
-        Ok(())
-    }
-
-    // Keeps where the next member begins in the level that was opened last, if it is a set.
-    fn begin_member(&mut self) -> Result<(), AllocError>
-        ensures { OnOk result (IfSome self.old.pending
-            (λ l. self.new ≡ record self.old { pending = Some (at_next_member l) })) }
-    {
-        if let Some(mark) = self.marks.last() {
-            let held = self.scratch.len() - mark.start;
-            begin_member(&mut self.seams, mark.header, held)?;
-        }
-        Ok(())
-    }
-
-    // From here on a member of the level that was opened last is written. The first member of all makes some bytes of
-    // room at once, so that small values need no other allocation.
+    // From here on a member of the level that was opened last is written. Returns the level's mark.
     #[cold]
     #[inline(never)]
-    pub(crate) fn enter(&mut self) -> Result<(), AllocError>
-        ensures { OnOk result (EntersLevel self.old self.new) }
-    {
-        if self.scratch.is_empty() {
-            self.scratch.reserve(FIRST_ROOM)?;
-        }
-        self.make_room()?;
-        self.begin_member()?;
-        self.marks.reserve_one()?;
-        self.pending = false;
-        Ok(())
-    }
-
-    // The same if no wrapper is open and nothing has to be prepared, as nearly always. Else nothing is done.
-    pub(crate) fn enter_short(&mut self) -> bool
-        ensures bare { result ≡ true → self.old.around ≡ [] }
-        ensures yes { result ≡ true → EntersLevel self.old self.new }
-        ensures no { result ≡ false → self.new ≡ self.old }
-    {
-        let Some(mark) = self.marks.last() else {
-            return false;
+    pub(crate) fn enter(&mut self) -> Result<Mark, AllocError> {
+        let Place::Level(mut mark) = self.place else {
+            return Err(AllocError);
         };
-        let len = self.scratch.len();
-        let has_seam = mark.header.is_set() && len > mark.start;
-        let is_bare = self.wrappers.is_bare();
-        if !is_bare || len == mark.at || has_seam || !self.pending || !self.marks.has_room() {
-            return false;
+        if self.bytes.is_empty() {
+            self.bytes.reserve(FIRST_ROOM)?;
         }
-        self.pending = false;
-        true
+        if self.bytes.len() == mark.at {
+            self.bytes.extend_from_slice(&BLANK[..room_of(mark.around, mark.header)])?;
+            mark.start = self.bytes.len();
+        }
+        begin_member(&mut self.seams, mark.header, self.bytes.len() - mark.start)?;
+        self.place = Place::Member;
+        Ok(mark)
     }
 
-    // The member has been written.
-    pub(crate) fn leave(&mut self)
-        ensures { (l : Level) (ls : List Level) → self.old.inside ≡ l ∷ ls
-            → self.new ≡ record self.old { inside = ls; pending = Some l } }
-    {
+    // The same if nothing has to be prepared, as nearly always. Else nothing is done.
+    #[inline(always)]
+    pub(crate) fn enter_short(&mut self) -> Option<Mark> {
+        let Place::Level(mark) = self.place else {
+            return None;
+        };
+        let len = self.bytes.len();
+        if len == mark.at || (mark.header.is_set() && len > mark.start) {
+            return None;
+        }
+        self.place = Place::Member;
+        Some(mark)
+    }
+
+    // The member of the level with this mark has been written.
+    #[inline(always)]
+    pub(crate) fn leave(&mut self, mark: Mark) {
         self.give_up();
-        self.pending = self.is_inside();
+        self.place = Place::Level(mark);
     }
 
     // Adds an element with a length of one byte to the level of which a member is being written, if no wrapper is open,
     // no level was opened in it, and there is room for the element. Else nothing is done.
     #[inline(always)]
-    pub(crate) fn append_short(&mut self, tag: Tag, content: &[u8]) -> bool
-        ensures inside { result ≡ true → self.old.inside ≢ [] }
-        ensures count { result ≡ true → length
-            (der (Tree.primitive (Primitive.bytes tag content.now))) ≡ 2 + length content.now }
-        ensures yes { result ≡ true → (l : Level) (ls : List Level) → self.old.inside ≡ l ∷ ls
-            → self.new ≡ record self.old {
-              inside = with_bytes l (der (Tree.primitive (Primitive.bytes tag content.now))) ∷ ls;
-              pending = None;
-            } }
-        ensures around { self.new.around ≡ self.old.around }
-        ensures bare { result ≡ true → self.old.around ≡ [] }
-        ensures no { result ≡ false → self.new ≡ self.old }
-    {
+    pub(crate) fn append_short(&mut self, tag: Tag, content: &[u8]) -> bool {
         let len = content.len();
-        let room = self.scratch.capacity() - self.scratch.len();
-        let is_bare = self.wrappers.is_bare();
-        if !is_bare || self.pending || !self.is_inside() || len >= 0x80 || room < 2 + len {
+        let room = self.bytes.capacity() - self.bytes.len();
+        if !matches!(self.place, Place::Member) || len >= 0x80 || room < 2 + len {
             return false;
         }
-        push_short(&mut self.scratch, tag, content);
+        push_short(&mut self.bytes, tag, content);
         true
     }
 
-    // Adds less than 128 bytes as they are to the level of which a member is being written, if no wrapper is open, no
-    // level was opened in it, and there is room for them. Else nothing is done.
+    // Adds bytes as they are to the level of which a member is being written, if no wrapper is open, no level was opened
+    // in it, and there is room for them. Else nothing is done.
     #[inline(always)]
-    pub(crate) fn append_few(&mut self, bytes: &[u8]) -> bool
-        ensures inside { result ≡ true → self.old.inside ≢ [] }
-        ensures yes { result ≡ true → (l : Level) (ls : List Level) → self.old.inside ≡ l ∷ ls
-            → self.new ≡ record self.old {
-              inside = with_bytes l bytes.now ∷ ls;
-              pending = None;
-            } }
-        ensures around { self.new.around ≡ self.old.around }
-        ensures bare { result ≡ true → self.old.around ≡ [] }
-        ensures no { result ≡ false → self.new ≡ self.old }
-    {
-        let len = bytes.len();
-        let room = self.scratch.capacity() - self.scratch.len();
-        let is_bare = self.wrappers.is_bare();
-        if !is_bare || self.pending || !self.is_inside() || len >= 0x80 || room < len {
+    pub(crate) fn append_few(&mut self, bytes: &[u8]) -> bool {
+        let room = self.bytes.capacity() - self.bytes.len();
+        if !matches!(self.place, Place::Member) || room < bytes.len() {
             return false;
         }
-        push_few(&mut self.scratch, bytes);
+        push_few(&mut self.bytes, bytes);
         true
     }
 
-    // Adds the encoding of a content under this header, in the open wrappers, to the level of which a member is being
+    // Adds the encoding of a content under this header, in the open wrapper, to the level of which a member is being
     // written. Returns the length of the encoding.
-    pub(crate) fn append(&mut self, header: Header, content: &[u8]) -> Result<usize, AllocError>
-        requires { HasNumber header }
-        ensures numbers { CanAllBeOpen self.old.around }
-        ensures count { IfOk result (λ n. n ≡ length
-            (der (under self.old.around (tree_of header content.now)))) }
-        ensures ok { OnOk result ((l : Level) (ls : List Level) → self.old.inside ≡ l ∷ ls
-            → self.new ≡ record self.old {
-              inside = with_bytes l (der (under self.old.around (tree_of header content.now)))
-                  ∷ ls;
-              pending = None;
-            }) }
-    {
+    pub(crate) fn append(&mut self, header: Header, content: &[u8]) -> Result<usize, AllocError> {
         self.give_up();
-        let around = self.wrappers.open_wrappers();
-        self.scratch.reserve(SPARE_ROOM + content.len())?;
-        widen_rooms(&mut self.scratch, &mut self.marks, content.len());
-        let start = self.scratch.len();
-        push_enclosed(&mut self.scratch, around, header, content)?;
-        Ok(self.scratch.len() - start)
+        let headers = headers(self.around(), header, content.len());
+        self.bytes.reserve(SPARE_ROOM + content.len())?;
+        self.bytes.extend_from_slice(&headers)?;
+        self.bytes.extend_from_slice(content)?;
+        Ok(headers.len() + content.len())
     }
 
     // Whether no wrapper is open.
-    pub(crate) fn is_bare(&self) -> bool
-        ensures yes { result ≡ true → self.now.around ≡ [] }
-        ensures no { result ≡ false → self.now.around ≢ [] }
-    {
-        self.wrappers.is_bare()
+    pub(crate) fn is_bare(&self) -> bool {
+        !matches!(self.place, Place::Wrapped(_, _))
     }
 
-    // Opens a wrapper inside the open ones.
-    pub(crate) fn wrap(&mut self, wrapper: Wrapper) -> Result<(), AllocError>
-        requires { CanBeOpen wrapper }
-        ensures { OnOk result (self.new ≡ record self.old {
-          around = self.old.around ++
-              (wrapper ∷ []);
-        }) }
-    {
-        self.wrappers.push(wrapper)
+    // Opens a wrapper.
+    pub(crate) fn wrap(&mut self, wrapper: Wrapper) {
+        self.give_up();
+        self.place = Place::Wrapped(wrapper, self.is_inside());
     }
 
-    // Closes the open wrappers.
-    pub(crate) fn close_wrappers(&mut self)
-        ensures closed { self.new ≡ record self.old { around = [] } }
-        ensures numbers { CanAllBeOpen self.old.around }
-    {
-        self.wrappers.clear();
+    // Closes the open wrapper.
+    #[inline(always)]
+    pub(crate) fn close_wrapper(&mut self) {
+        if let Place::Wrapped(_, inside) = self.place {
+            self.place = if inside { Place::Member } else { Place::Sink };
+        }
     }
 
     // Puts the members of the level that was opened last in ascending order, if it is a set.
-    pub(crate) fn arrange(&mut self, alloc: Global) -> Result<(), AllocError>
-        ensures { OnOk result (IfSome self.old.pending
-            (λ l. self.new ≡ record self.old { pending = Some (in_order l) })) }
-    {
-        if let Some(mark) = self.marks.last() {
+    pub(crate) fn arrange(&mut self, alloc: Global) -> Result<(), AllocError> {
+        if let Place::Level(mark) = self.place {
             if mark.first_seam < self.seams.len() {
-                let seams = &self.seams[mark.first_seam..];
-                arrange(&mut self.scratch, mark.start, seams, alloc)?;
+                arrange(&mut self.bytes, mark.start, &self.seams[mark.first_seam..], alloc)?;
                 self.seams.truncate(mark.first_seam);
             }
         }
@@ -375,96 +249,46 @@ impl Levels {
 
     // Puts the headers of the level that was opened last before its content, and adds all this to the level around it.
     // Returns the number of these bytes.
-    #[inline(always)]
-    pub(crate) fn merge(&mut self) -> Result<usize, AllocError>
-        requires { IsSome self.old.pending }
-        ensures numbers { HasLevelNumbers self.old }
-        ensures count { IfOk result (λ n. IfSome self.old.pending
-            (λ p. n ≡ length (der (under p.around (tree_of p.header p.content))))) }
-        ensures bare { OnOk result (self.new.around ≡ []) }
-        ensures ok { OnOk result ((p l : Level) (ls : List Level)
-            → self.old.pending ≡ Some p → self.old.inside ≡ l ∷ ls → self.new ≡ record {
-              inside = with_bytes l (der (under p.around (tree_of p.header p.content))) ∷ ls;
-              pending = None;
-              around = [];
-            }) }
-    {
-        let Some(mark) = self.marks.pop() else {
+    pub(crate) fn merge(&mut self) -> Result<usize, AllocError> {
+        let Place::Level(mark) = self.place else {
             return Ok(0);
         };
-        self.pending = false;
-        self.seams.truncate(mark.first_seam);
-        let around = self.wrappers.around_from(mark.first_wrapper);
-        let outcome = enclose(&mut self.scratch, mark.at, mark.start, around, mark.header);
-        self.wrappers.truncate(mark.first_wrapper);
-        outcome?;
-        Ok(self.scratch.len() - mark.at)
+        let headers = self.headers();
+        enclose(&mut self.bytes, mark.at, mark.start, &headers)?;
+        self.place = Place::Member;
+        Ok(self.bytes.len() - mark.at)
     }
 
-    // Ends the level that was opened last as `arrange` and `merge` do. This is for a level in another one, without
-    // seams or open wrappers, whose header fits the two bytes before it, as most do. Else it does nothing and returns
-    // `None`.
+    // Ends the level that was opened last as `arrange` and `merge` do. This is for a level in another one, without seams
+    // or a wrapper, whose header fits the two bytes before it, as most do. Else it does nothing and returns `None`.
     #[inline(always)]
-    pub(crate) fn merge_short(&mut self) -> Option<usize>
-        requires { IsSome self.old.pending }
-        ensures numbers { HasLevelNumbers self.old }
-        ensures inside { IsSome result → self.old.inside ≢ [] }
-        ensures count { IfSome result (λ n. IfSome self.old.pending
-            (λ p. n ≡ length (der (under p.around (tree_of p.header (final_content p)))))) }
-        ensures bare { IsSome result → self.new.around ≡ [] }
-        ensures some { IsSome result → (p l : Level) (ls : List Level)
-            → self.old.pending ≡ Some p → self.old.inside ≡ l ∷ ls → self.new ≡ record {
-              inside = with_bytes l (der (under p.around (tree_of p.header (final_content p)))) ∷ ls;
-              pending = None;
-              around = [];
-            } }
-        ensures none { IfNone result (self.new ≡ self.old) }
-    {
-        if !self.is_inside() || !self.wrappers.is_bare() {
-            return None;
-        }
-        let Some(mark) = self.marks.last() else {
+    pub(crate) fn merge_short(&mut self) -> Option<usize> {
+        let Place::Level(mark) = self.place else {
             return None;
         };
-        let has_seams = mark.first_seam < self.seams.len();
-        if has_seams {
+        if !mark.inside || mark.first_seam < self.seams.len() || mark.around.is_some() {
             return None;
         }
-        let at = mark.at;
-        let around = self.wrappers.around_from(mark.first_wrapper);
-        if !fill_short(&mut self.scratch, at, mark.start, around, &mark.header) {
+        if !fill_short(&mut self.bytes, mark.at, mark.start, mark.header) {
             return None;
         }
-        self.marks.pop();
-        self.pending = false;
-        Some(self.scratch.len() - at)
+        self.place = Place::Member;
+        Some(self.bytes.len() - mark.at)
     }
 
-    // Adds the headers of a content of `len` bytes to the level that was opened last.
-    pub(crate) fn add_headers(&mut self, len: usize) -> Result<(), AllocError>
-        requires fits { len < 2 ^ 63 }
-        ensures numbers { HasLevelNumbers self.old }
-        ensures around { self.new.around ≡ self.old.around }
-        ensures ok { OnOk result (IfSome self.old.pending
-            (λ p. self.new ≡ record self.old {
-              pending = Some
-                  (with_bytes p (headers p.around p.header len));
-            })) }
-    {
-        if let Some(mark) = self.marks.last() {
-            let around = self.wrappers.around_from(mark.first_wrapper);
-            push_headers(&mut self.scratch, around, mark.header, len)?;
+    // The headers of the level that was opened last.
+    pub(crate) fn headers(&self) -> Headers {
+        match self.place {
+            Place::Level(mark) => headers(mark.around, mark.header, self.bytes.len() - mark.start),
+            _ => Headers::new(),
         }
-        Ok(())
     }
 
     // The content of the level that was opened last.
-    pub(crate) fn content(&self) -> &[u8]
-        ensures { IfSome self.now.pending (λ p. result.now ≡ p.content) }
-    {
-        match self.marks.last() {
-            Some(mark) => &self.scratch[mark.start..],
-            None => &[],
+    pub(crate) fn content(&self) -> &[u8] {
+        match self.place {
+            Place::Level(mark) => &self.bytes[mark.start..],
+            _ => &[],
         }
     }
 }

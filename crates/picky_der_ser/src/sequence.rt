@@ -67,11 +67,6 @@ impl<'a, W: WriteExt> Sequence<'a, W> {
         ensures { EndsLevel W.WriteExt.own (state_of self.entry) result self.exit.0.now }
     {
         let ser: &mut Serializer<W> = self.ser;
-        if ser.failed.is_none() {
-            if let Some(count) = ser.levels.merge_short() {
-                return Ok(count);
-            }
-        }
         ser.close()
     }
 }

@@ -180,7 +180,7 @@ impl<W: WriteExt> Serializer<W> {
     {
         match outcome {
             Ok(count) => {
-                self.levels.close_wrappers();
+                self.levels.close_wrapper();
                 Ok(count)
             }
             Err(error) => {

@@ -9,6 +9,7 @@ ghost use Rattle.picky_der_ser.specs.Calls.{UntouchedUnlessFailed, SinkWrites, S
 ghost use Rattle.picky_der_ser.specs.Calls.{AddsMember, RefusesToAdd, WritesContent, EndsLevel};
 
 use super::Serializer;
+use crate::levels::Mark;
 use crate::sink::put_headed;
 use crate::{Header, Serialize};
 use picky_der_core::misc::WriteExt;
@@ -21,33 +22,6 @@ impl<W: WriteExt> Serializer<W> {
         ensures { OpensLevel W.WriteExt.own header self.old self.new }
     {
         self.levels.open(header);
-    }
-
-    // Writes the headers of the level that was opened last, and this content, to the sink.
-    pub(crate) fn put_after_headers(&mut self, content: &[u8]) -> Result<usize>
-        requires opened { IsSome self.old.pending }
-        requires empty { IfSome self.old.pending (λ l. l.content ≡ []) }
-        requires outside { self.old.inside ≡ [] }
-        ensures kept { (self.new.around ≡ self.old.around) × (self.new.failed ≡ self.old.failed) }
-        ensures still_outside { OnOk result (self.new.inside ≡ []) }
-        ensures wrote { IfOk result (λ n. IfSome self.old.pending
-            (λ l. SinkWrites W.WriteExt.own (under l.around (tree_of l.header content.now)) self.old.sink
-            n self.new.sink)) }
-        ensures refused { IfErr result (λ e. IfSome self.old.pending
-            (λ l. SinkRefuses W.WriteExt.own (under l.around (tree_of l.header content.now))
-            self.old.sink e self.new.sink)) }
-        ensures untouched { IfErr result (λ e. UntouchedUnlessFailed W.WriteExt.own self.old.sink e
-            self.new.sink) }
-        ensures counted { IsOnceAtMost (W.faults self.old.sink) (W.faults self.new.sink) }
-        ensures no_fault { OnOk result (W.faults self.new.sink ≡ W.faults self.old.sink) }
-        ensures continues { W.later self.old.sink self.new.sink }
-    {
-        let Ok(()) = self.levels.add_headers(content.len()) else {
-            return Err(Asn1DerError::OutOfMemory);
-        };
-        let outcome = put_headed(&mut self.sink, self.levels.content(), content);
-        self.levels.give_up();
-        outcome
     }
 
     // Writes the level that was opened last to the sink.
@@ -68,12 +42,8 @@ impl<W: WriteExt> Serializer<W> {
         ensures no_fault { OnOk result (W.faults self.new.sink ≡ W.faults self.old.sink) }
         ensures continues { W.later self.old.sink self.new.sink }
     {
-        let held = self.levels.content().len();
-        let Ok(()) = self.levels.add_headers(held) else {
-            return Err(Asn1DerError::OutOfMemory);
-        };
-        let (content, headers) = self.levels.content().split_at(held);
-        let outcome = put_headed(&mut self.sink, headers, content);
+        let headers = self.levels.headers();
+        let outcome = put_headed(&mut self.sink, &headers, self.levels.content());
         self.levels.give_up();
         outcome
     }
@@ -82,7 +52,7 @@ impl<W: WriteExt> Serializer<W> {
     // this order fails, nothing of the set is written.
     #[cold]
     #[inline(never)]
-    pub(crate) fn close(&mut self) -> Result<usize>
+    fn close_slowly(&mut self) -> Result<usize>
         requires { IfNone self.old.failed (IsSome self.old.pending) }
         ensures { EndsLevel W.WriteExt.own self.old result self.new }
     {
@@ -102,28 +72,41 @@ impl<W: WriteExt> Serializer<W> {
         }
     }
 
-    // From here on a member of the level that was opened last is written.
+    // The same. Mostly it is a short level in another one.
+    #[inline(always)]
+    pub(crate) fn close(&mut self) -> Result<usize>
+        requires { IfNone self.old.failed (IsSome self.old.pending) }
+        ensures { EndsLevel W.WriteExt.own self.old result self.new }
+    {
+        if self.failed.is_none() {
+            if let Some(count) = self.levels.merge_short() {
+                return Ok(count);
+            }
+        }
+        self.close_slowly()
+    }
+
     #[cold]
     #[inline(never)]
-    fn enter(&mut self) -> Result<()>
-        requires { IfNone self.old.failed (IsSome self.old.pending) }
-        ensures ok { OnOk result (IfSome self.old.pending
-            (λ l. self.new ≡ record self.old {
-              around = [];
-              inside = at_next_member l ∷ self.old.inside;
-              pending = None;
-            })) }
-        ensures had_not_failed { OnOk result (self.old.failed ≡ None) }
-        ensures err { IfErr result (λ e. RefusesToEnter W.WriteExt.own self.old e self.new) }
-    {
+    fn enter_slowly(&mut self) -> Result<Mark> {
         if let Some(error) = self.earlier() {
             return Err(error);
         }
-        let Ok(()) = self.levels.enter() else {
-            return Err(self.fail(Asn1DerError::OutOfMemory));
-        };
-        self.levels.close_wrappers();
-        Ok(())
+        match self.levels.enter() {
+            Ok(mark) => Ok(mark),
+            Err(_) => Err(self.fail(Asn1DerError::OutOfMemory)),
+        }
+    }
+
+    // From here on a member of the level that was opened last is written. Returns the level's mark.
+    #[inline(always)]
+    pub(crate) fn enter(&mut self) -> Result<Mark> {
+        if self.failed.is_none() {
+            if let Some(mark) = self.levels.enter_short() {
+                return Ok(mark);
+            }
+        }
+        self.enter_slowly()
     }
 
     // Writes the value as a member of the level that was opened last.
@@ -135,11 +118,9 @@ impl<W: WriteExt> Serializer<W> {
         ensures err { IfErr result (λ e. RefusesToAdd W.WriteExt.own
             (T.meaning value.now) self.old e self.new) }
     {
-        if self.failed.is_some() || !self.levels.enter_short() {
-            self.enter()?;
-        }
+        let mark = self.enter()?;
         value.serialize(self)?;
-        self.levels.leave();
+        self.levels.leave(mark);
         Ok(())
     }
 }

@@ -9,7 +9,8 @@ ghost use Rattle.picky_der_ser.specs.Calls.{WritesPlain, WritesPrimitive};
 use super::Serializer;
 use crate::Header;
 use crate::integer::UnsignedContent;
-use crate::sink::put_element;
+use crate::header::headers;
+use crate::sink::{put_element, put_headed};
 use picky_der_core::asn1::Tag;
 use picky_der_core::integer::IntContent;
 use picky_der_core::misc::WriteExt;
@@ -63,7 +64,7 @@ impl<W: WriteExt> Serializer<W> {
     {
         match self.levels.append(header, content) {
             Ok(count) => {
-                self.levels.close_wrappers();
+                self.levels.close_wrapper();
                 Ok(count)
             }
             Err(_) => Err(self.fail(Asn1DerError::OutOfMemory)),
@@ -91,8 +92,8 @@ impl<W: WriteExt> Serializer<W> {
         requires wrapped { self.old.around ≢ [] }
         ensures { WritesPlain W.WriteExt.own (tree_of header content.now) self.old result self.new }
     {
-        self.open(header);
-        let outcome = self.put_after_headers(content);
+        let headers = headers(self.levels.around(), header, content.len());
+        let outcome = put_headed(&mut self.sink, &headers, content);
         self.settle(outcome)
     }
 
