@@ -41,21 +41,27 @@ pub(crate) struct Mark {
     pub(crate) inside: bool,
 }
 
-// Where the next value goes.
-#[derive(Clone, Copy)]
+// What the next value is written to.
+#[derive(Clone, Copy, PartialEq, Eq)]
 pub(crate) enum Place {
-    // To the sink, outside all levels.
+    // The sink.
     Sink,
 
-    // To the bytes that are held, as a member of a level or as a part of one. The mark of this level is with the call
-    // that writes the member.
+    // The bytes that are held: it is a member of a level, or a part of one.
     Member,
+}
 
-    // There, in this wrapper. The flag is false outside all levels.
-    Wrapped(Wrapper, bool),
+// Where the next value goes.
+#[derive(Clone, Copy, PartialEq, Eq)]
+enum Phase {
+    // There, as it is.
+    Bare,
 
-    // This level was opened last, and no member of it is being written. Another value than a member drops it.
-    Level(Mark),
+    // There, in a wrapper.
+    Wrapped,
+
+    // There, in place of a level that was opened and hasn't ended.
+    Level,
 }
 
 // The bytes of all levels, one after the other, the innermost last. The seams of a set say how many bytes of its content
@@ -64,90 +70,100 @@ pub(crate) enum Place {
 pub(crate) struct Levels {
     bytes: Vec<u8>,
     seams: Vec<usize>,
-    place: Place,
+    inside: bool,
+    phase: Phase,
+    wrapper: Wrapper,
+    // What is kept if that level is dropped.
+    kept: usize,
+    kept_seams: usize,
 }
 
 impl Levels {
     pub(crate) fn new(alloc: Global) -> Levels {
-        Levels { bytes: Vec::new(alloc), seams: Vec::new(alloc), place: Place::Sink }
+        Levels { bytes: Vec::new(alloc), seams: Vec::new(alloc), inside: false, phase: Phase::Bare, wrapper: Wrapper::OctetContainer, kept: 0, kept_seams: 0 }
     }
 
     // Levels within one that is around all, in this vector, which has no bytes. Inlined, so that they are made in their
     // final place.
     #[inline(always)]
     pub(crate) fn new_in_root(alloc: Global, bytes: Vec<u8>) -> Levels {
-        Levels { bytes, seams: Vec::new(alloc), place: Place::Member }
+        Levels { bytes, seams: Vec::new(alloc), inside: true, phase: Phase::Bare, wrapper: Wrapper::OctetContainer, kept: 0, kept_seams: 0 }
     }
 
-    // All bytes that are held, without those of a level that was opened and hasn't ended.
     #[inline(always)]
     pub(crate) fn into_bytes(mut self) -> Vec<u8> {
         self.give_up();
-        let Levels { bytes, seams: _, place: _ } = self;
+        let Levels { bytes, seams: _, inside: _, phase: _, wrapper: _, kept: _, kept_seams: _ } = self;
         bytes
     }
 
-    // Whether a member of some level is being written.
     pub(crate) fn is_inside(&self) -> bool {
-        match self.place {
-            Place::Sink => false,
-            Place::Member => true,
-            Place::Wrapped(_, inside) => inside,
-            Place::Level(mark) => mark.inside,
-        }
+        self.inside
     }
 
     // Drops the level that was opened last and hasn't ended. When a value is written there mostly is none.
     #[inline(always)]
     pub(crate) fn give_up(&mut self) {
-        if let Place::Level(mark) = self.place {
-            self.drop_level(mark);
+        if self.phase == Phase::Level {
+            self.drop_level();
         }
     }
 
     #[cold]
     #[inline(never)]
-    fn drop_level(&mut self, mark: Mark) {
-        self.bytes.truncate(mark.at);
-        self.seams.truncate(mark.first_seam);
-        self.place = if mark.inside { Place::Member } else { Place::Sink };
+    fn drop_level(&mut self) {
+        self.bytes.truncate(self.kept);
+        self.seams.truncate(self.kept_seams);
+        self.phase = Phase::Bare;
     }
 
     // The open wrapper.
+    #[inline(always)]
     pub(crate) fn around(&self) -> Option<Wrapper> {
-        match self.place {
-            Place::Wrapped(wrapper, _) => Some(wrapper),
+        match self.phase {
+            Phase::Wrapped => Some(self.wrapper),
             _ => None,
         }
     }
 
+    #[inline(always)]
+    fn show(&mut self, mark: &Mark) {
+        self.inside = mark.inside;
+        self.phase = Phase::Level;
+        self.kept = mark.at;
+        self.kept_seams = mark.first_seam;
+    }
+
     // Opens a level in the open wrapper. It replaces one that was opened and hasn't ended.
     #[inline(always)]
-    pub(crate) fn open(&mut self, header: Header) {
+    pub(crate) fn open(&mut self, header: Header) -> Mark {
         self.give_up();
-        let (around, inside) = (self.around(), self.is_inside());
+        let around = self.around();
         let at = self.bytes.len();
         // The room for short headers, if there is room for it, so that this doesn't fail.
         if self.bytes.capacity() - at >= BLANK.len() {
-            let _ = self.bytes.extend_from_slice(&BLANK[..room_of(around, header)]);
+            if around.is_none() {
+                let _ = self.bytes.extend_from_slice(&[0; 2]);
+            } else {
+                let _ = self.bytes.extend_from_slice(&BLANK[..room_of(around, header)]);
+            }
         }
-        self.place = Place::Level(Mark {
+        let mark = Mark {
             at,
             start: self.bytes.len(),
             first_seam: self.seams.len(),
             header,
             around,
-            inside,
-        });
+            inside: self.inside,
+        };
+        self.show(&mark);
+        mark
     }
 
     // From here on a member of the level that was opened last is written. Returns the level's mark.
     #[cold]
     #[inline(never)]
-    pub(crate) fn enter(&mut self) -> Result<Mark, AllocError> {
-        let Place::Level(mut mark) = self.place else {
-            return Err(AllocError);
-        };
+    pub(crate) fn enter(&mut self, mark: &mut Mark) -> Result<(), AllocError> {
         if self.bytes.is_empty() {
             self.bytes.reserve(FIRST_ROOM)?;
         }
@@ -156,29 +172,28 @@ impl Levels {
             mark.start = self.bytes.len();
         }
         begin_member(&mut self.seams, mark.header, self.bytes.len() - mark.start)?;
-        self.place = Place::Member;
-        Ok(mark)
+        self.phase = Phase::Bare;
+        self.inside = true;
+        Ok(())
     }
 
     // The same if nothing has to be prepared, as nearly always. Else nothing is done.
     #[inline(always)]
-    pub(crate) fn enter_short(&mut self) -> Option<Mark> {
-        let Place::Level(mark) = self.place else {
-            return None;
-        };
+    pub(crate) fn enter_short(&mut self, mark: &Mark) -> bool {
         let len = self.bytes.len();
         if len == mark.at || (mark.header.is_set() && len > mark.start) {
-            return None;
+            return false;
         }
-        self.place = Place::Member;
-        Some(mark)
+        self.phase = Phase::Bare;
+        self.inside = true;
+        true
     }
 
     // The member of the level with this mark has been written.
     #[inline(always)]
-    pub(crate) fn leave(&mut self, mark: Mark) {
+    pub(crate) fn leave(&mut self, mark: &Mark) {
         self.give_up();
-        self.place = Place::Level(mark);
+        self.show(mark);
     }
 
     // Adds an element with a length of one byte to the level of which a member is being written, if no wrapper is open,
@@ -187,7 +202,7 @@ impl Levels {
     pub(crate) fn append_short(&mut self, tag: Tag, content: &[u8]) -> bool {
         let len = content.len();
         let room = self.bytes.capacity() - self.bytes.len();
-        if !matches!(self.place, Place::Member) || len >= 0x80 || room < 2 + len {
+        if !self.inside || self.phase != Phase::Bare || len >= 0x80 || room < 2 + len {
             return false;
         }
         push_short(&mut self.bytes, tag, content);
@@ -199,7 +214,7 @@ impl Levels {
     #[inline(always)]
     pub(crate) fn append_few(&mut self, bytes: &[u8]) -> bool {
         let room = self.bytes.capacity() - self.bytes.len();
-        if !matches!(self.place, Place::Member) || room < bytes.len() {
+        if !self.inside || self.phase != Phase::Bare || room < bytes.len() {
             return false;
         }
         push_few(&mut self.bytes, bytes);
@@ -219,76 +234,63 @@ impl Levels {
 
     // Whether no wrapper is open.
     pub(crate) fn is_bare(&self) -> bool {
-        !matches!(self.place, Place::Wrapped(_, _))
+        self.phase != Phase::Wrapped
     }
 
     // Opens a wrapper.
     pub(crate) fn wrap(&mut self, wrapper: Wrapper) {
         self.give_up();
-        self.place = Place::Wrapped(wrapper, self.is_inside());
+        self.phase = Phase::Wrapped;
+        self.wrapper = wrapper;
     }
 
     // Closes the open wrapper.
     #[inline(always)]
     pub(crate) fn close_wrapper(&mut self) {
-        if let Place::Wrapped(_, inside) = self.place {
-            self.place = if inside { Place::Member } else { Place::Sink };
+        if self.phase == Phase::Wrapped {
+            self.phase = Phase::Bare;
         }
     }
 
     // Puts the members of the level that was opened last in ascending order, if it is a set.
-    pub(crate) fn arrange(&mut self, alloc: Global) -> Result<(), AllocError> {
-        if let Place::Level(mark) = self.place {
-            if mark.first_seam < self.seams.len() {
-                arrange(&mut self.bytes, mark.start, &self.seams[mark.first_seam..], alloc)?;
-                self.seams.truncate(mark.first_seam);
-            }
+    pub(crate) fn arrange(&mut self, mark: &Mark, alloc: Global) -> Result<(), AllocError> {
+        if mark.first_seam < self.seams.len() {
+            arrange(&mut self.bytes, mark.start, &self.seams[mark.first_seam..], alloc)?;
+            self.seams.truncate(mark.first_seam);
         }
         Ok(())
     }
 
     // Puts the headers of the level that was opened last before its content, and adds all this to the level around it.
     // Returns the number of these bytes.
-    pub(crate) fn merge(&mut self) -> Result<usize, AllocError> {
-        let Place::Level(mark) = self.place else {
-            return Ok(0);
-        };
-        let headers = self.headers();
+    pub(crate) fn merge(&mut self, mark: &Mark) -> Result<usize, AllocError> {
+        let headers = self.headers(mark);
         enclose(&mut self.bytes, mark.at, mark.start, &headers)?;
-        self.place = Place::Member;
+        self.phase = Phase::Bare;
         Ok(self.bytes.len() - mark.at)
     }
 
     // Ends the level that was opened last as `arrange` and `merge` do. This is for a level in another one, without seams
     // or a wrapper, whose header fits the two bytes before it, as most do. Else it does nothing and returns `None`.
     #[inline(always)]
-    pub(crate) fn merge_short(&mut self) -> Option<usize> {
-        let Place::Level(mark) = self.place else {
-            return None;
-        };
+    pub(crate) fn merge_short(&mut self, mark: &Mark) -> Option<usize> {
         if !mark.inside || mark.first_seam < self.seams.len() || mark.around.is_some() {
             return None;
         }
         if !fill_short(&mut self.bytes, mark.at, mark.start, mark.header) {
             return None;
         }
-        self.place = Place::Member;
+        self.phase = Phase::Bare;
         Some(self.bytes.len() - mark.at)
     }
 
     // The headers of the level that was opened last.
-    pub(crate) fn headers(&self) -> Headers {
-        match self.place {
-            Place::Level(mark) => headers(mark.around, mark.header, self.bytes.len() - mark.start),
-            _ => Headers::new(),
-        }
+    pub(crate) fn headers(&self, mark: &Mark) -> Headers {
+        headers(mark.around, mark.header, self.bytes.len() - mark.start)
     }
 
     // The content of the level that was opened last.
-    pub(crate) fn content(&self) -> &[u8] {
-        match self.place {
-            Place::Level(mark) => &self.bytes[mark.start..],
-            _ => &[],
-        }
+    pub(crate) fn content(&self, mark: &Mark) -> &[u8] {
+        &self.bytes[mark.start..]
     }
 }

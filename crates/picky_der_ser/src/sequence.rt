@@ -3,6 +3,7 @@ ghost use Rattle.std.specs.Prelude.{◌≡◌, IfErr, OnOk};
 ghost use Rattle.picky_der_ser.specs.Calls.{OpensLevel, AddsMember, RefusesToAdd, EndsLevel};
 ghost use Rattle.picky_der_ser.specs.Sequences.{IsListTag, HasOpenLevel, HasOpenLevel-prop};
 
+use crate::levels::Mark;
 use crate::{Header, Serialize, Serializer};
 use picky_der_core::Result;
 use picky_der_core::asn1::Tag;
@@ -13,6 +14,7 @@ use picky_der_core::misc::WriteExt;
 #[derive(Drop)]
 pub struct Sequence<'a, W: WriteExt> {
     pub(crate) ser: &'a mut Serializer<W>,
+    mark: Mark,
     // Unless the serializer has failed, a level is open.
     ghost open: { HasOpenLevel ser.now.failed ser.now.pending } by { HasOpenLevel-prop ser.now.failed ser.now.pending },
 }
@@ -28,8 +30,8 @@ impl<'a, W: WriteExt> Sequence<'a, W> {
         ensures same_reference { borrowed_by result ≡ ser.entry.ghost_name }
         ensures opened { OpensLevel W.WriteExt.own (Header.Tagged tag) ser.old (state_of result) }
     {
-        ser.levels.open(Header::Tagged(tag));
-        Sequence { ser }
+        let mark = ser.levels.open(Header::Tagged(tag));
+        Sequence { ser, mark }
     }
 
     /// Adds a member, in no wrapper but its own.
@@ -43,7 +45,7 @@ impl<'a, W: WriteExt> Sequence<'a, W> {
         ensures err { IfErr result (λ e. RefusesToAdd W.WriteExt.own (T.meaning value.now)
             (state_of self.old) e (state_of self.new)) }
     {
-        self.ser.write_member(value)
+        self.ser.write_member(&mut self.mark, value)
     }
 
     /// Adds a member, as `serialize_element` does. The key isn't written.
@@ -66,7 +68,7 @@ impl<'a, W: WriteExt> Sequence<'a, W> {
     pub fn end(self) -> Result<usize>
         ensures { EndsLevel W.WriteExt.own (state_of self.entry) result self.exit.0.now }
     {
-        let ser: &mut Serializer<W> = self.ser;
-        ser.close()
+        let Sequence { ser, mark } = self;
+        ser.close(&mark)
     }
 }

@@ -36,8 +36,8 @@ impl<W: WriteExt> Serializer<W> {
         if number > Tag::MAX_NUMBER {
             return Err(self.fail(Asn1DerError::UnsupportedValue));
         }
-        self.open(Header::Application(number));
-        self.write_member(value)?;
-        self.close()
+        let mut mark = self.levels.open(Header::Application(number));
+        self.write_member(&mut mark, value)?;
+        self.close(&mark)
     }
 }

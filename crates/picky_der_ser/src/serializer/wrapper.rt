@@ -42,16 +42,16 @@ impl<W: WriteExt> Serializer<W> {
 
     // Writes the value in this wrapper, in the open one, which becomes a level.
     fn write_nested<T: Serialize>(&mut self, wrapper: Wrapper, value: &T) -> Result<usize> {
-        self.open(Header::Raw);
-        let mark = self.enter()?;
+        let mut mark = self.levels.open(Header::Raw);
+        self.enter(&mut mark)?;
         self.levels.wrap(wrapper);
         let count = value.serialize(self)?;
-        self.levels.leave(mark);
+        self.levels.leave(&mark);
         if count == 0 {
             self.levels.give_up();
             return Ok(0);
         }
-        self.close()
+        self.close(&mark)
     }
 
     /// Writes the value in a wrapper (X.690, 8.6.2, 8.7 and 8.14), which is opened inside the open ones.
