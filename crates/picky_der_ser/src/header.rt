@@ -28,12 +28,10 @@ impl Header {
     }
 }
 
-// All bytes before a content: at most 11 of a wrapper, with the byte that counts unused bits, and 10 of its own header.
-pub(crate) type Headers = ArrayVec<u8, 21>;
-
 // The tag in the content's own header. There is none before raw bytes, and directly under an implicit tag none before a
 // plain value.
-fn own_tag(around: Option<Wrapper>, header: Header) -> Option<Tag> {
+#[inline(always)]
+pub(crate) fn own_tag(around: Option<Wrapper>, header: Header) -> Option<Tag> {
     match (header, around) {
         (Header::Tagged(_), Some(wrapper)) if !wrapper.keeps_header() => None,
         (Header::Tagged(tag), _) => Some(tag),
@@ -42,71 +40,93 @@ fn own_tag(around: Option<Wrapper>, header: Header) -> Option<Tag> {
     }
 }
 
-// A tag and a length, if there is a tag.
-fn push_header(out: &mut Headers, tag: Option<Tag>, len: usize) {
-    if let Some(tag) = tag {
-        out.push(tag.inner());
-        let _ = out.try_extend_from_slice(&Length::bytes(len));
+// The most bytes of a header: a tag, a length, and a byte that counts unused bits.
+type Opening = ArrayVec<u8, 11>;
+
+// A tag, the length of `len` bytes, and in a bit string before them the byte that counts no unused bits.
+#[inline(always)]
+fn opening(tag: Tag, has_front: bool, len: usize) -> Opening {
+    let mut bytes = Opening::new();
+    bytes.push(tag.inner());
+    let _ = bytes.try_extend_from_slice(&Length::bytes(usize::from(has_front) + len));
+    if has_front {
+        bytes.push(0x00);
     }
+    bytes
 }
 
-// All headers of a content of `len` bytes.
-pub(crate) fn headers(around: Option<Wrapper>, header: Header, len: usize) -> Headers {
-    let mut all = Headers::new();
+// Adds all headers before a content of `len` bytes.
+pub(crate) fn push_headers(
+    out: &mut Vec<u8>,
+    around: Option<Wrapper>,
+    header: Header,
+    len: usize,
+) -> Result<(), AllocError> {
     let own = own_tag(around, header);
     if let Some(wrapper) = around {
-        let own_len = own.map_or(0, |_| 1 + Length::encoded_len(len));
-        if wrapper.counts_unused_bits() {
-            push_header(&mut all, Some(wrapper.tag()), 1 + own_len + len);
-            all.push(0x00);
-        } else {
-            push_header(&mut all, Some(wrapper.tag()), own_len + len);
-        }
+        let own_len = if own.is_some() { 1 + Length::encoded_len(len) } else { 0 };
+        out.extend_from_slice(&opening(wrapper.tag(), wrapper.counts_unused_bits(), own_len + len))?;
     }
-    push_header(&mut all, own, len);
-    all
+    if let Some(tag) = own {
+        out.extend_from_slice(&opening(tag, false, len))?;
+    }
+    Ok(())
 }
 
-// How many bytes the headers of a short content have, mostly.
+// How many bytes the headers of a short content have.
 pub(crate) fn room_of(around: Option<Wrapper>, header: Header) -> usize {
     match around {
         None => 2,
+        Some(Wrapper::BitContainer) if header != Header::Raw => 5,
         Some(wrapper) if wrapper.keeps_header() && header != Header::Raw => 4,
         Some(_) => 2,
     }
 }
 
-// The bytes in a room before its headers come.
-const BLANK: [u8; 21] = [0; 21];
+// The bytes in a room before its header comes.
+const BLANK: [u8; 11] = [0; 11];
 
-// Puts the headers before the content from `start` on, in place of the bytes from `at` to `start`. The content moves at
-// most once.
-pub(crate) fn enclose(out: &mut Vec<u8>, at: usize, start: usize, headers: &[u8]) -> Result<(), AllocError> {
+// Puts a header before the content from `start` on, in place of the bytes from `at` to `start`.
+fn put_header(out: &mut Vec<u8>, at: usize, start: usize, tag: Tag, has_front: bool) -> Result<(), AllocError> {
     let end = out.len();
-    let first = at + headers.len();
+    let len = end - start;
+    if !has_front && len < 0x80 && start - at == 2 {
+        out[at..start].copy_from_slice(&[tag.inner(), len as u8]);
+        return Ok(());
+    }
+    let header = opening(tag, has_front, len);
+    let first = at + header.len();
     if first > start {
         out.extend_from_slice(&BLANK[..first - start])?;
     }
     if first != start {
         out.copy_within(start..end, first);
-        out.truncate(first + (end - start));
+        out.truncate(first + len);
     }
-    out[at..first].copy_from_slice(headers);
+    out[at..first].copy_from_slice(&header);
     Ok(())
 }
 
-// Writes the header of the content from `start` on into the room from `at` to `start`, if it is a short one that fits
-// exactly. Else nothing is done.
-#[inline(always)]
-pub(crate) fn fill_short(out: &mut Vec<u8>, at: usize, start: usize, header: Header) -> bool {
-    let len = out.len() - start;
-    match own_tag(None, header) {
-        Some(tag) if start - at == 2 && len < 0x80 => {
-            out[at..at + 2].copy_from_slice(&[tag.inner(), len as u8]);
-            true
-        }
-        _ => false,
+// Puts all headers before the content from `start` on, in place of the bytes from `at` to `start`.
+pub(crate) fn put_headers(
+    out: &mut Vec<u8>,
+    at: usize,
+    start: usize,
+    around: Option<Wrapper>,
+    header: Header,
+) -> Result<(), AllocError> {
+    let Some(wrapper) = around else {
+        return match own_tag(None, header) {
+            Some(tag) => put_header(out, at, start, tag, false),
+            None => Ok(()),
+        };
+    };
+    let mut own_at = start;
+    if let Some(tag) = own_tag(around, header) {
+        own_at = at.max(start.saturating_sub(2));
+        put_header(out, own_at, start, tag, false)?;
     }
+    put_header(out, at, own_at, wrapper.tag(), wrapper.counts_unused_bits())
 }
 
 // Adds an element whose length is one byte, for which there is room.

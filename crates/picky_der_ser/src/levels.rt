@@ -11,7 +11,7 @@ ghost use Rattle.picky_der_ser.specs.State.{HasLevelNumbers};
 ghost use Rattle.picky_der_ser.specs.Marks.{level_at, held_around, IsMark};
 
 use crate::Header;
-use crate::header::{Headers, enclose, fill_short, headers, push_few, push_short, room_of};
+use crate::header::{push_few, push_headers, push_short, put_headers, room_of, own_tag};
 use crate::order::{arrange, begin_member};
 use picky_der_core::asn1::{Tag, Wrapper};
 use std::alloc::{AllocError, Global};
@@ -37,31 +37,34 @@ pub(crate) struct Mark {
     pub(crate) first_seam: usize,
     pub(crate) header: Header,
     pub(crate) around: Option<Wrapper>,
-    // Whether it is in another level.
-    pub(crate) inside: bool,
-}
-
-// What the next value is written to.
-#[derive(Clone, Copy, PartialEq, Eq)]
-pub(crate) enum Place {
-    // The sink.
-    Sink,
-
-    // The bytes that are held: it is a member of a level, or a part of one.
-    Member,
+    // What it is in.
+    pub(crate) place: Place,
+    // Whether a member can be written at once: the room is there, and no seam has to be kept.
+    pub(crate) is_ready: bool,
+    // Whether it is in another level and in no wrapper, with a room of two bytes of which the first is its tag.
+    pub(crate) has_tag: bool,
 }
 
 // Where the next value goes.
 #[derive(Clone, Copy, PartialEq, Eq)]
-enum Phase {
-    // There, as it is.
-    Bare,
+pub(crate) enum Place {
+    // To the bytes that are held: it is a member of a level, or a part of one.
+    Member,
 
-    // There, in a wrapper.
-    Wrapped,
+    // The same in a wrapper.
+    WrappedMember,
 
-    // There, in place of a level that was opened and hasn't ended.
-    Level,
+    // In place of a level that was opened as such a member and hasn't ended.
+    OpenMember,
+
+    // To the sink.
+    Sink,
+
+    // The same in a wrapper.
+    WrappedSink,
+
+    // In place of a level that was opened there and hasn't ended.
+    OpenSink,
 }
 
 // The bytes of all levels, one after the other, the innermost last. The seams of a set say how many bytes of its content
@@ -70,41 +73,46 @@ enum Phase {
 pub(crate) struct Levels {
     bytes: Vec<u8>,
     seams: Vec<usize>,
-    inside: bool,
-    phase: Phase,
+    place: Place,
+    // The open wrapper, if there is one.
     wrapper: Wrapper,
-    // What is kept if that level is dropped.
+    // How many bytes and seams stay if the open level is dropped.
     kept: usize,
     kept_seams: usize,
 }
 
 impl Levels {
+    #[inline(always)]
+    fn new_in(bytes: Vec<u8>, seams: Vec<usize>, place: Place) -> Levels {
+        Levels { bytes, seams, place, wrapper: Wrapper::OctetContainer, kept: 0, kept_seams: 0 }
+    }
+
     pub(crate) fn new(alloc: Global) -> Levels {
-        Levels { bytes: Vec::new(alloc), seams: Vec::new(alloc), inside: false, phase: Phase::Bare, wrapper: Wrapper::OctetContainer, kept: 0, kept_seams: 0 }
+        Levels::new_in(Vec::new(alloc), Vec::new(alloc), Place::Sink)
     }
 
     // Levels within one that is around all, in this vector, which has no bytes. Inlined, so that they are made in their
     // final place.
     #[inline(always)]
     pub(crate) fn new_in_root(alloc: Global, bytes: Vec<u8>) -> Levels {
-        Levels { bytes, seams: Vec::new(alloc), inside: true, phase: Phase::Bare, wrapper: Wrapper::OctetContainer, kept: 0, kept_seams: 0 }
+        Levels::new_in(bytes, Vec::new(alloc), Place::Member)
     }
 
     #[inline(always)]
     pub(crate) fn into_bytes(mut self) -> Vec<u8> {
         self.give_up();
-        let Levels { bytes, seams: _, inside: _, phase: _, wrapper: _, kept: _, kept_seams: _ } = self;
+        let Levels { bytes, seams: _, place: _, wrapper: _, kept: _, kept_seams: _ } = self;
         bytes
     }
 
     pub(crate) fn is_inside(&self) -> bool {
-        self.inside
+        matches!(self.place, Place::Member | Place::WrappedMember | Place::OpenMember)
     }
 
     // Drops the level that was opened last and hasn't ended. When a value is written there mostly is none.
     #[inline(always)]
     pub(crate) fn give_up(&mut self) {
-        if self.phase == Phase::Level {
+        if matches!(self.place, Place::OpenMember | Place::OpenSink) {
             self.drop_level();
         }
     }
@@ -114,39 +122,55 @@ impl Levels {
     fn drop_level(&mut self) {
         self.bytes.truncate(self.kept);
         self.seams.truncate(self.kept_seams);
-        self.phase = Phase::Bare;
+        self.close();
+    }
+
+    // Closes what is open.
+    fn close(&mut self) {
+        self.place = if self.is_inside() { Place::Member } else { Place::Sink };
     }
 
     // The open wrapper.
     #[inline(always)]
     pub(crate) fn around(&self) -> Option<Wrapper> {
-        match self.phase {
-            Phase::Wrapped => Some(self.wrapper),
+        match self.place {
+            Place::WrappedMember | Place::WrappedSink => Some(self.wrapper),
             _ => None,
         }
-    }
-
-    #[inline(always)]
-    fn show(&mut self, mark: &Mark) {
-        self.inside = mark.inside;
-        self.phase = Phase::Level;
-        self.kept = mark.at;
-        self.kept_seams = mark.first_seam;
     }
 
     // Opens a level in the open wrapper. It replaces one that was opened and hasn't ended.
     #[inline(always)]
     pub(crate) fn open(&mut self, header: Header) -> Mark {
+        if self.place == Place::Member && self.bytes.capacity() - self.bytes.len() >= 2 {
+            if let Some(tag) = own_tag(None, header) {
+                let at = self.bytes.len();
+                let _ = self.bytes.extend_from_slice(&[tag.inner(), 0]);
+                let mark = Mark {
+                    at,
+                    start: self.bytes.len(),
+                    first_seam: self.seams.len(),
+                    header,
+                    around: None,
+                    place: Place::OpenMember,
+                    is_ready: !header.is_set(),
+                    has_tag: true,
+                };
+                self.expect(&mark);
+                return mark;
+            }
+        }
+        self.open_any(header)
+    }
+
+    #[inline(never)]
+    fn open_any(&mut self, header: Header) -> Mark {
         self.give_up();
         let around = self.around();
         let at = self.bytes.len();
-        // The room for short headers, if there is room for it, so that this doesn't fail.
-        if self.bytes.capacity() - at >= BLANK.len() {
-            if around.is_none() {
-                let _ = self.bytes.extend_from_slice(&[0; 2]);
-            } else {
-                let _ = self.bytes.extend_from_slice(&BLANK[..room_of(around, header)]);
-            }
+        let has_room = self.bytes.capacity() - at >= BLANK.len();
+        if has_room {
+            let _ = self.bytes.extend_from_slice(&BLANK[..room_of(around, header)]);
         }
         let mark = Mark {
             at,
@@ -154,46 +178,52 @@ impl Levels {
             first_seam: self.seams.len(),
             header,
             around,
-            inside: self.inside,
+            place: if self.is_inside() { Place::OpenMember } else { Place::OpenSink },
+            is_ready: has_room && !header.is_set(),
+            has_tag: false,
         };
-        self.show(&mark);
+        self.expect(&mark);
         mark
     }
 
+    // A member of this level, or its end, comes next.
+    #[inline(always)]
+    fn expect(&mut self, mark: &Mark) {
+        self.place = mark.place;
+        self.kept = mark.at;
+        self.kept_seams = mark.first_seam;
+    }
+
     // From here on a member of the level that was opened last is written. Returns the level's mark.
-    #[cold]
-    #[inline(never)]
+    #[inline(always)]
     pub(crate) fn enter(&mut self, mark: &mut Mark) -> Result<(), AllocError> {
-        if self.bytes.is_empty() {
-            self.bytes.reserve(FIRST_ROOM)?;
-        }
         if self.bytes.len() == mark.at {
+            if self.bytes.is_empty() {
+                self.bytes.reserve(FIRST_ROOM)?;
+            }
             self.bytes.extend_from_slice(&BLANK[..room_of(mark.around, mark.header)])?;
             mark.start = self.bytes.len();
+            mark.is_ready = !mark.header.is_set();
         }
         begin_member(&mut self.seams, mark.header, self.bytes.len() - mark.start)?;
-        self.phase = Phase::Bare;
-        self.inside = true;
+        self.place = Place::Member;
         Ok(())
     }
 
     // The same if nothing has to be prepared, as nearly always. Else nothing is done.
     #[inline(always)]
-    pub(crate) fn enter_short(&mut self, mark: &Mark) -> bool {
-        let len = self.bytes.len();
-        if len == mark.at || (mark.header.is_set() && len > mark.start) {
-            return false;
+    pub(crate) fn enter_ready(&mut self, mark: &Mark) -> bool {
+        if mark.is_ready {
+            self.place = Place::Member;
         }
-        self.phase = Phase::Bare;
-        self.inside = true;
-        true
+        mark.is_ready
     }
 
     // The member of the level with this mark has been written.
     #[inline(always)]
     pub(crate) fn leave(&mut self, mark: &Mark) {
         self.give_up();
-        self.show(mark);
+        self.expect(mark);
     }
 
     // Adds an element with a length of one byte to the level of which a member is being written, if no wrapper is open,
@@ -202,7 +232,7 @@ impl Levels {
     pub(crate) fn append_short(&mut self, tag: Tag, content: &[u8]) -> bool {
         let len = content.len();
         let room = self.bytes.capacity() - self.bytes.len();
-        if !self.inside || self.phase != Phase::Bare || len >= 0x80 || room < 2 + len {
+        if self.place != Place::Member || len >= 0x80 || room < 2 + len {
             return false;
         }
         push_short(&mut self.bytes, tag, content);
@@ -214,83 +244,86 @@ impl Levels {
     #[inline(always)]
     pub(crate) fn append_few(&mut self, bytes: &[u8]) -> bool {
         let room = self.bytes.capacity() - self.bytes.len();
-        if !self.inside || self.phase != Phase::Bare || room < bytes.len() {
+        if self.place != Place::Member || room < bytes.len() {
             return false;
         }
         push_few(&mut self.bytes, bytes);
         true
     }
 
+    // Adds the headers of a content of `len` bytes under this header, in the open wrapper.
+    pub(crate) fn append_headers(&mut self, header: Header, len: usize) -> Result<(), AllocError> {
+        self.give_up();
+        let around = self.around();
+        push_headers(&mut self.bytes, around, header, len)
+    }
+
     // Adds the encoding of a content under this header, in the open wrapper, to the level of which a member is being
     // written. Returns the length of the encoding.
     pub(crate) fn append(&mut self, header: Header, content: &[u8]) -> Result<usize, AllocError> {
-        self.give_up();
-        let headers = headers(self.around(), header, content.len());
         self.bytes.reserve(SPARE_ROOM + content.len())?;
-        self.bytes.extend_from_slice(&headers)?;
+        let at = self.bytes.len();
+        self.append_headers(header, content.len())?;
         self.bytes.extend_from_slice(content)?;
-        Ok(headers.len() + content.len())
+        Ok(self.bytes.len() - at)
     }
 
     // Whether no wrapper is open.
     pub(crate) fn is_bare(&self) -> bool {
-        self.phase != Phase::Wrapped
+        !matches!(self.place, Place::WrappedMember | Place::WrappedSink)
     }
 
     // Opens a wrapper.
     pub(crate) fn wrap(&mut self, wrapper: Wrapper) {
         self.give_up();
-        self.phase = Phase::Wrapped;
         self.wrapper = wrapper;
+        self.place = if self.is_inside() { Place::WrappedMember } else { Place::WrappedSink };
     }
 
     // Closes the open wrapper.
     #[inline(always)]
     pub(crate) fn close_wrapper(&mut self) {
-        if self.phase == Phase::Wrapped {
-            self.phase = Phase::Bare;
+        if !self.is_bare() {
+            self.close();
         }
     }
 
-    // Puts the members of the level that was opened last in ascending order, if it is a set.
-    pub(crate) fn arrange(&mut self, mark: &Mark, alloc: Global) -> Result<(), AllocError> {
+    // Puts the members of the level that was opened last in ascending order, if it is a set, and the headers before the
+    // content.
+    pub(crate) fn enclose(&mut self, mark: &Mark, alloc: Global) -> Result<(), AllocError> {
         if mark.first_seam < self.seams.len() {
             arrange(&mut self.bytes, mark.start, &self.seams[mark.first_seam..], alloc)?;
             self.seams.truncate(mark.first_seam);
         }
-        Ok(())
+        put_headers(&mut self.bytes, mark.at, mark.start, mark.around, mark.header)
     }
 
-    // Puts the headers of the level that was opened last before its content, and adds all this to the level around it.
-    // Returns the number of these bytes.
-    pub(crate) fn merge(&mut self, mark: &Mark) -> Result<usize, AllocError> {
-        let headers = self.headers(mark);
-        enclose(&mut self.bytes, mark.at, mark.start, &headers)?;
-        self.phase = Phase::Bare;
-        Ok(self.bytes.len() - mark.at)
+    // Adds the level to the level around it. Returns the number of these bytes.
+    pub(crate) fn merge(&mut self, mark: &Mark) -> usize {
+        self.close();
+        self.bytes.len() - mark.at
     }
 
     // Ends the level that was opened last as `arrange` and `merge` do. This is for a level in another one, without seams
     // or a wrapper, whose header fits the two bytes before it, as most do. Else it does nothing and returns `None`.
     #[inline(always)]
-    pub(crate) fn merge_short(&mut self, mark: &Mark) -> Option<usize> {
-        if !mark.inside || mark.first_seam < self.seams.len() || mark.around.is_some() {
+    pub(crate) fn merge_simple(&mut self, mark: &Mark) -> Option<usize> {
+        let len = self.bytes.len() - mark.start;
+        if !mark.has_tag || mark.first_seam < self.seams.len() || len >= 0x80 {
             return None;
         }
-        if !fill_short(&mut self.bytes, mark.at, mark.start, mark.header) {
-            return None;
-        }
-        self.phase = Phase::Bare;
-        Some(self.bytes.len() - mark.at)
+        self.bytes[mark.at + 1] = len as u8;
+        self.place = Place::Member;
+        Some(2 + len)
     }
 
-    // The headers of the level that was opened last.
-    pub(crate) fn headers(&self, mark: &Mark) -> Headers {
-        headers(mark.around, mark.header, self.bytes.len() - mark.start)
+    // Drops all bytes.
+    pub(crate) fn clear(&mut self) {
+        self.bytes.clear();
     }
 
-    // The content of the level that was opened last.
-    pub(crate) fn content(&self, mark: &Mark) -> &[u8] {
-        &self.bytes[mark.start..]
+    // All bytes that are held.
+    pub(crate) fn bytes(&self) -> &[u8] {
+        &self.bytes
     }
 }

@@ -30,6 +30,7 @@ pub trait SerializeMember {
 impl<T: Serialize> SerializeMember for T {
     ghost prepend = { λ value. Trees.more (T.meaning value) };
 
+    #[inline(always)]
     fn serialize_member<W: WriteExt>(&self, sequence: &mut Sequence<'_, W>) -> Result<()> {
         sequence.serialize_element(self)
     }

@@ -38,6 +38,7 @@ impl<'a, W: WriteExt> Sequence<'a, W> {
     ///
     /// If the serializer has failed before, its earlier error is returned. `UnsupportedValue` if the member can't be
     /// written, and `OutOfMemory` if an allocation fails. Nothing is written to the sink.
+    #[inline(always)]
     pub fn serialize_element<T: Serialize>(&mut self, value: &T) -> Result<()>
         ensures same_reference { borrowed_by self.new ≡ borrowed_by self.old }
         ensures added { OnOk result (AddsMember W.WriteExt.own (T.meaning value.now)

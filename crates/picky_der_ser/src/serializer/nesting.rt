@@ -9,56 +9,44 @@ ghost use Rattle.picky_der_ser.specs.Calls.{UntouchedUnlessFailed, SinkWrites, S
 ghost use Rattle.picky_der_ser.specs.Calls.{AddsMember, RefusesToAdd, WritesContent, EndsLevel};
 
 use super::Serializer;
-use crate::levels::Mark;
+use crate::levels::{Mark, Place};
 use crate::sink::put_headed;
 use crate::{Header, Serialize};
 use picky_der_core::misc::WriteExt;
 use picky_der_core::{Asn1DerError, Result};
 
 impl<W: WriteExt> Serializer<W> {
-    // Writes the level that was opened last to the sink.
-    fn put_level(&mut self, mark: &Mark) -> Result<usize> {
-        let headers = self.levels.headers(mark);
-        let outcome = put_headed(&mut self.sink, &headers, self.levels.content(mark));
-        self.levels.give_up();
-        outcome
-    }
-
-    // Writes the level that was opened last, in its wrappers, with the members of a set in order. If an allocation for
+    // Writes the level that was opened last, in its wrapper, with the members of a set in order. If an allocation for
     // this order fails, nothing of the set is written.
-    #[cold]
     #[inline(never)]
-    fn close_slowly(&mut self, mark: &Mark) -> Result<usize> {
+    fn close_any(&mut self, mark: &Mark) -> Result<usize> {
         if let Some(error) = self.earlier() {
             return Err(error);
         }
-        let Ok(()) = self.levels.arrange(mark, self.alloc) else {
+        let Ok(()) = self.levels.enclose(mark, self.alloc) else {
             return Err(self.fail(Asn1DerError::OutOfMemory));
         };
-        if !mark.inside {
-            let outcome = self.put_level(mark);
-            return self.settle(outcome);
+        if mark.place == Place::OpenMember {
+            return Ok(self.levels.merge(mark));
         }
-        match self.levels.merge(mark) {
-            Ok(count) => Ok(count),
-            Err(_) => Err(self.fail(Asn1DerError::OutOfMemory)),
-        }
+        let outcome = put_headed(&mut self.sink, &[], self.levels.bytes());
+        self.levels.give_up();
+        self.settle(outcome)
     }
 
     // The same. Mostly it is a short level in another one.
     #[inline(always)]
     pub(crate) fn close(&mut self, mark: &Mark) -> Result<usize> {
         if self.failed.is_none() {
-            if let Some(count) = self.levels.merge_short(mark) {
+            if let Some(count) = self.levels.merge_simple(mark) {
                 return Ok(count);
             }
         }
-        self.close_slowly(mark)
+        self.close_any(mark)
     }
 
-    #[cold]
     #[inline(never)]
-    fn enter_slowly(&mut self, mark: &mut Mark) -> Result<()> {
+    fn enter_any(&mut self, mark: &mut Mark) -> Result<()> {
         if let Some(error) = self.earlier() {
             return Err(error);
         }
@@ -68,13 +56,13 @@ impl<W: WriteExt> Serializer<W> {
         }
     }
 
-    // From here on a member of the level that was opened last is written. Returns the level's mark.
+    // From here on a member of the level that was opened last is written.
     #[inline(always)]
     pub(crate) fn enter(&mut self, mark: &mut Mark) -> Result<()> {
-        if self.failed.is_none() && self.levels.enter_short(mark) {
+        if self.failed.is_none() && self.levels.enter_ready(mark) {
             return Ok(());
         }
-        self.enter_slowly(mark)
+        self.enter_any(mark)
     }
 
     // Writes the value as a member of the level that was opened last.

@@ -9,7 +9,6 @@ ghost use Rattle.picky_der_ser.specs.Calls.{WritesPlain, WritesPrimitive};
 use super::Serializer;
 use crate::Header;
 use crate::integer::UnsignedContent;
-use crate::header::headers;
 use crate::sink::{put_element, put_headed};
 use picky_der_core::asn1::Tag;
 use picky_der_core::integer::IntContent;
@@ -92,8 +91,11 @@ impl<W: WriteExt> Serializer<W> {
         requires wrapped { self.old.around ≢ [] }
         ensures { WritesPlain W.WriteExt.own (tree_of header content.now) self.old result self.new }
     {
-        let headers = headers(self.levels.around(), header, content.len());
-        let outcome = put_headed(&mut self.sink, &headers, content);
+        let Ok(()) = self.levels.append_headers(header, content.len()) else {
+            return Err(self.fail(Asn1DerError::OutOfMemory));
+        };
+        let outcome = put_headed(&mut self.sink, self.levels.bytes(), content);
+        self.levels.clear();
         self.settle(outcome)
     }
 
@@ -215,12 +217,12 @@ impl<W: WriteExt> Serializer<W> {
     pub fn serialize_tagged_bytes(&mut self, tag: Tag, content: &[u8]) -> Result<usize>
         ensures { WritesPrimitive W.WriteExt.own (Primitive.bytes tag content.now) self.old result self.new }
     {
-        if let Some(error) = self.earlier() {
-            return Err(error);
+        if tag.number() <= Tag::MAX_NUMBER {
+            return self.write_plain(tag, content);
         }
-        if tag.number() > Tag::MAX_NUMBER {
-            return Err(self.fail(Asn1DerError::UnsupportedValue));
+        match self.earlier() {
+            Some(error) => Err(error),
+            None => Err(self.fail(Asn1DerError::UnsupportedValue)),
         }
-        self.write_plain(tag, content)
     }
 }
