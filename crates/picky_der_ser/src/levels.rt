@@ -142,48 +142,44 @@ impl Levels {
     // Opens a level in the open wrapper. It replaces one that was opened and hasn't ended.
     #[inline(always)]
     pub(crate) fn open(&mut self, header: Header) -> Mark {
-        if self.place == Place::Member && self.bytes.capacity() - self.bytes.len() >= 2 {
-            if let Some(tag) = own_tag(None, header) {
-                let at = self.bytes.len();
-                let _ = self.bytes.extend_from_slice(&[tag.inner(), 0]);
-                let mark = Mark {
-                    at,
-                    start: self.bytes.len(),
-                    first_seam: self.seams.len(),
-                    header,
-                    around: None,
-                    place: Place::OpenMember,
-                    is_ready: !header.is_set(),
-                    has_tag: true,
-                };
-                self.expect(&mark);
-                return mark;
-            }
-        }
-        self.open_any(header)
-    }
-
-    #[inline(never)]
-    fn open_any(&mut self, header: Header) -> Mark {
-        self.give_up();
-        let around = self.around();
-        let at = self.bytes.len();
-        let has_room = self.bytes.capacity() - at >= BLANK.len();
-        if has_room {
-            let _ = self.bytes.extend_from_slice(&BLANK[..room_of(around, header)]);
-        }
-        let mark = Mark {
-            at,
+        let mut mark = Mark {
+            at: self.bytes.len(),
             start: self.bytes.len(),
             first_seam: self.seams.len(),
             header,
-            around,
-            place: if self.is_inside() { Place::OpenMember } else { Place::OpenSink },
-            is_ready: has_room && !header.is_set(),
+            around: None,
+            place: Place::OpenMember,
+            is_ready: false,
             has_tag: false,
         };
+        if self.place == Place::Member && self.bytes.capacity() - mark.at >= 2 {
+            if let Some(tag) = own_tag(None, header) {
+                let _ = self.bytes.extend_from_slice(&[tag.inner(), 0]);
+                mark.start = self.bytes.len();
+                mark.is_ready = !header.is_set();
+                mark.has_tag = true;
+            }
+        } else {
+            self.open_any(&mut mark);
+        }
         self.expect(&mark);
         mark
+    }
+
+    #[inline(never)]
+    fn open_any(&mut self, mark: &mut Mark) {
+        self.give_up();
+        mark.at = self.bytes.len();
+        mark.first_seam = self.seams.len();
+        mark.around = self.around();
+        if !self.is_inside() {
+            mark.place = Place::OpenSink;
+        }
+        if self.bytes.capacity() - mark.at >= BLANK.len() {
+            let _ = self.bytes.extend_from_slice(&BLANK[..room_of(mark.around, mark.header)]);
+            mark.is_ready = !mark.header.is_set();
+        }
+        mark.start = self.bytes.len();
     }
 
     // A member of this level, or its end, comes next.
@@ -222,7 +218,9 @@ impl Levels {
     // The member of the level with this mark has been written.
     #[inline(always)]
     pub(crate) fn leave(&mut self, mark: &Mark) {
-        self.give_up();
+        if self.place != Place::Member {
+            self.drop_level();
+        }
         self.expect(mark);
     }
 
