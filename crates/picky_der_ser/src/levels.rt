@@ -1,17 +1,16 @@
 //! What a serializer holds in memory of the levels that are open, and where its next value goes.
-ghost use Rattle.std.specs.Prelude.{◌≡◌, ◌≢◌, ◌∷◌, [], true, false, length, None, Some, IfSome, IfNone, IsSome, IfOk, OnOk};
-ghost use Rattle.std.specs.Prelude.{◌+◌};
+ghost use Rattle.std.specs.Prelude.{◌≡◌, ◌≢◌, ◌+◌, ◌≤◌, [], ◌∷◌, ◌++◌, true, false, length, take, None, Some, IfSome};
+ghost use Rattle.std.specs.Prelude.{IfNone, IfOk, OnOk, drop};
 ghost use Rattle.picky_der_core.specs.Primitive.{Primitive};
 ghost use Rattle.picky_der_core.specs.OpenWrappers.{under};
 ghost use Rattle.picky_der_core.specs.Encoding.{der};
 ghost use Rattle.picky_der_core.specs.Tree.{Tree};
-ghost use Rattle.picky_der_ser.specs.Headers.{tree_of, HasNumber, CanBeOpen, CanAllBeOpen};
-ghost use Rattle.picky_der_ser.specs.State.{Level, Held, root, extended, in_order, at_next_member, final_content};
-ghost use Rattle.picky_der_ser.specs.State.{HasLevelNumbers};
-ghost use Rattle.picky_der_ser.specs.Marks.{level_at, held_around, IsMark};
+ghost use Rattle.picky_der_ser.specs.Headers.{tree_of, wrappers, HasNumber, CanBeOpen, CanAllBeOpen};
+ghost use Rattle.picky_der_ser.specs.State.{Held, extended, final_content};
+ghost use Rattle.picky_der_ser.specs.Marks.{level_at, outside, IsMark, IsOpen, IsEntered, Opens, Enters, enclosed, Gains};
 
 use crate::Header;
-use crate::header::{push_few, push_headers, push_short, put_headers, room_of, own_tag};
+use crate::header::{own_tag, push_few, push_headers, push_short, put_headers, room_of};
 use crate::order::{arrange, begin_member};
 use picky_der_core::asn1::{Tag, Wrapper};
 use std::alloc::{AllocError, Global};
@@ -81,37 +80,89 @@ pub(crate) struct Levels {
     kept_seams: usize,
 }
 
-impl Levels {
-    #[inline(always)]
-    fn new_in(bytes: Vec<u8>, seams: Vec<usize>, place: Place) -> Levels {
-        Levels { bytes, seams, place, wrapper: Wrapper::OctetContainer, kept: 0, kept_seams: 0 }
-    }
+impl Model for Levels {
+    ghost use Rattle.std.specs.Prelude.{⊤};
+    ghost use Rattle.picky_der_ser.specs.State.{Stack, stack_code};
+    ghost use Rattle.picky_der_ser.specs.Marks.{inside_at, pending_at, around_at};
 
-    pub(crate) fn new(alloc: Global) -> Levels {
-        Levels::new_in(Vec::new(alloc), Vec::new(alloc), Place::Sink)
+    ghost Value = { Stack };
+
+    ghost coded = { stack_code };
+
+    ghost view = { λ s. let held = record { bytes = s.bytes.items; seams = s.seams.items } in record {
+      inside = inside_at s.place s.kept s.kept_seams held;
+      pending = pending_at s.place held;
+      around = around_at s.place s.wrapper;
+    } };
+
+    ghost invariant = { λ s. CanAllBeOpen (around_at s.place s.wrapper) };
+}
+
+impl Levels {
+    pub(crate) fn new(alloc: Global) -> Levels
+        ensures { result ≡ record { inside = None; pending = None; around = [] } }
+    {
+        Levels {
+            bytes: Vec::new(alloc),
+            seams: Vec::new(alloc),
+            place: Place::Sink,
+            wrapper: Wrapper::OctetContainer,
+            kept: 0,
+            kept_seams: 0,
+        }
     }
 
     // Levels within one that is around all, in this vector, which has no bytes. Inlined, so that they are made in their
     // final place.
     #[inline(always)]
-    pub(crate) fn new_in_root(alloc: Global, bytes: Vec<u8>) -> Levels {
-        Levels::new_in(bytes, Vec::new(alloc), Place::Member)
+    pub(crate) fn new_in_root(alloc: Global, bytes: Vec<u8>) -> Levels
+        requires { bytes.items ≡ [] }
+        ensures { result ≡ record {
+          inside = Some (record { bytes = []; seams = [] });
+          pending = None;
+          around = [];
+        } }
+    {
+        Levels {
+            bytes,
+            seams: Vec::new(alloc),
+            place: Place::Member,
+            wrapper: Wrapper::OctetContainer,
+            kept: 0,
+            kept_seams: 0,
+        }
     }
 
+    // What is held before the next value. Inlined, so that the levels aren't copied first.
     #[inline(always)]
-    pub(crate) fn into_bytes(mut self) -> Vec<u8> {
+    pub(crate) fn into_bytes(mut self) -> Vec<u8>
+        ensures { (h : Held) → self.inside ≡ Some h → result.items ≡ h.bytes }
+    {
         self.give_up();
-        let Levels { bytes, seams: _, place: _, wrapper: _, kept: _, kept_seams: _ } = self;
+        let Levels {
+            bytes,
+            seams: _,
+            place: _,
+            wrapper: _,
+            kept: _,
+            kept_seams: _,
+        } = self;
         bytes
     }
 
-    pub(crate) fn is_inside(&self) -> bool {
+    // Whether a member of some level is being written.
+    pub(crate) fn is_inside(&self) -> bool
+        ensures no { result ≡ false → self.now.inside ≡ None }
+        ensures yes { result ≡ true → self.now.inside ≢ None }
+    {
         matches!(self.place, Place::Member | Place::WrappedMember | Place::OpenMember)
     }
 
     // Drops the level that was opened last and hasn't ended. When a value is written there mostly is none.
     #[inline(always)]
-    pub(crate) fn give_up(&mut self) {
+    pub(crate) fn give_up(&mut self)
+        ensures { self.new ≡ record self.old { pending = None } }
+    {
         if matches!(self.place, Place::OpenMember | Place::OpenSink) {
             self.drop_level();
         }
@@ -119,20 +170,25 @@ impl Levels {
 
     #[cold]
     #[inline(never)]
-    fn drop_level(&mut self) {
+    fn drop_level(&mut self)
+        requires { self.old.pending ≢ None }
+        ensures { self.new ≡ record self.old { pending = None } }
+    {
         self.bytes.truncate(self.kept);
         self.seams.truncate(self.kept_seams);
-        self.close();
-    }
-
-    // Closes what is open.
-    fn close(&mut self) {
-        self.place = if self.is_inside() { Place::Member } else { Place::Sink };
+        self.place = if self.place == Place::OpenMember {
+            Place::Member
+        } else {
+            Place::Sink
+        };
     }
 
     // The open wrapper.
     #[inline(always)]
-    pub(crate) fn around(&self) -> Option<Wrapper> {
+    fn around(&self) -> Option<Wrapper>
+        ensures around { wrappers result ≡ self.now.around }
+        ensures numbers { CanAllBeOpen (wrappers result) }
+    {
         match self.place {
             Place::WrappedMember | Place::WrappedSink => Some(self.wrapper),
             _ => None,
@@ -141,7 +197,10 @@ impl Levels {
 
     // Opens a level in the open wrapper. It replaces one that was opened and hasn't ended.
     #[inline(always)]
-    pub(crate) fn open(&mut self, header: Header) -> Mark {
+    pub(crate) fn open(&mut self, header: Header) -> Mark
+        requires { HasNumber header }
+        ensures { Opens header self.old result self.new }
+    {
         let mut mark = Mark {
             at: self.bytes.len(),
             start: self.bytes.len(),
@@ -152,47 +211,59 @@ impl Levels {
             is_ready: false,
             has_tag: false,
         };
-        if self.place == Place::Member && self.bytes.capacity() - mark.at >= 2 {
-            if let Some(tag) = own_tag(None, header) {
+        match own_tag(None, header) {
+            Some(tag) if self.place == Place::Member && self.bytes.capacity() - mark.at >= 2 => {
                 let _ = self.bytes.extend_from_slice(&[tag.inner(), 0]);
-                mark.start = self.bytes.len();
+                mark.start = mark.at + 2;
                 mark.is_ready = !header.is_set();
                 mark.has_tag = true;
+                self.place = Place::OpenMember;
+                self.kept = mark.at;
+                self.kept_seams = mark.first_seam;
             }
-        } else {
-            self.open_any(&mut mark);
+            _ => self.open_any(header, &mut mark),
         }
-        self.expect(&mark);
         mark
     }
 
+    // The same in any place. It sets the mark.
     #[inline(never)]
-    fn open_any(&mut self, mark: &mut Mark) {
+    fn open_any(&mut self, header: Header, mark: &mut Mark)
+        requires { HasNumber header }
+        ensures { Opens header self.old mark.new self.new }
+    {
         self.give_up();
-        mark.at = self.bytes.len();
-        mark.first_seam = self.seams.len();
-        mark.around = self.around();
-        if !self.is_inside() {
-            mark.place = Place::OpenSink;
+        let around = self.around();
+        let at = self.bytes.len();
+        let has_room = self.bytes.capacity() - at >= BLANK.len();
+        if has_room {
+            let _ = self.bytes.extend_from_slice(&BLANK[..room_of(around, header)]);
         }
-        if self.bytes.capacity() - mark.at >= BLANK.len() {
-            let _ = self.bytes.extend_from_slice(&BLANK[..room_of(mark.around, mark.header)]);
-            mark.is_ready = !mark.header.is_set();
-        }
-        mark.start = self.bytes.len();
-    }
-
-    // A member of this level, or its end, comes next.
-    #[inline(always)]
-    fn expect(&mut self, mark: &Mark) {
-        self.place = mark.place;
-        self.kept = mark.at;
-        self.kept_seams = mark.first_seam;
+        self.place = if self.is_inside() {
+            Place::OpenMember
+        } else {
+            Place::OpenSink
+        };
+        self.kept = at;
+        self.kept_seams = self.seams.len();
+        *mark = Mark {
+            at,
+            start: self.bytes.len(),
+            first_seam: self.seams.len(),
+            header,
+            around,
+            place: self.place,
+            is_ready: has_room && !header.is_set(),
+            has_tag: false,
+        };
     }
 
     // From here on a member of the level that was opened last is written. Returns the level's mark.
     #[inline(always)]
-    pub(crate) fn enter(&mut self, mark: &mut Mark) -> Result<(), AllocError> {
+    pub(crate) fn enter(&mut self, mark: &mut Mark) -> Result<(), AllocError>
+        requires { IsOpen mark.old self.old.inside self.old.pending }
+        ensures { OnOk result (Enters mark.old self.old mark.new self.new) }
+    {
         if self.bytes.len() == mark.at {
             if self.bytes.is_empty() {
                 self.bytes.reserve(FIRST_ROOM)?;
@@ -208,7 +279,11 @@ impl Levels {
 
     // The same if nothing has to be prepared, as nearly always. Else nothing is done.
     #[inline(always)]
-    pub(crate) fn enter_ready(&mut self, mark: &Mark) -> bool {
+    pub(crate) fn enter_ready(&mut self, mark: &Mark) -> bool
+        requires { IsOpen mark.now self.old.inside self.old.pending }
+        ensures yes { result ≡ true → Enters mark.now self.old mark.now self.new }
+        ensures no { result ≡ false → self.new ≡ self.old }
+    {
         if mark.is_ready {
             self.place = Place::Member;
         }
@@ -217,17 +292,30 @@ impl Levels {
 
     // The member of the level with this mark has been written.
     #[inline(always)]
-    pub(crate) fn leave(&mut self, mark: &Mark) {
+    pub(crate) fn leave(&mut self, mark: &Mark)
+        requires entered { IsEntered mark.now self.old.inside }
+        requires bare { self.old.around ≡ [] }
+        ensures { (h : Held) → self.old.inside ≡ Some h
+            → self.new ≡ record { inside = outside mark.now h; pending = Some h; around = [] } }
+    {
         if self.place != Place::Member {
             self.drop_level();
         }
-        self.expect(mark);
+        self.place = mark.place;
+        self.kept = mark.at;
+        self.kept_seams = mark.first_seam;
     }
 
     // Adds an element with a length of one byte to the level of which a member is being written, if no wrapper is open,
     // no level was opened in it, and there is room for the element. Else nothing is done.
     #[inline(always)]
-    pub(crate) fn append_short(&mut self, tag: Tag, content: &[u8]) -> bool {
+    pub(crate) fn append_short(&mut self, tag: Tag, content: &[u8]) -> bool
+        ensures count { result ≡ true → length
+            (der (Tree.primitive (Primitive.bytes tag content.now))) ≡ 2 + length content.now }
+        ensures yes { result ≡ true
+            → Gains (der (Tree.primitive (Primitive.bytes tag content.now))) self.old self.new }
+        ensures no { result ≡ false → self.new ≡ self.old }
+    {
         let len = content.len();
         let room = self.bytes.capacity() - self.bytes.len();
         if self.place != Place::Member || len >= 0x80 || room < 2 + len {
@@ -240,7 +328,10 @@ impl Levels {
     // Adds bytes as they are to the level of which a member is being written, if no wrapper is open, no level was opened
     // in it, and there is room for them. Else nothing is done.
     #[inline(always)]
-    pub(crate) fn append_few(&mut self, bytes: &[u8]) -> bool {
+    pub(crate) fn append_few(&mut self, bytes: &[u8]) -> bool
+        ensures yes { result ≡ true → Gains bytes.now self.old self.new }
+        ensures no { result ≡ false → self.new ≡ self.old }
+    {
         let room = self.bytes.capacity() - self.bytes.len();
         if self.place != Place::Member || room < bytes.len() {
             return false;
@@ -249,63 +340,116 @@ impl Levels {
         true
     }
 
-    // Adds the headers of a content of `len` bytes under this header, in the open wrapper.
-    pub(crate) fn append_headers(&mut self, header: Header, len: usize) -> Result<(), AllocError> {
+    // Adds the encoding of a content under this header, in the open wrapper, to what is held. Returns the length of the
+    // encoding.
+    pub(crate) fn append(&mut self, header: Header, content: &[u8]) -> Result<usize, AllocError>
+        requires { HasNumber header }
+        ensures numbers { CanAllBeOpen self.old.around }
+        ensures count { IfOk result (λ n. n ≡ length
+            (der (under self.old.around (tree_of header content.now)))) }
+        ensures ok { OnOk result ((h : Held) → self.old.inside ≡ Some h → self.new ≡ record self.old {
+          inside = Some (extended h (der (under self.old.around (tree_of header content.now))));
+          pending = None;
+        }) }
+    {
         self.give_up();
         let around = self.around();
-        push_headers(&mut self.bytes, around, header, len)
-    }
-
-    // Adds the encoding of a content under this header, in the open wrapper, to the level of which a member is being
-    // written. Returns the length of the encoding.
-    pub(crate) fn append(&mut self, header: Header, content: &[u8]) -> Result<usize, AllocError> {
-        self.bytes.reserve(SPARE_ROOM + content.len())?;
         let at = self.bytes.len();
-        self.append_headers(header, content.len())?;
+        self.bytes.reserve(SPARE_ROOM + content.len())?;
+        push_headers(&mut self.bytes, around, header, content.len())?;
         self.bytes.extend_from_slice(content)?;
         Ok(self.bytes.len() - at)
     }
 
+    // The headers of a content of `len` bytes under this header, in the open wrapper. They are held in memory until
+    // another value comes.
+    pub(crate) fn headers(&mut self, header: Header, len: usize) -> Result<&[u8], AllocError>
+        requires { HasNumber header }
+        ensures numbers { CanAllBeOpen self.old.around }
+        ensures { IfOk result (λ bs. (c : List ℕ) → length c ≡ len
+            → bs.now ++ c ≡ der (under self.old.around (tree_of header c))) }
+    {
+        let around = self.around();
+        self.bytes.clear();
+        push_headers(&mut self.bytes, around, header, len)?;
+        Ok(&self.bytes)
+    }
+
     // Whether no wrapper is open.
-    pub(crate) fn is_bare(&self) -> bool {
+    pub(crate) fn is_bare(&self) -> bool
+        ensures yes { result ≡ true → self.now.around ≡ [] }
+        ensures no { result ≡ false → self.now.around ≢ [] }
+    {
         !matches!(self.place, Place::WrappedMember | Place::WrappedSink)
     }
 
     // Opens a wrapper.
-    pub(crate) fn wrap(&mut self, wrapper: Wrapper) {
+    pub(crate) fn wrap(&mut self, wrapper: Wrapper)
+        requires number { CanBeOpen wrapper }
+        requires bare { self.old.around ≡ [] }
+        ensures { self.new ≡ record { inside = self.old.inside; pending = None; around = wrapper ∷ [] } }
+    {
         self.give_up();
         self.wrapper = wrapper;
-        self.place = if self.is_inside() { Place::WrappedMember } else { Place::WrappedSink };
+        self.place = if self.place == Place::Member {
+            Place::WrappedMember
+        } else {
+            Place::WrappedSink
+        };
     }
 
     // Closes the open wrapper.
     #[inline(always)]
-    pub(crate) fn close_wrapper(&mut self) {
-        if !self.is_bare() {
-            self.close();
+    pub(crate) fn close_wrapper(&mut self)
+        ensures closed { self.new ≡ record self.old { around = [] } }
+        ensures numbers { CanAllBeOpen self.old.around }
+    {
+        match self.place {
+            Place::WrappedMember => self.place = Place::Member,
+            Place::WrappedSink => self.place = Place::Sink,
+            _ => {}
         }
     }
 
     // Puts the members of the level that was opened last in ascending order, if it is a set, and the headers before the
     // content.
-    pub(crate) fn enclose(&mut self, mark: &Mark, alloc: Global) -> Result<(), AllocError> {
+    pub(crate) fn enclose(&mut self, mark: &Mark, alloc: Global) -> Result<(), AllocError>
+        requires { IsOpen mark.now self.old.inside self.old.pending }
+        ensures { OnOk result ((h : Held) → self.old.pending ≡ Some h → self.new ≡ record {
+          inside = self.old.inside;
+          pending = Some (enclosed mark.now h);
+          around = [];
+        }) }
+    {
         if mark.first_seam < self.seams.len() {
-            arrange(&mut self.bytes, mark.start, &self.seams[mark.first_seam..], alloc)?;
+            let seams = &self.seams[mark.first_seam..];
+            arrange(&mut self.bytes, mark.start, seams, alloc)?;
             self.seams.truncate(mark.first_seam);
         }
         put_headers(&mut self.bytes, mark.at, mark.start, mark.around, mark.header)
     }
 
-    // Adds the level to the level around it. Returns the number of these bytes.
-    pub(crate) fn merge(&mut self, mark: &Mark) -> usize {
-        self.close();
-        self.bytes.len() - mark.at
+    // Adds the level that was opened last, with its headers, to what is held around it.
+    pub(crate) fn merge(&mut self)
+        requires inside { self.old.inside ≢ None }
+        requires open { self.old.pending ≢ None }
+        ensures { self.new ≡ record { inside = self.old.pending; pending = None; around = [] } }
+    {
+        self.place = Place::Member;
     }
 
-    // Ends the level that was opened last as `arrange` and `merge` do. This is for a level in another one, without seams
+    // Ends the level that was opened last as `enclose` and `merge` do. This is for a level in another one, without seams
     // or a wrapper, whose header fits the two bytes before it, as most do. Else it does nothing and returns `None`.
     #[inline(always)]
-    pub(crate) fn merge_simple(&mut self, mark: &Mark) -> Option<usize> {
+    pub(crate) fn merge_short(&mut self, mark: &Mark) -> Option<usize>
+        requires { IsOpen mark.now self.old.inside self.old.pending }
+        ensures inside { IfSome result (λ n. self.old.inside ≢ None) }
+        ensures count { IfSome result (λ n. (h : Held) → self.old.pending ≡ Some h → n ≡ length
+            (der (under (wrappers mark.now.around) (tree_of mark.now.header (final_content (level_at mark.now h)))))) }
+        ensures some { IfSome result (λ n. (h : Held) → self.old.pending ≡ Some h
+            → self.new ≡ record { inside = Some (enclosed mark.now h); pending = None; around = [] }) }
+        ensures none { IfNone result (self.new ≡ self.old) }
+    {
         let len = self.bytes.len() - mark.start;
         if !mark.has_tag || mark.first_seam < self.seams.len() || len >= 0x80 {
             return None;
@@ -315,13 +459,12 @@ impl Levels {
         Some(2 + len)
     }
 
-    // Drops all bytes.
-    pub(crate) fn clear(&mut self) {
-        self.bytes.clear();
-    }
-
-    // All bytes that are held.
-    pub(crate) fn bytes(&self) -> &[u8] {
-        &self.bytes
+    // What is held from there on.
+    pub(crate) fn bytes_from(&self, at: usize) -> &[u8]
+        requires { IfSome self.now.pending (λ h. at ≤ length h.bytes) }
+        requires open { self.now.pending ≢ None }
+        ensures { IfSome self.now.pending (λ h. result.now ≡ drop at h.bytes) }
+    {
+        &self.bytes[at..]
     }
 }

@@ -1,7 +1,8 @@
 //! Sequences and sets that are being written (X.690, 8.9 to 8.12).
 ghost use Rattle.std.specs.Prelude.{◌≡◌, IfErr, OnOk};
 ghost use Rattle.picky_der_ser.specs.Calls.{OpensLevel, AddsMember, RefusesToAdd, EndsLevel};
-ghost use Rattle.picky_der_ser.specs.Sequences.{IsListTag, HasOpenLevel, HasOpenLevel-prop};
+ghost use Rattle.picky_der_ser.specs.Sequences.{IsListTag, HasOpenLevel};
+ghost use Rattle.picky_der_ser.specs.MarkProps.{HasOpenLevel-prop};
 
 use crate::levels::Mark;
 use crate::{Header, Serialize, Serializer};
@@ -14,9 +15,9 @@ use picky_der_core::misc::WriteExt;
 #[derive(Drop)]
 pub struct Sequence<'a, W: WriteExt> {
     pub(crate) ser: &'a mut Serializer<W>,
-    mark: Mark,
-    // Unless the serializer has failed, a level is open.
-    ghost open: { HasOpenLevel ser.now.failed ser.now.pending } by { HasOpenLevel-prop ser.now.failed ser.now.pending },
+    pub(crate) mark: Mark,
+    // Unless the serializer has failed, the level of the mark is the one that was opened last.
+    ghost open: { HasOpenLevel mark ser.now.failed ser.now.inside ser.now.pending } by { HasOpenLevel-prop mark ser.now.failed ser.now.inside ser.now.pending },
 }
 
 impl<'a, W: WriteExt> Sequence<'a, W> {
@@ -30,7 +31,7 @@ impl<'a, W: WriteExt> Sequence<'a, W> {
         ensures same_reference { borrowed_by result ≡ ser.entry.ghost_name }
         ensures opened { OpensLevel W.WriteExt.own (Header.Tagged tag) ser.old (state_of result) }
     {
-        let mark = ser.levels.open(Header::Tagged(tag));
+        let mark = ser.open(Header::Tagged(tag));
         Sequence { ser, mark }
     }
 

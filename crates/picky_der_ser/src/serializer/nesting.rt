@@ -1,12 +1,10 @@
 //! Levels, as a serializer opens and ends them.
-ghost use Rattle.std.specs.Prelude.{◌≡◌, ◌≢◌, List, [], ◌∷◌, None, Some, IfSome, IfNone, IsSome, IfOk};
-ghost use Rattle.std.specs.Prelude.{IfErr, OnOk};
-ghost use Rattle.picky_der_core.specs.OpenWrappers.{under};
-ghost use Rattle.picky_der_core.specs.WriterFaults.{IsOnceAtMost};
-ghost use Rattle.picky_der_ser.specs.Headers.{tree_of, HasNumber};
-ghost use Rattle.picky_der_ser.specs.State.{Level, at_next_member};
-ghost use Rattle.picky_der_ser.specs.Calls.{UntouchedUnlessFailed, SinkWrites, SinkRefuses, RefusesToEnter, OpensLevel};
-ghost use Rattle.picky_der_ser.specs.Calls.{AddsMember, RefusesToAdd, WritesContent, EndsLevel};
+ghost use Rattle.std.specs.Prelude.{◌≡◌, OnOk, IfErr, IfNone, None};
+ghost use Rattle.picky_der_core.specs.Failure.{failure_of};
+ghost use Rattle.picky_der_ser.specs.Headers.{HasNumber};
+ghost use Rattle.picky_der_ser.specs.Sequences.{HasOpenLevel};
+ghost use Rattle.picky_der_ser.specs.Marks.{writing};
+ghost use Rattle.picky_der_ser.specs.Calls.{OpensLevel, AddsMember, RefusesToAdd, EndsLevel, EntersLevel, RefusesToEnter};
 
 use super::Serializer;
 use crate::levels::{Mark, Place};
@@ -16,10 +14,23 @@ use picky_der_core::misc::WriteExt;
 use picky_der_core::{Asn1DerError, Result};
 
 impl<W: WriteExt> Serializer<W> {
+    // Opens a level in the open wrapper, and returns its mark.
+    #[inline(always)]
+    pub(crate) fn open(&mut self, header: Header) -> Mark
+        requires { HasNumber header }
+        ensures opened { OpensLevel W.WriteExt.own header self.old (writing result self.new) }
+        ensures open { HasOpenLevel result self.new.failed self.new.inside self.new.pending }
+    {
+        self.levels.open(header)
+    }
+
     // Writes the level that was opened last, in its wrapper, with the members of a set in order. If an allocation for
     // this order fails, nothing of the set is written.
     #[inline(never)]
-    fn close_any(&mut self, mark: &Mark) -> Result<usize> {
+    fn close_any(&mut self, mark: &Mark) -> Result<usize>
+        requires { HasOpenLevel mark.now self.old.failed self.old.inside self.old.pending }
+        ensures { EndsLevel W.WriteExt.own (writing mark.now self.old) result self.new }
+    {
         if let Some(error) = self.earlier() {
             return Err(error);
         }
@@ -27,18 +38,23 @@ impl<W: WriteExt> Serializer<W> {
             return Err(self.fail(Asn1DerError::OutOfMemory));
         };
         if mark.place == Place::OpenMember {
-            return Ok(self.levels.merge(mark));
+            let count = self.levels.bytes_from(mark.at).len();
+            self.levels.merge();
+            return Ok(count);
         }
-        let outcome = put_headed(&mut self.sink, &[], self.levels.bytes());
+        let outcome = put_headed(&mut self.sink, &[], self.levels.bytes_from(mark.at));
         self.levels.give_up();
         self.settle(outcome)
     }
 
     // The same. Mostly it is a short level in another one.
     #[inline(always)]
-    pub(crate) fn close(&mut self, mark: &Mark) -> Result<usize> {
+    pub(crate) fn close(&mut self, mark: &Mark) -> Result<usize>
+        requires { HasOpenLevel mark.now self.old.failed self.old.inside self.old.pending }
+        ensures { EndsLevel W.WriteExt.own (writing mark.now self.old) result self.new }
+    {
         if self.failed.is_none() {
-            if let Some(count) = self.levels.merge_simple(mark) {
+            if let Some(count) = self.levels.merge_short(mark) {
                 return Ok(count);
             }
         }
@@ -46,7 +62,11 @@ impl<W: WriteExt> Serializer<W> {
     }
 
     #[inline(never)]
-    fn enter_any(&mut self, mark: &mut Mark) -> Result<()> {
+    fn enter_any(&mut self, mark: &mut Mark) -> Result<()>
+        requires { HasOpenLevel mark.old self.old.failed self.old.inside self.old.pending }
+        ensures ok { OnOk result (EntersLevel W.WriteExt.own mark.old self.old mark.new self.new) }
+        ensures err { IfErr result (λ e. RefusesToEnter W.WriteExt.own self.old e self.new) }
+    {
         if let Some(error) = self.earlier() {
             return Err(error);
         }
@@ -56,18 +76,29 @@ impl<W: WriteExt> Serializer<W> {
         }
     }
 
-    // From here on a member of the level that was opened last is written.
+    // From here on another member of the level is written.
     #[inline(always)]
-    pub(crate) fn enter(&mut self, mark: &mut Mark) -> Result<()> {
+    pub(crate) fn enter(&mut self, mark: &mut Mark) -> Result<()>
+        requires { HasOpenLevel mark.old self.old.failed self.old.inside self.old.pending }
+        ensures ok { OnOk result (EntersLevel W.WriteExt.own mark.old self.old mark.new self.new) }
+        ensures err { IfErr result (λ e. RefusesToEnter W.WriteExt.own self.old e self.new) }
+    {
         if self.failed.is_none() && self.levels.enter_ready(mark) {
             return Ok(());
         }
         self.enter_any(mark)
     }
 
-    // Writes the value as a member of the level that was opened last.
+    // Writes the value as a member of the level.
     #[inline(always)]
-    pub(crate) fn write_member<T: Serialize>(&mut self, mark: &mut Mark, value: &T) -> Result<()> {
+    pub(crate) fn write_member<T: Serialize>(&mut self, mark: &mut Mark, value: &T) -> Result<()>
+        requires { HasOpenLevel mark.old self.old.failed self.old.inside self.old.pending }
+        ensures added { OnOk result (AddsMember W.WriteExt.own (T.meaning value.now)
+            (writing mark.old self.old) (writing mark.new self.new)) }
+        ensures open { HasOpenLevel mark.new self.new.failed self.new.inside self.new.pending }
+        ensures err { IfErr result (λ e. RefusesToAdd W.WriteExt.own (T.meaning value.now)
+            (writing mark.old self.old) e (writing mark.new self.new)) }
+    {
         self.enter(mark)?;
         value.serialize(self)?;
         self.levels.leave(mark);

@@ -1,5 +1,5 @@
 //! Plain values, written.
-ghost use Rattle.std.specs.Prelude.{◌≡◌, ◌≢◌, [], encode_utf8};
+ghost use Rattle.std.specs.Prelude.{◌≡◌, ◌≢◌, [], None, encode_utf8};
 ghost use Rattle.picky_der_core.specs.Primitive.{boolean_content, Primitive};
 ghost use Rattle.picky_der_core.specs.Tag.{number_of, IsTagNumber};
 ghost use Rattle.picky_der_core.specs.Integer.{integer_tree, int_tree};
@@ -58,7 +58,7 @@ impl<W: WriteExt> Serializer<W> {
     pub(crate) fn append_content(&mut self, header: Header, content: &[u8]) -> Result<usize>
         requires number { HasNumber header }
         requires had_not_failed { self.old.failed ≡ None }
-        requires inside { self.old.inside ≢ [] }
+        requires inside { self.old.inside ≢ None }
         ensures { WritesPlain W.WriteExt.own (tree_of header content.now) self.old result self.new }
     {
         match self.levels.append(header, content) {
@@ -74,7 +74,7 @@ impl<W: WriteExt> Serializer<W> {
     fn put_plain(&mut self, tag: Tag, content: &[u8]) -> Result<usize>
         requires number { IsTagNumber (number_of tag) }
         requires had_not_failed { self.old.failed ≡ None }
-        requires outside { self.old.inside ≡ [] }
+        requires outside { self.old.inside ≡ None }
         requires bare { self.old.around ≡ [] }
         ensures { WritesPrimitive W.WriteExt.own (Primitive.bytes tag content.now) self.old result self.new }
     {
@@ -87,15 +87,14 @@ impl<W: WriteExt> Serializer<W> {
     pub(crate) fn put_wrapped(&mut self, header: Header, content: &[u8]) -> Result<usize>
         requires number { HasNumber header }
         requires had_not_failed { self.old.failed ≡ None }
-        requires outside { self.old.inside ≡ [] }
+        requires outside { self.old.inside ≡ None }
         requires wrapped { self.old.around ≢ [] }
         ensures { WritesPlain W.WriteExt.own (tree_of header content.now) self.old result self.new }
     {
-        let Ok(()) = self.levels.append_headers(header, content.len()) else {
+        let Ok(headers) = self.levels.headers(header, content.len()) else {
             return Err(self.fail(Asn1DerError::OutOfMemory));
         };
-        let outcome = put_headed(&mut self.sink, self.levels.bytes(), content);
-        self.levels.clear();
+        let outcome = put_headed(&mut self.sink, headers, content);
         self.settle(outcome)
     }
 

@@ -1,12 +1,13 @@
 //! Wrappers, as a serializer opens them.
-ghost use Rattle.std.specs.Prelude.{◌≡◌, [], ◌∷◌, ◌++◌, None, Err, IsTrue, IfOk, IfErr, OnOk};
+ghost use Rattle.std.specs.Prelude.{◌≡◌, ◌≢◌, [], None, Err, IsTrue, IfOk, IfErr};
+ghost use Rattle.picky_der_ser.specs.Headers.{CanBeOpen};
 ghost use Rattle.picky_der_core.specs.declared.asn1.wrapper.Wrapper.TheVariants.{ImplicitList};
 ghost use Rattle.picky_der_core.specs.OpenWrappers.{wrapper_of, wrap_if, HasTagNumberIfAny};
 ghost use Rattle.picky_der_core.specs.WriterFaults.{IsOnceAtMost};
 ghost use Rattle.picky_der_core.specs.Tag.{IsConstructedTag};
 ghost use Rattle.picky_der_core.specs.Tree.{Tree};
 ghost use Rattle.picky_der_core.specs.Wrapper.{can_vanish, HasTagNumber};
-ghost use Rattle.picky_der_ser.specs.Calls.{Writes, RefusesWrite, RefusesWrapper};
+ghost use Rattle.picky_der_ser.specs.Calls.{Writes, RefusesWrite};
 
 use super::Serializer;
 use crate::{Header, List, Serialize};
@@ -40,9 +41,21 @@ impl<W: WriteExt> Serializer<W> {
         value.serialize(self)
     }
 
-    // Writes the value in this wrapper, in the open one, which becomes a level.
-    fn write_nested<T: Serialize>(&mut self, wrapper: Wrapper, value: &T) -> Result<usize> {
-        let mut mark = self.levels.open(Header::Raw);
+    // Writes the value in this wrapper, in the open one. That becomes a level, which is dropped if nothing is written in
+    // it.
+    #[inline(never)]
+    fn write_nested<T: Serialize>(&mut self, wrapper: Wrapper, value: &T) -> Result<usize>
+        requires wrapper { CanBeOpen wrapper }
+        requires wrapped { self.old.around ≢ [] }
+        requires had_not_failed { self.old.failed ≡ None }
+        ensures wrote { IfOk result (λ n. Writes W.WriteExt.own
+            (Tree.wrapped wrapper (T.meaning value.now)) self.old n self.new) }
+        ensures failed { IfErr result (λ e. RefusesWrite W.WriteExt.own
+            (Tree.wrapped wrapper (T.meaning value.now)) self.old e self.new) }
+        ensures counted { IsOnceAtMost (W.faults self.old.sink) (W.faults self.new.sink) }
+        ensures continues { W.later self.old.sink self.new.sink }
+    {
+        let mut mark = self.open(Header::Raw);
         self.enter(&mut mark)?;
         self.levels.wrap(wrapper);
         let count = value.serialize(self)?;
