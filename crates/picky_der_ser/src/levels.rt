@@ -185,7 +185,7 @@ impl Levels {
 
     // The open wrapper.
     #[inline(always)]
-    fn around(&self) -> Option<Wrapper>
+    pub(crate) fn around(&self) -> Option<Wrapper>
         ensures around { wrappers result ≡ self.now.around }
         ensures numbers { CanAllBeOpen (wrappers result) }
     {
@@ -361,20 +361,6 @@ impl Levels {
         Ok(self.bytes.len() - at)
     }
 
-    // The headers of a content of `len` bytes under this header, in the open wrapper. They are held in memory until
-    // another value comes.
-    pub(crate) fn headers(&mut self, header: Header, len: usize) -> Result<&[u8], AllocError>
-        requires { HasNumber header }
-        ensures numbers { CanAllBeOpen self.old.around }
-        ensures { IfOk result (λ bs. (c : List ℕ) → length c ≡ len
-            → bs.now ++ c ≡ der (under self.old.around (tree_of header c))) }
-    {
-        let around = self.around();
-        self.bytes.clear();
-        push_headers(&mut self.bytes, around, header, len)?;
-        Ok(&self.bytes)
-    }
-
     // Whether no wrapper is open.
     pub(crate) fn is_bare(&self) -> bool
         ensures yes { result ≡ true → self.now.around ≡ [] }
@@ -461,7 +447,7 @@ impl Levels {
 
     // What is held from there on.
     pub(crate) fn bytes_from(&self, at: usize) -> &[u8]
-        requires { IfSome self.now.pending (λ h. at ≤ length h.bytes) }
+        requires within { IfSome self.now.pending (λ h. at ≤ length h.bytes) }
         requires open { self.now.pending ≢ None }
         ensures { IfSome self.now.pending (λ h. result.now ≡ drop at h.bytes) }
     {

@@ -8,6 +8,7 @@ ghost use Rattle.picky_der_ser.specs.Calls.{WritesPlain, WritesPrimitive};
 
 use super::Serializer;
 use crate::Header;
+use crate::header::push_headers;
 use crate::integer::UnsignedContent;
 use crate::sink::{put_element, put_headed};
 use picky_der_core::asn1::Tag;
@@ -91,10 +92,12 @@ impl<W: WriteExt> Serializer<W> {
         requires wrapped { self.old.around ≢ [] }
         ensures { WritesPlain W.WriteExt.own (tree_of header content.now) self.old result self.new }
     {
-        let Ok(headers) = self.levels.headers(header, content.len()) else {
+        let around = self.levels.around();
+        let mut headers = Vec::new(self.alloc);
+        let Ok(()) = push_headers(&mut headers, around, header, content.len()) else {
             return Err(self.fail(Asn1DerError::OutOfMemory));
         };
-        let outcome = put_headed(&mut self.sink, headers, content);
+        let outcome = put_headed(&mut self.sink, &headers, content);
         self.settle(outcome)
     }
 
