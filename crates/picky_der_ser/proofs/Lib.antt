@@ -1,0 +1,7 @@
+pub mod Alike
+pub mod HeaderBytes
+pub mod StateWrites
+pub mod EntryWrites
+pub mod ListBytes
+pub mod MemberWrites
+mod MembersWrites

@@ -34,11 +34,11 @@ abbrev pub keeps_headers : Option Wrapper → Bool
 keeps_headers None = true
 keeps_headers (Some w) = keeps_header w
 
--- the tag of its own header, if it has one
-abbrev pub own_tag : Option Wrapper → Header → Option ℕ
-own_tag around (Tagged tag) = if keeps_headers around then Some tag else None
-own_tag around (Application n) = Some (0x60 + n)
-own_tag around Raw = None
+-- the tag of its own header, if it has one, where plain values have theirs or not
+abbrev pub own_tag : Bool → Header → Option ℕ
+own_tag keeps (Tagged tag) = if keeps then Some tag else None
+own_tag keeps (Application n) = Some (0x60 + n)
+own_tag keeps Raw = None
 
 -- the bytes under this tag, if there is one
 abbrev pub headed : Option ℕ → List ℕ → List ℕ

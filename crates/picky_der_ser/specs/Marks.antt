@@ -23,6 +23,9 @@ level_at m h = record {
   seams = drop m.first_seam h.seams;
 }
 
+abbrev pub held_of : List ℕ → List ℕ → Held
+held_of bytes seams = record { bytes = bytes; seams = seams }
+
 -- so many of the first bytes and seams
 abbrev pub first : ℕ → ℕ → Held → Held
 first bytes seams h = record { bytes = take bytes h.bytes; seams = take seams h.seams }
@@ -88,11 +91,11 @@ pub record HasTag (m : Mark) (h : Held) : Type 0 where
   pub inside : is_inside m.place ≡ true
   pub bare : is_some m.around ≡ false
   pub room : m.start ≡ m.at + 2
-  pub tag : tags (own_tag None m.header) ≡ take 1 (drop m.at h.bytes)
+  pub tag : tags (own_tag true m.header) ≡ take 1 (drop m.at h.bytes)
 
 -- the room for the headers is before the content, and its members begin in it
 pub record IsMark (m : Mark) (h : Held) : Type 0 where
-  pub open : is_open m.place ≡ true
+  pub opened : is_open m.place ≡ true
   pub numbers : CanAllBeOpen (wrappers m.around)
   pub number : HasNumber m.header
   pub room : m.at ≤ m.start

@@ -7,7 +7,7 @@ ghost use Rattle.picky_der_core.specs.Encoding.{der};
 ghost use Rattle.picky_der_core.specs.OpenWrappers.{under};
 ghost use Rattle.picky_der_core.specs.Primitive.{Primitive};
 ghost use Rattle.picky_der_core.specs.Tree.{Tree};
-ghost use Rattle.picky_der_ser.specs.Headers.{is_set, tree_of, wrappers, own_tag, front, HasNumber, CanAllBeOpen};
+ghost use Rattle.picky_der_ser.specs.Headers.{is_set, tree_of, wrappers, keeps_headers, own_tag, front, HasNumber, CanAllBeOpen};
 
 use arrayvec::ArrayVec;
 use picky_der_core::asn1::{Tag, Wrapper};
@@ -55,7 +55,7 @@ impl Header {
 #[inline(always)]
 pub(crate) fn own_tag(around: Option<Wrapper>, header: Header) -> Option<Tag>
     requires { HasNumber header }
-    ensures { result ≡ own_tag around header }
+    ensures { result ≡ own_tag (keeps_headers around) header }
 {
     match (header, around) {
         (Header::Tagged(_), Some(wrapper)) if !wrapper.keeps_header() => None,

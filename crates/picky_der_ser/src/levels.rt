@@ -81,17 +81,17 @@ pub(crate) struct Levels {
 }
 
 impl Model for Levels {
-    ghost use Rattle.std.specs.Prelude.{⊤};
+    ghost use Rattle.picky_der_ser.specs.Headers.{CanAllBeOpen};
     ghost use Rattle.picky_der_ser.specs.State.{Stack, stack_code};
-    ghost use Rattle.picky_der_ser.specs.Marks.{inside_at, pending_at, around_at};
+    ghost use Rattle.picky_der_ser.specs.Marks.{held_of, inside_at, pending_at, around_at};
 
     ghost Value = { Stack };
 
     ghost coded = { stack_code };
 
-    ghost view = { λ s. let held = record { bytes = s.bytes.items; seams = s.seams.items } in record {
-      inside = inside_at s.place s.kept s.kept_seams held;
-      pending = pending_at s.place held;
+    ghost view = { λ s. record {
+      inside = inside_at s.place s.kept s.kept_seams (held_of s.bytes.items s.seams.items);
+      pending = pending_at s.place (held_of s.bytes.items s.seams.items);
       around = around_at s.place s.wrapper;
     } };
 
@@ -418,7 +418,7 @@ impl Levels {
     // Adds the level that was opened last, with its headers, to what is held around it.
     pub(crate) fn merge(&mut self)
         requires inside { self.old.inside ≢ None }
-        requires open { self.old.pending ≢ None }
+        requires opened { self.old.pending ≢ None }
         ensures { self.new ≡ record { inside = self.old.pending; pending = None; around = [] } }
     {
         self.place = Place::Member;
@@ -448,7 +448,7 @@ impl Levels {
     // What is held from there on.
     pub(crate) fn bytes_from(&self, at: usize) -> &[u8]
         requires within { IfSome self.now.pending (λ h. at ≤ length h.bytes) }
-        requires open { self.now.pending ≢ None }
+        requires opened { self.now.pending ≢ None }
         ensures { IfSome self.now.pending (λ h. result.now ≡ drop at h.bytes) }
     {
         &self.bytes[at..]

@@ -17,7 +17,7 @@ pub struct Sequence<'a, W: WriteExt> {
     pub(crate) ser: &'a mut Serializer<W>,
     pub(crate) mark: Mark,
     // Unless the serializer has failed, the level of the mark is the one that was opened last.
-    ghost open: { HasOpenLevel mark ser.now.failed ser.now.inside ser.now.pending } by { HasOpenLevel-prop mark ser.now.failed ser.now.inside ser.now.pending },
+    ghost opened: { HasOpenLevel mark ser.now.failed ser.now.inside ser.now.pending } by { HasOpenLevel-prop mark ser.now.failed ser.now.inside ser.now.pending },
 }
 
 impl<'a, W: WriteExt> Sequence<'a, W> {

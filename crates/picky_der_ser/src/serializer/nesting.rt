@@ -19,7 +19,7 @@ impl<W: WriteExt> Serializer<W> {
     pub(crate) fn open(&mut self, header: Header) -> Mark
         requires { HasNumber header }
         ensures opened { OpensLevel W.WriteExt.own header self.old (writing result self.new) }
-        ensures open { HasOpenLevel result self.new.failed self.new.inside self.new.pending }
+        ensures still_open { HasOpenLevel result self.new.failed self.new.inside self.new.pending }
     {
         self.levels.open(header)
     }
@@ -95,7 +95,7 @@ impl<W: WriteExt> Serializer<W> {
         requires { HasOpenLevel mark.old self.old.failed self.old.inside self.old.pending }
         ensures added { OnOk result (AddsMember W.WriteExt.own (T.meaning value.now)
             (writing mark.old self.old) (writing mark.new self.new)) }
-        ensures open { HasOpenLevel mark.new self.new.failed self.new.inside self.new.pending }
+        ensures still_open { HasOpenLevel mark.new self.new.failed self.new.inside self.new.pending }
         ensures err { IfErr result (λ e. RefusesToAdd W.WriteExt.own (T.meaning value.now)
             (writing mark.old self.old) e (writing mark.new self.new)) }
     {

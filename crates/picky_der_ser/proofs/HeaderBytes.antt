@@ -1,0 +1,84 @@
+-- The encoding of a content under its header, in the wrapper around it.
+use Rattle.std.proofs.Common.{◌≡◌, ℕ, ◌+◌, Bool, true, false, List, [], ◌∷◌, ◌++◌, length, Option, None, Some}
+use Rattle.std.proofs.Common.{refl, ◌∙◌, ap, append_assoc, length-append, ◌≤◌, arith}
+use mir.Val.{bool_byte}
+use Rattle.picky_der_core.specs.Primitive.{Primitive}
+use Rattle.picky_der_core.specs.OpenWrappers.{under}
+use Rattle.picky_der_core.specs.OpenWrapperLaws.{present-under}
+use Rattle.picky_der_core.specs.declared.asn1.wrapper.Wrapper.{Wrapper}
+use Rattle.picky_der_core.specs.declared.asn1.wrapper.Wrapper.TheVariants as wrapper
+use Rattle.picky_der_core.specs.Wrapper.{wrapper_tag, wrapper_front, keeps_header}
+use Rattle.picky_der_core.specs.Element.{length_octets, tlv}
+use Rattle.picky_der_core.specs.Tree.{Tree, is_absent}
+use Rattle.picky_der_core.specs.Encoding.{der, implicit_content, with_header}
+use Rattle.picky_der_core.specs.EncodingLaws.{der-primitive, der-wrapped, der-raw, implicit_content-plain}
+use Rattle.picky_der_core.specs.EncodingLaws.{implicit_content-other, der-wrapped_present}
+use Rattle.picky_der_ser.specs.declared.header.Header.{Header}
+use Rattle.picky_der_ser.specs.declared.header.Header.TheVariants.{Tagged, Application, Raw}
+use Rattle.picky_der_ser.specs.Headers.{tree_of, wrappers, keeps_headers, own_tag, headed}
+use Rattle.picky_der_ser.specs.Headers.{wrapped_in, front}
+
+-- ---- one header
+
+-- a tag, the length, and the byte that counts unused bits, before what they are of
+pub opened : (tag : ℕ) (has_front : Bool) (n : ℕ) (c : List ℕ) → n ≡ length c
+    → (tag ∷ (length_octets (bool_byte has_front + n) ++ front has_front)) ++ c ≡ tlv tag (front has_front ++ c)
+unfolding tlv
+opened tag true n c e = ap (λ x. tag ∷ x) (append_assoc (length_octets (1 + n)) (0 ∷ []) c
+    ∙ ap (λ m. length_octets (1 + m) ++ (0 ∷ c)) e)
+opened tag false n c e = ap (λ x. tag ∷ x) (append_assoc (length_octets n) [] c ∙ ap (λ m. length_octets m ++ c) e)
+
+pub length-opened : (tag : ℕ) (c : List ℕ) → length (tlv tag c) ≡ 1 + (length (length_octets (length c)) + length c)
+unfolding tlv
+length-opened tag c = ap (λ n. 1 + n) (length-append (length_octets (length c)) c)
+
+-- ---- all of them
+
+present : (h : Header) (c : List ℕ) → is_absent (tree_of h c) ≡ false
+present (Tagged tag) c = refl
+present (Application k) c = refl
+present Raw c = refl
+
+same : (keeps : Bool) (t : Tree) → implicit_content t ≡ der t → with_header keeps t ≡ der t
+same true t e = refl
+same false t e = e
+
+-- the content with its own header, or without
+own : (keeps : Bool) (h : Header) (c : List ℕ) → with_header keeps (tree_of h c) ≡ headed (own_tag keeps h) c
+own true (Tagged tag) c = der-primitive (Primitive.bytes tag c)
+own false (Tagged tag) c = implicit_content-plain (tree_of (Tagged tag) c) refl
+own keeps (Application k) c = same keeps _ (implicit_content-other _ refl tt)
+    ∙ der-wrapped (wrapper.Application k) (Tree.raw c) refl ∙ ap (tlv (0x60 + k)) (der-raw c)
+own keeps Raw c = same keeps _ (implicit_content-other _ refl tt) ∙ der-raw c
+
+-- the encoding of a content under this header in this wrapper
+pub der-headed : (o : Option Wrapper) (h : Header) (c : List ℕ)
+    → der (under (wrappers o) (tree_of h c)) ≡ wrapped_in o (headed (own_tag (keeps_headers o) h) c)
+der-headed None h c = own true h c
+der-headed (Some w) h c = der-wrapped_present w (tree_of h c) (present h c)
+    ∙ ap (λ bs. tlv (wrapper_tag w) (wrapper_front w ++ bs)) (own (keeps_header w) h c)
+
+-- ---- it holds the content
+
+headed_holds : (tag : Option ℕ) (c : List ℕ) → length c ≤ length (headed tag c)
+headed_holds None c = omega arith
+headed_holds (Some tag) c = omega (arith, length-opened tag c)
+
+holds_by : (keeps : Bool) (ws : List Wrapper) (h : Header) (c : List ℕ)
+    → length c ≤ length (with_header keeps (under ws (tree_of h c)))
+holds_by keeps [] h c = omega (arith, ap length (own keeps h c), headed_holds (own_tag keeps h) c)
+holds_by keeps (w ∷ ws) h c =
+    let t = under ws (tree_of h c) in
+    let bs = with_header (keeps_header w) t in
+    let whole = same keeps (Tree.wrapped w t) (implicit_content-other _ refl tt)
+    ∙ der-wrapped_present w t (present-under ws (tree_of h c) (present h c)) in
+    omega (
+      arith,
+      ap length whole,
+      length-opened (wrapper_tag w) (wrapper_front w ++ bs),
+      length-append (wrapper_front w) bs,
+      holds_by (keeps_header w) ws h c,
+    )
+
+pub der-holds : (ws : List Wrapper) (h : Header) (c : List ℕ) → length c ≤ length (der (under ws (tree_of h c)))
+der-holds ws h c = holds_by true ws h c
