@@ -223,12 +223,12 @@ module _ {W : Type 0} (g : Ghosts W) where
 pub nothing_more : (h : Held) → h ≡ extended h []
 nothing_more h = ap (λ bs. record h { bytes = bs }) (sym (append-nil h.bytes))
 
-can_vanish-open : (ws : List Wrapper) → CanAllBeOpen ws → CanVanish ws
+pub can_vanish-open : (ws : List Wrapper) → CanAllBeOpen ws → CanVanish ws
 can_vanish-open [] h = tt
 can_vanish-open (w ∷ ws) h = (h.0.1, can_vanish-open ws h.1)
 
 module _ {W : Type 0} (g : Ghosts W) where
-  adds_none : (inside : Option Held) (sink : W) → AddsIn g inside inside sink sink []
+  pub adds_none : (inside : Option Held) (sink : W) → AddsIn g inside inside sink sink []
   adds_none None sink = (refl, Appends-nil (g.written sink))
   adds_none (Some h) sink = (ap Some (nothing_more h), refl)
 

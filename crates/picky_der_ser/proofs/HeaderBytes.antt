@@ -1,6 +1,7 @@
 -- The encoding of a content under its header, in the wrapper around it.
 use Rattle.std.proofs.Common.{◌≡◌, ℕ, ◌+◌, Bool, true, false, List, [], ◌∷◌, ◌++◌, length, Option, None, Some}
-use Rattle.std.proofs.Common.{refl, ◌∙◌, ap, append_assoc, length-append, ◌≤◌, arith}
+use Rattle.std.proofs.Common.{refl, ◌∙◌, ap, append_assoc, length-append, ◌≤◌, ◌<◌, arith}
+use Rattle.picky_der_core.specs.ElementLaws.{length_octets-short}
 use mir.Val.{bool_byte}
 use Rattle.picky_der_core.specs.Primitive.{Primitive}
 use Rattle.picky_der_core.specs.OpenWrappers.{under}
@@ -31,6 +32,10 @@ opened tag false n c e = ap (λ x. tag ∷ x) (append_assoc (length_octets n) []
 pub length-opened : (tag : ℕ) (c : List ℕ) → length (tlv tag c) ≡ 1 + (length (length_octets (length c)) + length c)
 unfolding tlv
 length-opened tag c = ap (λ n. 1 + n) (length-append (length_octets (length c)) c)
+
+pub tlv-short : (tag : ℕ) (c : List ℕ) → length c < 0x80 → tlv tag c ≡ tag ∷ length c ∷ c
+unfolding tlv
+tlv-short tag c h = ap (λ l. tag ∷ (l ++ c)) (length_octets-short (length c) h)
 
 -- ---- all of them
 

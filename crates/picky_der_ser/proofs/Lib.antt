@@ -1,6 +1,8 @@
 pub mod Alike
 pub mod HeaderBytes
+pub mod LevelMarks
 pub mod StateWrites
+pub mod WrapWrites
 pub mod EntryWrites
 pub mod ListBytes
 pub mod MemberWrites

@@ -1,7 +1,8 @@
 //! Levels, as a serializer opens and ends them.
-ghost use Rattle.std.specs.Prelude.{◌≡◌, OnOk, IfErr, IfNone, None};
-ghost use Rattle.picky_der_core.specs.Failure.{failure_of};
-ghost use Rattle.picky_der_ser.specs.Headers.{HasNumber};
+ghost use Rattle.std.specs.Prelude.{◌≡◌, length, OnOk, IfOk, IfErr};
+ghost use Rattle.picky_der_core.specs.Encoding.{der};
+ghost use Rattle.picky_der_core.specs.OpenWrappers.{under};
+ghost use Rattle.picky_der_ser.specs.Headers.{wrappers, HasNumber, CanAllBeOpen};
 ghost use Rattle.picky_der_ser.specs.Sequences.{HasOpenLevel};
 ghost use Rattle.picky_der_ser.specs.Marks.{writing};
 ghost use Rattle.picky_der_ser.specs.Calls.{OpensLevel, AddsMember, RefusesToAdd, EndsLevel, EntersLevel, RefusesToEnter};
@@ -10,6 +11,7 @@ use super::Serializer;
 use crate::levels::{Mark, Place};
 use crate::sink::put_headed;
 use crate::{Header, Serialize};
+use picky_der_core::asn1::Wrapper;
 use picky_der_core::misc::WriteExt;
 use picky_der_core::{Asn1DerError, Result};
 
@@ -89,6 +91,32 @@ impl<W: WriteExt> Serializer<W> {
         self.enter_any(mark)
     }
 
+    // Writes the value in this wrapper, if there is one, as a member of the level. Returns how many bytes were written.
+    #[inline(always)]
+    pub(crate) fn write_member_in<T: Serialize>(
+        &mut self,
+        mark: &mut Mark,
+        around: Option<Wrapper>,
+        value: &T,
+    ) -> Result<usize>
+        requires still_open { HasOpenLevel mark.old self.old.failed self.old.inside self.old.pending }
+        requires numbers { CanAllBeOpen (wrappers around) }
+        ensures added { OnOk result (AddsMember W.WriteExt.own (under (wrappers around) (T.meaning value.now))
+            (writing mark.old self.old) (writing mark.new self.new)) }
+        ensures count { IfOk result (λ n. n ≡ length (der (under (wrappers around) (T.meaning value.now)))) }
+        ensures still_open { HasOpenLevel mark.new self.new.failed self.new.inside self.new.pending }
+        ensures err { IfErr result (λ e. RefusesToAdd W.WriteExt.own (under (wrappers around) (T.meaning value.now))
+            (writing mark.old self.old) e (writing mark.new self.new)) }
+    {
+        self.enter(mark)?;
+        if let Some(wrapper) = around {
+            self.levels.wrap(wrapper);
+        }
+        let count = value.serialize(self)?;
+        self.levels.leave(mark);
+        Ok(count)
+    }
+
     // Writes the value as a member of the level.
     #[inline(always)]
     pub(crate) fn write_member<T: Serialize>(&mut self, mark: &mut Mark, value: &T) -> Result<()>
@@ -99,9 +127,7 @@ impl<W: WriteExt> Serializer<W> {
         ensures err { IfErr result (λ e. RefusesToAdd W.WriteExt.own (T.meaning value.now)
             (writing mark.old self.old) e (writing mark.new self.new)) }
     {
-        self.enter(mark)?;
-        value.serialize(self)?;
-        self.levels.leave(mark);
+        self.write_member_in(mark, None, value)?;
         Ok(())
     }
 }

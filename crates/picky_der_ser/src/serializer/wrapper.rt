@@ -56,10 +56,7 @@ impl<W: WriteExt> Serializer<W> {
         ensures continues { W.later self.old.sink self.new.sink }
     {
         let mut mark = self.open(Header::Raw);
-        self.enter(&mut mark)?;
-        self.levels.wrap(wrapper);
-        let count = value.serialize(self)?;
-        self.levels.leave(&mark);
+        let count = self.write_member_in(&mut mark, Some(wrapper), value)?;
         if count == 0 {
             self.levels.give_up();
             return Ok(0);
