@@ -1,7 +1,9 @@
 -- A level while more bytes come.
-use Rattle.std.proofs.Common.{◌≡◌, ◌≢◌, ℕ, ◌≤◌, ◌<◌, ◌+◌, true, false, List, [], ◌∷◌, ◌++◌, length, take, drop, Option}
-use Rattle.std.proofs.Common.{None, Some, refl, sym, ap, ap₂, ◌∙◌, arith, subst, length-append}
-use Rattle.std.proofs.lemmas.List.{take-append-le, drop-append-le}
+use Rattle.std.proofs.Common.{◌≡◌, ◌≢◌, ℕ, ◌≤◌, ◌<◌, ◌+◌, ◌-◌, Bool, true, false, List, [], ◌∷◌, ◌++◌, length, take}
+use Rattle.std.proofs.Common.{drop, Option, None, Some, refl, sym, ap, ap₂, ◌∙◌, arith, subst, length-append}
+use Rattle.std.proofs.Math.Seq.{take-append_seam}
+use Rattle.std.proofs.lemmas.List.{take-append-le, drop-append-le, take_all, drop_all, length-drop}
+use Rattle.picky_der_core.specs.declared.asn1.wrapper.Wrapper.{Wrapper}
 use Rattle.picky_der_core.specs.Tree.{Tree}
 use Rattle.picky_der_core.specs.Encoding.{der}
 use Rattle.picky_der_core.specs.OpenWrappers.{under}
@@ -9,14 +11,14 @@ use Rattle.picky_der_core.specs.declared.misc.writer.WriteExt.{Ghosts}
 use Rattle.picky_der_ser.specs.declared.levels.Mark.{Mark}
 use Rattle.picky_der_ser.specs.declared.levels.Place.{Place}
 use Rattle.picky_der_ser.specs.declared.levels.Place.TheVariants as place
-use Rattle.picky_der_ser.specs.Marks.{level_at, level_in, first, inside_at, outside, HasTag, IsMark, IsOpen, Enters}
-use Rattle.picky_der_ser.specs.Marks.{writing, enclosed}
-use Rattle.picky_der_ser.specs.Headers.{tree_of, wrappers}
-use Rattle.picky_der_ser.specs.Seams.{last_seam}
-use Rattle.picky_der_ser.specs.State.{Level, Held, Stack, State, Writing, extended, stack, with_bytes, with_member}
-use Rattle.picky_der_ser.specs.State.{at_next_member, final_content}
+use Rattle.picky_der_ser.specs.Headers.{wrappers, is_set, HasNumber, CanAllBeOpen}
+use Rattle.picky_der_ser.specs.Seams.{AreSeams, last_seam, next_seams}
+use Rattle.picky_der_ser.specs.State.{Level, Held, Stack, State, extended, stack, with_bytes, with_member, at_next_member}
+use Rattle.picky_der_ser.specs.Marks.{level_at, level_in, held_of, first, inside_at, is_open, outside, HasTag, IsMark}
+use Rattle.picky_der_ser.specs.Marks.{IsOpen, writing}
 use Rattle.picky_der_ser.specs.Calls.{Writes, AddsIn, AddsMember, EntersLevel}
-use Rattle.picky_der_ser.proofs.ListBytes.{last_seam-least}
+use Rattle.picky_der_ser.proofs.ListBytes.{seams-next, last_seam-next, drop-next_seams, take-next_seams}
+use Rattle.picky_der_ser.proofs.ListBytes.{length-next_seams}
 
 -- ---- more bytes after those that are held
 
@@ -53,25 +55,24 @@ pub level-more : {m : Mark} {h : Held} (bs : List ℕ) → IsMark m h
     → level_at m (extended h bs) ≡ with_bytes (level_at m h) bs
 level-more {m} {h} bs k = ap (λ c. record (level_at m h) { content = c }) (drop-append-le m.start h.bytes bs (within k))
 
-outside-at : (p : Place) (n q : ℕ) (h : Held) (bs : List ℕ) → n ≤ length h.bytes → p ≢ place.Member
-    → p ≢ place.WrappedMember → inside_at p n q (extended h bs) ≡ inside_at p n q h
-outside-at place.Member n q h bs k a b = absurd (a refl)
-outside-at place.WrappedMember n q h bs k a b = absurd (b refl)
-outside-at place.OpenMember n q h bs k a b =
+outside-at : (p : Place) (n q : ℕ) (h : Held) (bs : List ℕ) → n ≤ length h.bytes → is_open p ≡ true
+    → inside_at p n q (extended h bs) ≡ inside_at p n q h
+outside-at place.Member n q h bs k o = cc
+outside-at place.WrappedMember n q h bs k o = cc
+outside-at place.OpenMember n q h bs k o =
     ap (λ x. Some (record { bytes = x; seams = take q h.seams })) (take-append-le n h.bytes bs k)
-outside-at place.Sink n q h bs k a b = refl
-outside-at place.WrappedSink n q h bs k a b = refl
-outside-at place.OpenSink n q h bs k a b = refl
+outside-at place.Sink n q h bs k o = cc
+outside-at place.WrappedSink n q h bs k o = cc
+outside-at place.OpenSink n q h bs k o = refl
 
 pub outside-more : {m : Mark} {h : Held} (bs : List ℕ) → IsMark m h → outside m (extended h bs) ≡ outside m h
-outside-more {m} {h} bs k =
-    outside-at m.place m.at m.first_seam h bs (omega (arith, k.room, within k)) (λ e. cc) (λ e. cc)
+outside-more {m} {h} bs k = outside-at m.place m.at m.first_seam h bs (omega (arith, k.room, within k)) k.opened
 
 -- ---- a member
 
 module _ {W : Type 0} (g : Ghosts W) where
   -- the level was entered, the member was written, and the level is open again
-  pub member_added : (m n : Mark) (t : Tree) (old s v new : State W) (ws : _) (count : ℕ) → EntersLevel g m old n s
+  pub member_added : (m n : Mark) (t : Tree) (old s v new : State W) (ws : List Wrapper) (count : ℕ) → EntersLevel g m old n s
       → Writes g t (record s { around = ws; pending = None }) count v
       → ((h : Held) → v.inside ≡ Some h
       → stack new ≡ record { inside = outside n h; pending = Some h; around = [] })
@@ -101,7 +102,7 @@ module _ {W : Type 0} (g : Ghosts W) where
       }
 
   -- so the level of the mark is open
-  pub member_open : (m n : Mark) (t : Tree) (old s v new : State W) (ws : _) (count : ℕ) → EntersLevel g m old n s
+  pub member_open : (m n : Mark) (t : Tree) (old s v new : State W) (ws : List Wrapper) (count : ℕ) → EntersLevel g m old n s
       → Writes g t (record s { around = ws; pending = None }) count v
       → ((h : Held) → v.inside ≡ Some h
       → stack new ≡ record { inside = outside n h; pending = Some h; around = [] })
@@ -115,3 +116,117 @@ module _ {W : Type 0} (g : Ghosts W) where
       let last : stack new ≡ record { inside = outside n (extended h bs); pending = Some (extended h bs); around = [] } =
       left (extended h bs) adds.0 in
       subst (λ (k : Stack). IsOpen n k.inside k.pending) (sym last) (mark-more bs e.entered.mark, refl)
+
+-- ---- a level that is opened
+
+module _ (m : Mark) (b q pad : List ℕ) (at : m.at ≡ length b) (start : m.start ≡ length b + length pad)
+    (seams : m.first_seam ≡ length q) where
+  no_seams : drop m.first_seam q ≡ []
+  no_seams = drop_all m.first_seam q (omega (arith, seams))
+
+  pub fresh_level : level_at m (held_of (b ++ pad) q) ≡ record {
+    header = m.header;
+    around = wrappers m.around;
+    content = [];
+    seams = [];
+  }
+  fresh_level =
+      let none : drop m.start (b ++ pad) ≡ [] =
+      drop_all m.start (b ++ pad) (omega (arith, start, length-append b pad)) in
+      ap₂ (λ c s. record { header = m.header; around = wrappers m.around; content = c; seams = s }) none no_seams
+
+  pub fresh_front : first m.at m.first_seam (held_of (b ++ pad) q) ≡ held_of b q
+  fresh_front =
+      let front : take m.at (b ++ pad) ≡ b = ap (λ k. take k (b ++ pad)) at ∙ take-append_seam b pad in
+      ap₂ held_of front (take_all m.first_seam q (omega (arith, seams)))
+
+  pub fresh_mark : is_open m.place ≡ true → CanAllBeOpen (wrappers m.around) → HasNumber m.header
+      → (m.is_ready ≡ true → is_set m.header ≡ false) → (m.has_tag ≡ true → HasTag m (held_of (b ++ pad) q))
+      → IsMark m (held_of (b ++ pad) q)
+  fresh_mark opened numbers number ready tag = record {
+    opened = opened;
+    numbers = numbers;
+    number = number;
+    room = omega (arith, at, start);
+    within_seams = omega (arith, seams);
+    within = omega (arith, start, length-append b pad, ap (last_seam 0) no_seams);
+    ascending = subst (AreSeams 0) (sym no_seams) tt;
+    ready = ready;
+    has_tag = tag;
+  }
+
+-- ---- another member
+
+module _ (m : Mark) (start : ℕ) (ready : Bool) (b q pad p : List ℕ) (k : IsMark m (held_of b q))
+    (room : m.at ≤ start) (fits : start ≤ length (b ++ pad)) (same : drop start (b ++ pad) ≡ drop m.start b)
+    (lists : ready ≡ true → is_set m.header ≡ false) (tagged : m.has_tag ≡ true → start ≡ m.start)
+    (next : p ≡ next_seams m.header q (length (b ++ pad) - start)) where
+  abbrev now : Mark
+  now = record m { start = start; is_ready = ready }
+
+  own : List ℕ
+  own = drop m.first_seam q
+
+  count : length (b ++ pad) - start ≡ length (drop m.start b)
+  count = omega (arith, ap length same, length-drop start (b ++ pad))
+
+  own_next : drop m.first_seam p ≡ next_seams m.header own (length (drop m.start b))
+  own_next = ap (drop m.first_seam) next
+      ∙ drop-next_seams m.header m.first_seam q (length (b ++ pad) - start) k.within_seams
+      ∙ ap (next_seams m.header own) count
+
+  held : last_seam 0 own ≤ length (drop m.start b)
+  held = omega (arith, k.within, length-drop m.start b)
+
+  pub entered_mark : IsMark now (held_of (b ++ pad) p)
+  entered_mark = record {
+    opened = k.opened;
+    numbers = k.numbers;
+    number = k.number;
+    room = room;
+    within_seams =
+        omega (
+          arith,
+          k.within_seams,
+          length-next_seams m.header q (length (b ++ pad) - start),
+          ap length next,
+        );
+    within =
+        omega (
+          arith,
+          fits,
+          count,
+          last_seam-next m.header own (length (drop m.start b)) held,
+          ap (last_seam 0) own_next,
+        );
+    ascending =
+        subst (AreSeams 0) (sym own_next)
+        (seams-next m.header own (length (drop m.start b)) held k.ascending);
+    ready = lists;
+    has_tag = λ e. let t = tag-more pad (within k) (k.has_tag e) in record {
+      inside = t.inside;
+      bare = t.bare;
+      room = tagged e ∙ t.room;
+      tag = t.tag;
+    };
+  }
+
+  pub entered_level : level_at now (held_of (b ++ pad) p) ≡ at_next_member (level_at m (held_of b q))
+  entered_level =
+      ap₂ (λ c s. record { header = m.header; around = wrappers m.around; content = c; seams = s }) same own_next
+
+  pub entered_outside : outside now (held_of (b ++ pad) p) ≡ outside m (held_of b q)
+  entered_outside = outside_next m.place m.at m.first_seam
+      (λ e. take-append-le m.at b pad (omega (arith, k.room, within k)))
+      (ap (take m.first_seam) next
+      ∙ take-next_seams m.header m.first_seam q (length (b ++ pad) - start) k.within_seams) k.opened
+    where
+      outside_next : (p' : Place) (n f : ℕ) → (is_open p' ≡ true → take n (b ++ pad) ≡ take n b)
+          → take f p ≡ take f q → is_open p' ≡ true
+          → inside_at p' n f (held_of (b ++ pad) p) ≡ inside_at p' n f (held_of b q)
+      outside_next place.Member n f x y o = cc
+      outside_next place.WrappedMember n f x y o = cc
+      outside_next place.OpenMember n f x y o = ap₂ (λ c s. Some (held_of c s)) (x refl) y
+      outside_next place.Sink n f x y o = cc
+      outside_next place.WrappedSink n f x y o = cc
+      outside_next place.OpenSink n f x y o = refl

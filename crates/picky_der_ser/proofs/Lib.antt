@@ -1,6 +1,7 @@
 pub mod Alike
 pub mod HeaderBytes
 pub mod LevelMarks
+pub mod Rooms
 pub mod StateWrites
 pub mod WrapWrites
 pub mod EntryWrites
