@@ -143,8 +143,8 @@ module _ (m : Mark) (b q pad : List ℕ) (at : m.at ≡ length b) (start : m.sta
   pub fresh_mark : is_open m.place ≡ true → CanAllBeOpen (wrappers m.around) → HasNumber m.header
       → (m.is_ready ≡ true → is_set m.header ≡ false) → (m.has_tag ≡ true → HasTag m (held_of (b ++ pad) q))
       → IsMark m (held_of (b ++ pad) q)
-  fresh_mark opened numbers number ready tag = record {
-    opened = opened;
+  fresh_mark is numbers number ready tag = record {
+    opened = is;
     numbers = numbers;
     number = number;
     room = omega (arith, at, start);

@@ -262,10 +262,10 @@ module _ {W : Type 0} (g : Ghosts W) where
       → CanAllBeOpen old.around → AddsMember g (Tree.wrapped w t) now d → 0 ≡ length (der (Tree.wrapped w t))
       → new.inside ≡ d.inside → new.sink ≡ d.sink → new.failed ≡ d.failed → new.around ≡ []
       → Writes g (Tree.wrapped w t) old 0 new
-  nested_absent w t old new now d o open a count inside sink failed around =
+  nested_absent w t old new now d o all a count inside sink failed around =
       let u = Tree.wrapped w t in
       let none : der (under old.around u) ≡ [] =
-      der-under_absent old.around u (can_vanish-open old.around open) (absent_by w t count) in
+      der-under_absent old.around u (can_vanish-open old.around all) (absent_by w t count) in
       let held : new.inside ≡ old.inside = inside ∙ ap (λ (s : Writing W). s.inside) a.added
       ∙ ap (λ (s : Writing W). s.inside) o.opened in
       let same : new.sink ≡ old.sink = sink ∙ ap (λ (s : Writing W). s.sink) a.added
@@ -273,7 +273,7 @@ module _ {W : Type 0} (g : Ghosts W) where
       record {
         had_not_failed = sym (ap (λ (s : Writing W). s.failed) o.opened) ∙ a.had_not_failed;
         writable = record {
-          numbers = numbers_writable old.around u open a.writable.numbers;
+          numbers = numbers_writable old.around u all a.writable.numbers;
           fits = rw none (omega arith);
         };
         count = ap length (sym none);

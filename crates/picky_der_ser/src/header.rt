@@ -7,7 +7,8 @@ ghost use Rattle.picky_der_core.specs.Encoding.{der};
 ghost use Rattle.picky_der_core.specs.OpenWrappers.{under};
 ghost use Rattle.picky_der_core.specs.Primitive.{Primitive};
 ghost use Rattle.picky_der_core.specs.Tree.{Tree};
-ghost use Rattle.picky_der_ser.specs.Headers.{is_set, tree_of, wrappers, keeps_headers, own_tag, front, HasNumber, CanAllBeOpen};
+ghost use Rattle.picky_der_ser.specs.Headers.{is_set, tree_of, wrappers, keeps_headers, own_tag, front, HasNumber};
+ghost use Rattle.picky_der_ser.specs.Headers.{CanAllBeOpen};
 
 use arrayvec::ArrayVec;
 use picky_der_core::asn1::{Tag, Wrapper};
@@ -98,8 +99,16 @@ pub(crate) fn push_headers(
 {
     let own = own_tag(around, header);
     if let Some(wrapper) = around {
-        let own_len = if own.is_some() { 1 + Length::encoded_len(len) } else { 0 };
-        out.extend_from_slice(&opening(wrapper.tag(), wrapper.counts_unused_bits(), own_len + len))?;
+        let own_len = if own.is_some() {
+            1 + Length::encoded_len(len)
+        } else {
+            0
+        };
+        out.extend_from_slice(&opening(
+            wrapper.tag(),
+            wrapper.counts_unused_bits(),
+            own_len + len,
+        ))?;
     }
     if let Some(tag) = own {
         out.extend_from_slice(&opening(tag, false, len))?;

@@ -7,7 +7,7 @@ ghost use Rattle.picky_der_core.specs.Encoding.{der};
 ghost use Rattle.picky_der_core.specs.Tree.{Tree};
 ghost use Rattle.picky_der_ser.specs.Headers.{tree_of, wrappers, HasNumber, CanBeOpen, CanAllBeOpen};
 ghost use Rattle.picky_der_ser.specs.State.{Held, extended, final_content};
-ghost use Rattle.picky_der_ser.specs.Marks.{level_at, outside, IsMark, IsOpen, IsEntered, Opens, Enters, enclosed, Gains};
+ghost use Rattle.picky_der_ser.specs.Marks.{level_at, outside, IsOpen, IsEntered, Opens, Enters, enclosed, Gains};
 
 use crate::Header;
 use crate::header::{own_tag, push_few, push_headers, push_short, put_headers, room_of};
@@ -66,8 +66,8 @@ pub(crate) enum Place {
     OpenSink,
 }
 
-// The bytes of all levels, one after the other, the innermost last. The seams of a set say how many bytes of its content
-// are before each member but the first.
+// The bytes of all levels, one after the other, the innermost last. The seams of a set say how many bytes of its
+// content are before each member but the first.
 #[derive(Drop)]
 pub(crate) struct Levels {
     bytes: Vec<u8>,
@@ -155,7 +155,10 @@ impl Levels {
         ensures no { result ≡ false → self.now.inside ≡ None }
         ensures yes { result ≡ true → self.now.inside ≢ None }
     {
-        matches!(self.place, Place::Member | Place::WrappedMember | Place::OpenMember)
+        matches!(
+            self.place,
+            Place::Member | Place::WrappedMember | Place::OpenMember
+        )
     }
 
     // Drops the level that was opened last and hasn't ended. When a value is written there mostly is none.
@@ -237,7 +240,9 @@ impl Levels {
         let at = self.bytes.len();
         let has_room = self.bytes.capacity() - at >= BLANK.len();
         if has_room {
-            let _ = self.bytes.extend_from_slice(&BLANK[..room_of(around, header)]);
+            let _ = self
+                .bytes
+                .extend_from_slice(&BLANK[..room_of(around, header)]);
         }
         self.place = if self.is_inside() {
             Place::OpenMember
@@ -268,7 +273,8 @@ impl Levels {
             if self.bytes.is_empty() {
                 self.bytes.reserve(FIRST_ROOM)?;
             }
-            self.bytes.extend_from_slice(&BLANK[..room_of(mark.around, mark.header)])?;
+            self.bytes
+                .extend_from_slice(&BLANK[..room_of(mark.around, mark.header)])?;
             mark.start = self.bytes.len();
             mark.is_ready = !mark.header.is_set();
         }
@@ -325,8 +331,8 @@ impl Levels {
         true
     }
 
-    // Adds bytes as they are to the level of which a member is being written, if no wrapper is open, no level was opened
-    // in it, and there is room for them. Else nothing is done.
+    // Adds bytes as they are to the level of which a member is being written, if no wrapper is open, no level was
+    // opened in it, and there is room for them. Else nothing is done.
     #[inline(always)]
     pub(crate) fn append_few(&mut self, bytes: &[u8]) -> bool
         ensures yes { result ≡ true → Gains bytes.now self.old self.new }
@@ -412,7 +418,13 @@ impl Levels {
             arrange(&mut self.bytes, mark.start, seams, alloc)?;
             self.seams.truncate(mark.first_seam);
         }
-        put_headers(&mut self.bytes, mark.at, mark.start, mark.around, mark.header)
+        put_headers(
+            &mut self.bytes,
+            mark.at,
+            mark.start,
+            mark.around,
+            mark.header,
+        )
     }
 
     // Adds the level that was opened last, with its headers, to what is held around it.
@@ -424,8 +436,9 @@ impl Levels {
         self.place = Place::Member;
     }
 
-    // Ends the level that was opened last as `enclose` and `merge` do. This is for a level in another one, without seams
-    // or a wrapper, whose header fits the two bytes before it, as most do. Else it does nothing and returns `None`.
+    // Ends the level that was opened last as `enclose` and `merge` do. This is for a level in another one, without
+    // seams or a wrapper, whose header fits the two bytes before it, as most do. Else it does nothing and returns
+    // `None`.
     #[inline(always)]
     pub(crate) fn merge_short(&mut self, mark: &Mark) -> Option<usize>
         requires { IsOpen mark.now self.old.inside self.old.pending }

@@ -5,7 +5,8 @@ ghost use Rattle.picky_der_core.specs.OpenWrappers.{under};
 ghost use Rattle.picky_der_ser.specs.Headers.{wrappers, HasNumber, CanAllBeOpen};
 ghost use Rattle.picky_der_ser.specs.Sequences.{HasOpenLevel};
 ghost use Rattle.picky_der_ser.specs.Marks.{writing};
-ghost use Rattle.picky_der_ser.specs.Calls.{OpensLevel, AddsMember, RefusesToAdd, EndsLevel, EntersLevel, RefusesToEnter};
+ghost use Rattle.picky_der_ser.specs.Calls.{OpensLevel, AddsMember, RefusesToAdd, EndsLevel, EntersLevel};
+ghost use Rattle.picky_der_ser.specs.Calls.{RefusesToEnter};
 
 use super::Serializer;
 use crate::levels::{Mark, Place};

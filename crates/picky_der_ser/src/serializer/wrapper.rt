@@ -41,8 +41,8 @@ impl<W: WriteExt> Serializer<W> {
         value.serialize(self)
     }
 
-    // Writes the value in this wrapper, in the open one. That becomes a level, which is dropped if nothing is written in
-    // it.
+    // Writes the value in this wrapper, in the open one. That becomes a level, which is dropped if nothing is written
+    // in it.
     #[inline(never)]
     fn write_nested<T: Serialize>(&mut self, wrapper: Wrapper, value: &T) -> Result<usize>
         requires wrapper { CanBeOpen wrapper }
