@@ -1,5 +1,6 @@
 -- A value that leaves a sequence open after what it wrote.
-use Rattle.std.proofs.Common.{arith, ◌≡◌, ◌<◌, ◌^◌, ℕ, [], ◌∷◌, length, Option, Result, Ok, Err, None, Some, IfErr, IsErrAnd}
+use Rattle.std.proofs.Common.{arith, ◌≡◌, ◌<◌, ◌^◌, ℕ, [], ◌∷◌, length, Option, Result, Ok, Err, None, Some, IfErr}
+use Rattle.std.proofs.Common.{IsErrAnd}
 use Rattle.std.proofs.Common.{refl, sym, ap, ◌∙◌, subst, append-nil}
 use Rattle.std.specs.Prelude.{IfNone}
 use Rattle.std.specs.Io.KnownBytes.{Appends}

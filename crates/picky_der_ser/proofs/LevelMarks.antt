@@ -13,7 +13,8 @@ use Rattle.picky_der_ser.specs.declared.levels.Place.{Place}
 use Rattle.picky_der_ser.specs.declared.levels.Place.TheVariants as place
 use Rattle.picky_der_ser.specs.Headers.{wrappers, is_set, HasNumber, CanAllBeOpen}
 use Rattle.picky_der_ser.specs.Seams.{AreSeams, last_seam, next_seams}
-use Rattle.picky_der_ser.specs.State.{Level, Held, Stack, State, extended, stack, with_bytes, with_member, at_next_member}
+use Rattle.picky_der_ser.specs.State.{Level, Held, Stack, State, extended, stack, with_bytes, with_member}
+use Rattle.picky_der_ser.specs.State.{at_next_member}
 use Rattle.picky_der_ser.specs.Marks.{level_at, level_in, held_of, first, inside_at, is_open, outside, HasTag, IsMark}
 use Rattle.picky_der_ser.specs.Marks.{IsOpen, writing}
 use Rattle.picky_der_ser.specs.Calls.{Writes, AddsIn, AddsMember, EntersLevel}
@@ -72,7 +73,8 @@ outside-more {m} {h} bs k = outside-at m.place m.at m.first_seam h bs (omega (ar
 
 module _ {W : Type 0} (g : Ghosts W) where
   -- the level was entered, the member was written, and the level is open again
-  pub member_added : (m n : Mark) (t : Tree) (old s v new : State W) (ws : List Wrapper) (count : ℕ) → EntersLevel g m old n s
+  pub member_added : (m n : Mark) (t : Tree) (old s v new : State W) (ws : List Wrapper) (count : ℕ)
+      → EntersLevel g m old n s
       → Writes g t (record s { around = ws; pending = None }) count v
       → ((h : Held) → v.inside ≡ Some h
       → stack new ≡ record { inside = outside n h; pending = Some h; around = [] })
@@ -84,7 +86,8 @@ module _ {W : Type 0} (g : Ghosts W) where
       let inside : s.inside ≡ Some h = ap (λ (k : Stack). k.inside) e.entered.is in
       let adds : AddsIn g (Some h) v.inside s.sink v.sink bs =
       subst (λ k. AddsIn g k v.inside s.sink v.sink bs) inside w.adds in
-      let last : stack new ≡ record { inside = outside n (extended h bs); pending = Some (extended h bs); around = [] } =
+      let last : stack new
+      ≡ record { inside = outside n (extended h bs); pending = Some (extended h bs); around = [] } =
       left (extended h bs) adds.0 in
       let was : old.pending ≡ Some e.entered.before = e.entered.was in
       let outer : new.inside ≡ old.inside = ap (λ (k : Stack). k.inside) last ∙ outside-more bs e.entered.mark
@@ -102,7 +105,8 @@ module _ {W : Type 0} (g : Ghosts W) where
       }
 
   -- so the level of the mark is open
-  pub member_open : (m n : Mark) (t : Tree) (old s v new : State W) (ws : List Wrapper) (count : ℕ) → EntersLevel g m old n s
+  pub member_open : (m n : Mark) (t : Tree) (old s v new : State W) (ws : List Wrapper) (count : ℕ)
+      → EntersLevel g m old n s
       → Writes g t (record s { around = ws; pending = None }) count v
       → ((h : Held) → v.inside ≡ Some h
       → stack new ≡ record { inside = outside n h; pending = Some h; around = [] })
@@ -113,7 +117,8 @@ module _ {W : Type 0} (g : Ghosts W) where
       let inside : s.inside ≡ Some h = ap (λ (k : Stack). k.inside) e.entered.is in
       let adds : AddsIn g (Some h) v.inside s.sink v.sink bs =
       subst (λ k. AddsIn g k v.inside s.sink v.sink bs) inside w.adds in
-      let last : stack new ≡ record { inside = outside n (extended h bs); pending = Some (extended h bs); around = [] } =
+      let last : stack new
+      ≡ record { inside = outside n (extended h bs); pending = Some (extended h bs); around = [] } =
       left (extended h bs) adds.0 in
       subst (λ (k : Stack). IsOpen n k.inside k.pending) (sym last) (mark-more bs e.entered.mark, refl)
 

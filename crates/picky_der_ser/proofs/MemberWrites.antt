@@ -176,7 +176,8 @@ module _ {W : Type 0} (g : Ghosts W) where
       subst (λ us. AreAlike (Tree.primitive (Primitive.bytes (list_tag kind) (list_content kind (map der a.done))))
       (Tree.list kind us)) (sym (a.split ∙ before_none a.done)) (alike_list kind a.done a.numbers)
 
-  pub list_wrote : (kind : ListKind) (all : Trees) (old : State W) (now : Writing W) (new : State W) (r : Result ℕ Asn1DerError) (n : ℕ)
+  pub list_wrote : (kind : ListKind) (all : Trees) (old : State W) (now : Writing W) (new : State W)
+      (r : Result ℕ Asn1DerError) (n : ℕ)
       → EndsLevel g now r new → r ≡ Ok n → Awaits kind Trees.none all old now → Writes g (Tree.list kind all) old n new
   list_wrote kind all old now new r n h e a =
       let whole =
@@ -184,8 +185,8 @@ module _ {W : Type 0} (g : Ghosts W) where
       (writes_whatever _ old new _ r (ended kind all old now new r h a).wrote) in
       subst (λ v. IfOk v (λ m. Writes g (Tree.list kind all) old m new)) e whole
 
-  pub list_failed : (kind : ListKind) (all : Trees) (old : State W) (now : Writing W) (new : State W) (r : Result ℕ Asn1DerError)
-      (e : Asn1DerError) → EndsLevel g now r new → r ≡ Err e → Awaits kind Trees.none all old now
+  pub list_failed : (kind : ListKind) (all : Trees) (old : State W) (now : Writing W) (new : State W)
+      (r : Result ℕ Asn1DerError) (e : Asn1DerError) → EndsLevel g now r new → r ≡ Err e → Awaits kind Trees.none all old now
       → RefusesWrite g (Tree.list kind all) old e new
   list_failed kind all old now new r e h i a =
       let whole =
@@ -193,8 +194,8 @@ module _ {W : Type 0} (g : Ghosts W) where
       (fails_whatever _ old new _ r (ended kind all old now new r h a).failed) in
       subst (λ v. IfErr v (λ m. RefusesWrite g (Tree.list kind all) old m new)) i whole
 
-  pub list_untouched : (kind : ListKind) (all : Trees) (old : State W) (now : Writing W) (new : State W) (r : Result ℕ Asn1DerError)
-      (e : Asn1DerError) → EndsLevel g now r new → r ≡ Err e → Awaits kind Trees.none all old now
+  pub list_untouched : (kind : ListKind) (all : Trees) (old : State W) (now : Writing W) (new : State W)
+      (r : Result ℕ Asn1DerError) (e : Asn1DerError) → EndsLevel g now r new → r ≡ Err e → Awaits kind Trees.none all old now
       → UntouchedUnlessFailed g old.sink e new.sink
   list_untouched kind all old now new r e h i a =
       subst (λ v. IfErr v (λ m. UntouchedUnlessFailed g old.sink m new.sink)) i

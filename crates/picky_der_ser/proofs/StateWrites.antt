@@ -74,8 +74,8 @@ module _ {W : Type 0} (g : Ghosts W) where
   adds_outside inside now old new bs e f h = subst (λ l. AddsIn g l now old new bs) (sym e) (f, h)
 
   -- outside levels
-  pub writes_outside : (t : Tree) (old new : State W) (n : ℕ) → old.failed ≡ None → old.inside ≡ None → new.inside ≡ None
-      → new.around ≡ [] → new.failed ≡ None → SinkWrites g (under old.around t) old.sink n new.sink
+  pub writes_outside : (t : Tree) (old new : State W) (n : ℕ) → old.failed ≡ None → old.inside ≡ None
+      → new.inside ≡ None → new.around ≡ [] → new.failed ≡ None → SinkWrites g (under old.around t) old.sink n new.sink
       → g.faults new.sink ≡ g.faults old.sink → Writes g t old n new
   writes_outside t old new n f i j a b h q =
       record {
@@ -256,7 +256,8 @@ module _ {W : Type 0} (g : Ghosts W) where
     wrote = tt;
     failed = fails_outside t (beneath old) new e f i b
         (subst (λ v. SinkRefuses g (under old.level.around t) old.sink e v) (sym same) k);
-    untouched = subst (λ v. UntouchedUnlessFailed g old.sink e v) (sym same) (record { same = λ well. absurd (well m) });
+    untouched = subst (λ v. UntouchedUnlessFailed g old.sink e v) (sym same)
+        (record { same = λ well. absurd (well m) });
     counted = subst (λ v. IsOnceAtMost (g.faults old.sink) (g.faults v)) (sym same) c;
     continues = subst (g.later old.sink) (sym same) l;
   })

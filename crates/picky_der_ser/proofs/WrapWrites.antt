@@ -1,6 +1,8 @@
 -- What is written in one wrapper more.
-use Rattle.std.proofs.Common.{◌≡◌, ℕ, ◌&&◌, true, false, Bool, List, [], ◌∷◌, ◌++◌, length, Option, None, Some, refl, sym, ap}
-use Rattle.std.proofs.Common.{subst, Result, Ok, Err, IfOk, IfErr, ◌<◌, ◌^◌, ◌≤◌, ◌∙◌, inl, inr, arith, length-append, cond, nat_lt}
+use Rattle.std.proofs.Common.{◌≡◌, ℕ, ◌&&◌, true, false, Bool, List, [], ◌∷◌, ◌++◌, length, Option, None, Some, refl}
+use Rattle.std.proofs.Common.{sym, ap}
+use Rattle.std.proofs.Common.{subst, Result, Ok, Err, IfOk, IfErr, ◌<◌, ◌^◌, ◌≤◌, ◌∙◌, inl, inr, arith, length-append}
+use Rattle.std.proofs.Common.{cond, nat_lt}
 use Rattle.std.specs.Prelude.{IfSome, IfNone, IsTrue}
 use Rattle.picky_der_core.specs.WrapperLaws.{tag_number_tells}
 use Rattle.picky_der_core.specs.OpenWrapperLaws.{AreAlike, CanVanish, alike-under, der-alike, present-under}
@@ -45,7 +47,8 @@ module _ {W : Type 0} (g : Ghosts W) where
       → mid ≡ record old { around = w ∷ []; pending = None } → IfOk r (λ n. Writes g t mid n new)
       → IfOk r (λ n. Writes g (Tree.wrapped w t) old n new)
   writes-wrapped w t old mid new (Ok n) bare is h =
-      let k : Writes g t (record old { around = w ∷ []; pending = None }) n new = subst (λ m. Writes g t m n new) is h in
+      let k : Writes g t (record old { around = w ∷ []; pending = None }) n new =
+      subst (λ m. Writes g t m n new) is h in
       let u = in_this old.around w t bare in
       record {
         had_not_failed = k.had_not_failed;
@@ -79,7 +82,11 @@ module _ {W : Type 0} (g : Ghosts W) where
       (record old { failed = Some (failure_of UnsupportedValue) })
   fails-past w t old past f =
       let u = under old.around (Tree.wrapped w t) in
-      record { failed = refl; again = rw f tt; reason = rw f (refused u (past_under old.around (Tree.wrapped w t) number)) }
+      record {
+        failed = refl;
+        again = rw f tt;
+        reason = rw f (refused u (past_under old.around (Tree.wrapped w t) number));
+      }
     where
       number : has_tag_numbers (Tree.wrapped w t) ≡ false
       number = elim (tag_number_tells w) [
@@ -250,7 +257,10 @@ holds_wrapped keeps (v ∷ ws) w t there =
 pub wrapped_part : (ws : List Wrapper) (w : Wrapper) (t : Tree) → IsWritable (under ws (Tree.wrapped w t))
     → IsWritable (Tree.wrapped w t)
 wrapped_part ws w t h =
-    record { numbers = numbers_inside ws (Tree.wrapped w t) h.numbers; fits = by_cases (is_absent (Tree.wrapped w t)) refl }
+    record {
+      numbers = numbers_inside ws (Tree.wrapped w t) h.numbers;
+      fits = by_cases (is_absent (Tree.wrapped w t)) refl;
+    }
   where
     by_cases : (b : Bool) → is_absent (Tree.wrapped w t) ≡ b → length (der (Tree.wrapped w t)) < 2 ^ 64
     by_cases true e = omega (arith, ap length (der-absent (Tree.wrapped w t) e))

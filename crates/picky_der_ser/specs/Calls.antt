@@ -18,7 +18,8 @@ use Rattle.picky_der_ser.specs.declared.header.Header.{Header}
 use Rattle.picky_der_ser.specs.Headers.{tree_of}
 use Rattle.picky_der_ser.specs.declared.levels.Mark.{Mark}
 use Rattle.picky_der_ser.specs.Marks.{Enters}
-use Rattle.picky_der_ser.specs.State.{stack, State, Held, Writing, extended, beneath, with_member, with_members, final_content}
+use Rattle.picky_der_ser.specs.State.{stack, State, Held, Writing, extended, beneath, with_member, with_members}
+use Rattle.picky_der_ser.specs.State.{final_content}
 
 -- each of the trees can be written
 abbrev pub AreWritable : Trees → Type 0

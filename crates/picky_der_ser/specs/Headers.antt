@@ -1,5 +1,6 @@
 -- The bytes before a content: the header of the wrapper around it, and its own.
-use Rattle.std.specs.Prelude.{ℕ, ◌+◌, ⊤, IsTrue, List, [], ◌∷◌, ◌++◌, Option, None, Some, if◌then◌else◌, Bool, true, false}
+use Rattle.std.specs.Prelude.{ℕ, ◌+◌, ⊤, IsTrue, List, [], ◌∷◌, ◌++◌, Option, None, Some, if◌then◌else◌, Bool, true}
+use Rattle.std.specs.Prelude.{false}
 use Rattle.std.specs.Prelude.{nat_eq}
 use Rattle.picky_der_core.specs.declared.asn1.wrapper.Wrapper.{Wrapper}
 use Rattle.picky_der_core.specs.declared.asn1.wrapper.Wrapper.TheVariants as wrapper

@@ -1,5 +1,6 @@
 -- What a mark says has one proof.
-use Rattle.std.specs.Prelude.{◌≡◌, ℕ, ◌+◌, ◌≤◌, true, false, List, [], ◌∷◌, length, take, drop, Option, None, Some, IsTrue}
+use Rattle.std.specs.Prelude.{◌≡◌, ℕ, ◌+◌, ◌≤◌, true, false, List, [], ◌∷◌, length, take, drop, Option, None, Some}
+use Rattle.std.specs.Prelude.{IsTrue}
 use Rattle.std.specs.Option.{is_some}
 use Rattle.std.specs.Coded.{Unit-prop, Coded-set, coded_list, coded_option, coded_ℕ, ×_prop, →_prop}
 use denote.Struct.Props.{props}

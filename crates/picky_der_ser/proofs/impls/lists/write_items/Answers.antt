@@ -11,7 +11,8 @@ pub loop-item-init : goal.loop-item-init
 loop-item-init g c = record {
   same_reference = refl;
   awaits = list_opened_by g.W.WriteExt c.args.tag (trees (map g.T.Serialize.meaning c.args.items.now)) c.args.ser.now
-      (writing c.serialize_lazy-seq.result.mark c.serialize_lazy-seq.result.ser.now) c.requires c.serialize_lazy-seq.ensures.opened;
+      (writing c.serialize_lazy-seq.result.mark c.serialize_lazy-seq.result.ser.now) c.requires
+      c.serialize_lazy-seq.ensures.opened;
 }
 
 pub returns-in_err-serialize_element-clause-failed :
