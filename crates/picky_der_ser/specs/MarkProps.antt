@@ -76,7 +76,7 @@ IsMark-prop m h x y =
     }
 
 IsOpen-prop : (m : Mark) (inside pending : Option Held) → IsProp (IsOpen m inside pending)
-IsOpen-prop m inside None x y = absurd x
+IsOpen-prop m inside None = λ x y. absurd x
 IsOpen-prop m inside (Some h) =
     ×_prop (IsMark-prop m h) (Coded-set (coded_option held_code) inside (outside m h))
 

@@ -5,7 +5,7 @@ ghost use Rattle.picky_der_core.specs.Primitive.{Primitive};
 ghost use Rattle.picky_der_core.specs.OpenWrappers.{under};
 ghost use Rattle.picky_der_core.specs.Encoding.{der};
 ghost use Rattle.picky_der_core.specs.Tree.{Tree};
-ghost use Rattle.picky_der_ser.specs.Headers.{tree_of, wrappers, HasNumber, CanBeOpen, CanAllBeOpen};
+ghost use Rattle.picky_der_ser.specs.Headers.{tree_of, wrappers, own_tag, HasNumber, CanBeOpen, CanAllBeOpen};
 ghost use Rattle.picky_der_ser.specs.State.{Held, extended, final_content};
 ghost use Rattle.picky_der_ser.specs.Marks.{level_at, outside, IsOpen, IsEntered, Opens, Enters, enclosed, Gains};
 
@@ -204,63 +204,75 @@ impl Levels {
         requires { HasNumber header }
         ensures { Opens header self.old result self.new }
     {
-        let mut mark = Mark {
-            at: self.bytes.len(),
+        let room = self.bytes.capacity() - self.bytes.len();
+        match own_tag(None, header) {
+            Some(tag) if self.place == Place::Member && room >= 2 => self.open_short(header, tag),
+            _ => self.open_any(header),
+        }
+    }
+
+    // The same in another level and in no wrapper, where there is room for a short header with this tag.
+    #[inline(always)]
+    fn open_short(&mut self, header: Header, tag: Tag) -> Mark
+        requires number { HasNumber header }
+        requires tag { own_tag true header ≡ Some tag }
+        requires inside { self.old.inside ≢ None }
+        requires bare { (self.old.pending ≡ None) × (self.old.around ≡ []) }
+        ensures { Opens header self.old result self.new }
+    {
+        let at = self.bytes.len();
+        let first_seam = self.seams.len();
+        // Where there is room this doesn't fail.
+        let has_room = self.bytes.extend_from_slice(&[tag.inner(), 0]).is_ok();
+        self.place = Place::OpenMember;
+        self.kept = at;
+        self.kept_seams = first_seam;
+        Mark {
+            at,
             start: self.bytes.len(),
-            first_seam: self.seams.len(),
+            first_seam,
             header,
             around: None,
             place: Place::OpenMember,
-            is_ready: false,
-            has_tag: false,
-        };
-        match own_tag(None, header) {
-            Some(tag) if self.place == Place::Member && self.bytes.capacity() - mark.at >= 2 => {
-                let _ = self.bytes.extend_from_slice(&[tag.inner(), 0]);
-                mark.start = mark.at + 2;
-                mark.is_ready = !header.is_set();
-                mark.has_tag = true;
-                self.place = Place::OpenMember;
-                self.kept = mark.at;
-                self.kept_seams = mark.first_seam;
-            }
-            _ => self.open_any(header, &mut mark),
+            is_ready: has_room && !header.is_set(),
+            has_tag: has_room,
         }
-        mark
     }
 
-    // The same in any place. It sets the mark.
+    // The same in any place.
     #[inline(never)]
-    fn open_any(&mut self, header: Header, mark: &mut Mark)
+    fn open_any(&mut self, header: Header) -> Mark
         requires { HasNumber header }
-        ensures { Opens header self.old mark.new self.new }
+        ensures { Opens header self.old result self.new }
     {
         self.give_up();
         let around = self.around();
         let at = self.bytes.len();
+        let first_seam = self.seams.len();
         let has_room = self.bytes.capacity() - at >= BLANK.len();
         if has_room {
             let _ = self
                 .bytes
                 .extend_from_slice(&BLANK[..room_of(around, header)]);
         }
-        self.place = if self.is_inside() {
+        let place = if self.is_inside() {
             Place::OpenMember
         } else {
             Place::OpenSink
         };
+        self.place = place;
         self.kept = at;
-        self.kept_seams = self.seams.len();
-        *mark = Mark {
+        self.kept_seams = first_seam;
+        Mark {
             at,
             start: self.bytes.len(),
-            first_seam: self.seams.len(),
+            first_seam,
             header,
             around,
-            place: self.place,
+            place,
             is_ready: has_room && !header.is_set(),
             has_tag: false,
-        };
+        }
     }
 
     // From here on a member of the level that was opened last is written. Returns the level's mark.
