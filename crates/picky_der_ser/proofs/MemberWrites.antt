@@ -186,7 +186,8 @@ module _ {W : Type 0} (g : Ghosts W) where
       subst (λ v. IfOk v (λ m. Writes g (Tree.list kind all) old m new)) e whole
 
   pub list_failed : (kind : ListKind) (all : Trees) (old : State W) (now : Writing W) (new : State W)
-      (r : Result ℕ Asn1DerError) (e : Asn1DerError) → EndsLevel g now r new → r ≡ Err e → Awaits kind Trees.none all old now
+      (r : Result ℕ Asn1DerError) (e : Asn1DerError) → EndsLevel g now r new → r ≡ Err e
+      → Awaits kind Trees.none all old now
       → RefusesWrite g (Tree.list kind all) old e new
   list_failed kind all old now new r e h i a =
       let whole =
@@ -195,7 +196,8 @@ module _ {W : Type 0} (g : Ghosts W) where
       subst (λ v. IfErr v (λ m. RefusesWrite g (Tree.list kind all) old m new)) i whole
 
   pub list_untouched : (kind : ListKind) (all : Trees) (old : State W) (now : Writing W) (new : State W)
-      (r : Result ℕ Asn1DerError) (e : Asn1DerError) → EndsLevel g now r new → r ≡ Err e → Awaits kind Trees.none all old now
+      (r : Result ℕ Asn1DerError) (e : Asn1DerError) → EndsLevel g now r new → r ≡ Err e
+      → Awaits kind Trees.none all old now
       → UntouchedUnlessFailed g old.sink e new.sink
   list_untouched kind all old now new r e h i a =
       subst (λ v. IfErr v (λ m. UntouchedUnlessFailed g old.sink m new.sink)) i
