@@ -5,6 +5,7 @@ ghost use Rattle.der_signers.specs.Reason.{IsReason, IsReasonAt, IsReasonWithout
 use crate::outcome::Refusal;
 use der_cms::ContentType;
 use der_program_base::Line;
+use der_read::path_by_numbers;
 use der_show::push_object_identifier;
 use picky_asn1_der::DecodeError;
 use std::alloc::{AllocError, Global};
@@ -40,8 +41,9 @@ fn reason_at(
     ensures { IfOk result (IsReasonAt bytes.now error) }
 {
     let found = der_show::reason_of(alloc, bytes, error)?;
+    let path = path_by_numbers(alloc, bytes, found.offset)?;
     let mut line = Line::new(alloc);
-    write!(line, "{thing}: {found}")?;
+    write!(line, "{thing}: {found}{path}")?;
     let text = line.into_string();
     Ok(Reason {
         offset: Some(found.offset),
