@@ -1,19 +1,13 @@
 //! Contents from JSON.
 
 use crate::FromJsonError;
-use crate::contents::plain_tag;
 use crate::decimal::integer_octets;
 use der_schema::{Item, Kind};
 use der_types::{Contents, ObjectIdentifier, RelativeOid};
-use picky_der_core::Length;
 use picky_der_core::asn1::Tag;
+use picky_der_core::misc::Length;
 use serde_json::Value;
 use std::alloc::Global;
-
-// The tag of values of a kind without parts.
-pub(crate) fn plain_tag_of(kind: Kind) -> Option<Tag> {
-    plain_tag(kind)
-}
 
 // Appends an element.
 pub(crate) fn push_element(

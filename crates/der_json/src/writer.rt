@@ -1,7 +1,8 @@
 //! Values from JSON.
 
 use crate::FromJsonError;
-use crate::octets::{content_octets, hexadecimal_octets, plain_tag_of, push_element, push_plain};
+use crate::contents::plain_tag;
+use crate::octets::{content_octets, hexadecimal_octets, push_element, push_plain};
 use der_path::first_element;
 use der_schema::{Alternative, DefaultValue, Kind, Member, Node, Presence};
 use picky_der_core::asn1::{Tag, Wrapper};
@@ -82,7 +83,7 @@ impl Writer {
                 Some(node) => self.push(Place { index: node, ..inner }, json, bytes),
                 None => {
                     let content = content_octets(self.alloc, kind, json, at.name)?;
-                    let Some(tag) = plain_tag_of(kind) else {
+                    let Some(tag) = plain_tag(kind) else {
                         return Err(FromJsonError::Schema);
                     };
                     push_plain(bytes, tag, at.has_header, &content)

@@ -1,11 +1,12 @@
-//! For each row on standard input, a type and bytes, writes the message in JSON to standard output, or why there is
-//! none.
+//! For each row on standard input, writes a line to standard output. A row is a type and bytes, whose JSON is written and
+//! has to be the bytes again, or a type and JSON, whose bytes are written. If there are none, the line says why.
 #![tactic(auto)]
 
-use der_fixtures::bytes_of;
-use der_json::to_json;
+use der_fixtures::{bytes_of, text_of};
+use der_json::{from_json, to_json};
 use der_schema::Schema;
 use der_schemas::{kerberos, pkix, x509};
+use serde_json::Value;
 use std::alloc::{AllocError, Global};
 use std::io;
 
@@ -27,11 +28,32 @@ fn line_of(alloc: Global, row: &str) -> Result<String, AllocError> {
     let Some(schema) = schema_of(name) else {
         return String::from_str(alloc, "no schema");
     };
-    let Ok(bytes) = bytes_of(alloc, text) else {
-        return String::from_str(alloc, "no bytes");
+    match bytes_of(alloc, text) {
+        Ok(bytes) => json_of(alloc, schema, &bytes),
+        Err(_) => bytes_of_json(alloc, schema, text),
+    }
+}
+
+// The JSON of a message, if its bytes come back.
+fn json_of(alloc: Global, schema: Schema, bytes: &[u8]) -> Result<String, AllocError> {
+    let value = match to_json(alloc, schema, bytes) {
+        Ok(value) => value,
+        Err(error) => return format!(in alloc; "{error}"),
     };
-    match to_json(alloc, schema, &bytes) {
-        Ok(value) => value.to_string(alloc),
+    match from_json(alloc, schema, &value) {
+        Ok(again) if again == bytes => value.to_string(alloc),
+        Ok(_) => String::from_str(alloc, "other bytes"),
+        Err(error) => format!(in alloc; "not back: {error}"),
+    }
+}
+
+// The bytes of a message in JSON.
+fn bytes_of_json(alloc: Global, schema: Schema, text: &str) -> Result<String, AllocError> {
+    let Ok(value) = Value::from_str(alloc, text) else {
+        return String::from_str(alloc, "no JSON");
+    };
+    match from_json(alloc, schema, &value) {
+        Ok(bytes) => text_of(alloc, &bytes),
         Err(error) => format!(in alloc; "{error}"),
     }
 }
