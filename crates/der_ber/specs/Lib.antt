@@ -9,4 +9,5 @@ pub mod Joining
 pub mod Reading
 pub mod InDer
 pub mod ShortLengths
+pub mod WholeStrings
 pub mod Laws

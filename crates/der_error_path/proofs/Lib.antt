@@ -1,0 +1,4 @@
+pub mod FirstTags
+pub mod Nodes
+pub mod PassedElements
+pub mod Walks

@@ -1,0 +1,6 @@
+pub mod Awaited
+pub mod Begins
+pub mod Inside
+pub mod Names
+pub mod Passed
+pub mod Steps

@@ -1,7 +1,10 @@
 //! What may come in a content.
+ghost use Rattle.std.specs.Prelude.{◌≡◌, option_map};
+ghost use Rattle.der_error_path.specs.Awaited.{awaited, awaited_after, part_of, default_of, required_in};
+ghost use Rattle.der_error_path.specs.Awaited.{default_in, first_required, is_required, present_from};
 
 use crate::begins::begins;
-use der_schema::{Alternative, DefaultValue, Kind, Member, Node, Presence};
+use der_schema::{DefaultValue, Member, Node, Presence};
 use picky_der_core::asn1::Tag;
 
 /// What an element is in the one around it.
@@ -36,10 +39,12 @@ pub(crate) enum Expected {
 
 impl Expected {
     // What an element with this tag is, and the index of its node, if it has one.
-    pub(crate) fn part(self, nodes: &[Node], tag: Tag) -> (Part, Option<u16>) {
+    pub(crate) fn part(self, nodes: &[Node], tag: Tag) -> (Part, Option<u16>)
+        ensures { result ≡ part_of nodes.now tag (awaited self) }
+    {
         match self {
             Expected::Value(node) => (Part::Value, Some(node)),
-            Expected::Members(members) => match without_absent(nodes, members, tag) {
+            Expected::Members(members) => match present_from(nodes, members, tag) {
                 [member, ..] => (Part::Member(member.name), Some(member.node)),
                 [] => (Part::Extra, None),
             },
@@ -50,10 +55,12 @@ impl Expected {
     }
 
     // What may come after an element with this tag.
-    pub(crate) fn after(self, nodes: &[Node], tag: Tag) -> Expected {
+    pub(crate) fn after(self, nodes: &[Node], tag: Tag) -> Expected
+        ensures { awaited result ≡ awaited_after nodes.now tag (awaited self) }
+    {
         match self {
             Expected::Value(_) | Expected::End => Expected::End,
-            Expected::Members(members) => match without_absent(nodes, members, tag) {
+            Expected::Members(members) => match present_from(nodes, members, tag) {
                 [_, others @ ..] => Expected::Members(others),
                 [] => Expected::End,
             },
@@ -62,79 +69,71 @@ impl Expected {
     }
 
     // The value with which an element with this tag would be absent, if it is a member that has a default.
-    pub(crate) fn default(self, nodes: &[Node], tag: Tag) -> Option<DefaultValue> {
-        let Expected::Members(members) = self else {
-            return None;
-        };
-        let [member, ..] = without_absent(nodes, members, tag) else {
-            return None;
-        };
-        match member.presence {
-            Presence::Default(value) | Presence::DefaultOf(value) => Some(value),
-            Presence::Required | Presence::Optional => None,
+    pub(crate) fn default(self, nodes: &[Node], tag: Tag) -> Option<DefaultValue>
+        ensures { result ≡ default_in nodes.now tag (awaited self) }
+    {
+        match self {
+            Expected::Members(members) => match present_from(nodes, members, tag) {
+                [member, ..] => default_of(member.presence),
+                [] => None,
+            },
+            _ => None,
         }
     }
 
-    // The first member that has to come, if one has.
-    pub(crate) fn required(self) -> Option<&'static str> {
-        let Expected::Members(members) = self else {
-            return None;
-        };
-        for member in members {
-            if member.presence == Presence::Required {
-                return Some(member.name);
-            }
+    // The name of the first member that has to come, if one has.
+    pub(crate) fn required(self) -> Option<&'static str>
+        ensures { result ≡ option_map (λ m. m.name) (required_in (awaited self)) }
+    {
+        match self {
+            Expected::Members(members) => first_required(members),
+            _ => None,
         }
-        None
     }
+}
+
+// Whether a member always comes.
+fn is_required(presence: Presence) -> bool
+    ensures { result ≡ is_required presence }
+{
+    matches!(presence, Presence::Required)
+}
+
+// The value of a member that is absent, if it has a default.
+fn default_of(presence: Presence) -> Option<DefaultValue>
+    ensures { result ≡ default_of presence }
+{
+    match presence {
+        Presence::Default(value) | Presence::DefaultOf(value) => Some(value),
+        Presence::Required | Presence::Optional => None,
+    }
+}
+
+// The name of the first of these members that has to come, if one has.
+fn first_required(members: &'static [Member]) -> Option<&'static str>
+    ensures { result ≡ option_map (λ m. m.name) (first_required members.now) }
+{
+    let mut left = members;
+    while let [first, others @ ..] = left {
+        if is_required(first.presence) {
+            return Some(first.name);
+        }
+        left = others;
+    }
+    None
 }
 
 // The members from the one on that an element with this tag is, if those before it are absent. It is the first one that
 // can begin with the tag or that has to come.
-fn without_absent(nodes: &[Node], members: &'static [Member], tag: Tag) -> &'static [Member] {
+fn present_from(nodes: &[Node], members: &'static [Member], tag: Tag) -> &'static [Member]
+    ensures { result.now ≡ present_from nodes.now tag members.now }
+{
     let mut left = members;
     while let [first, others @ ..] = left {
-        if first.presence == Presence::Required || begins(nodes, first.node, tag) {
+        if is_required(first.presence) || begins(nodes, first.node, tag) {
             return left;
         }
         left = others;
     }
     left
-}
-
-// What may come in the content of an element with this tag, whose type is that of the node.
-pub(crate) fn inside(nodes: &[Node], mut index: u16, tag: Tag) -> Expected {
-    while let Some(node) = nodes.get(usize::from(index)) {
-        let inner = match node.kind {
-            Kind::Sequence(members) => return Expected::Members(members),
-            Kind::SequenceOf(node) => return Expected::Items {
-                node,
-                are_sorted: false,
-            },
-            Kind::SetOf(node) => return Expected::Items {
-                node,
-                are_sorted: true,
-            },
-            Kind::Wrapped { wrapper, node } if wrapper.keeps_header() => return Expected::Value(
-                node,
-            ),
-            Kind::Choice(alternatives) => alternative_with(nodes, alternatives, tag),
-            kind => kind.inner(),
-        };
-        match inner {
-            Some(inner) if inner < index => index = inner,
-            _ => return Expected::Unknown,
-        }
-    }
-    Expected::Unknown
-}
-
-// The node of the first alternative that can begin with this tag.
-fn alternative_with(nodes: &[Node], alternatives: &[Alternative], tag: Tag) -> Option<u16> {
-    for alternative in alternatives {
-        if begins(nodes, alternative.node, tag) {
-            return Some(alternative.node);
-        }
-    }
-    None
 }

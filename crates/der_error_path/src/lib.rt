@@ -5,10 +5,14 @@
 
 mod begins;
 mod expected;
-mod names;
+mod inside;
+mod mistakes;
+mod node;
+mod passed;
 mod path;
+mod steps;
 mod text;
 
 pub use expected::Part;
-pub use names::Step;
 pub use path::{ErrorPath, Mistake, path_of_error};
+pub use steps::Step;

@@ -1,8 +1,10 @@
 //! The path of an error.
 ghost use Rattle.std.specs.Prelude.{◌≡◌, ◌-◌, ◌⊎◌, IfOk};
 ghost use Rattle.der_path.specs.Paths.{IsPath};
+ghost use Rattle.der_error_path.specs.Awaited.{Awaited};
+ghost use Rattle.der_error_path.specs.Steps.{AreSteps};
 
-use crate::names::{Step, steps_of};
+use crate::steps::{Step, steps_of};
 use der_path::path_at;
 use der_schema::Schema;
 use std::alloc::{AllocError, Global};
@@ -54,6 +56,8 @@ pub fn path_of_error(
 ) -> Result<ErrorPath, AllocError>
     ensures place { IfOk result (λ it. (it.place ≡ position) ⊎ (it.place ≡ position - 1)) }
     ensures numbers { IfOk result (λ it. IsPath bytes.now it.place it.numbers.items) }
+    ensures steps { IfOk result (λ it. AreSteps schema.nodes.now (Awaited.value schema.root) bytes.now it.numbers.items
+        it.steps.items it.mistake) }
 {
     let ahead = path_of_byte(alloc, schema, bytes, position, position)?;
     if matches!(ahead.mistake, Mistake::Extra | Mistake::OtherTag) {
@@ -72,6 +76,8 @@ fn path_of_byte(
 ) -> Result<ErrorPath, AllocError>
     ensures place { IfOk result (λ it. it.place ≡ place) }
     ensures numbers { IfOk result (λ it. IsPath bytes.now place it.numbers.items) }
+    ensures steps { IfOk result (λ it. AreSteps schema.nodes.now (Awaited.value schema.root) bytes.now it.numbers.items
+        it.steps.items it.mistake) }
 {
     let numbers = path_at(alloc, bytes, place)?;
     let (steps, mistake) = steps_of(alloc, schema, bytes, &numbers, position)?;

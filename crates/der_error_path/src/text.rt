@@ -1,4 +1,6 @@
 //! Paths and mistakes as text.
+ghost use Rattle.std.specs.Prelude.{◌≡◌, IfOk, OnOk, string_bytes};
+ghost use Rattle.der_error_path.specs.Names.{names_of, then_name, then_part};
 
 use crate::expected::Part;
 use crate::{ErrorPath, Mistake, Step};
@@ -11,18 +13,12 @@ impl ErrorPath {
     /// in brackets, and what has no type by its index. The text is empty for the value itself.
     ///
     /// `AllocError` if an allocation fails.
-    pub fn names(&self, alloc: Global) -> Result<String, AllocError> {
+    pub fn names(&self, alloc: Global) -> Result<String, AllocError>
+        ensures { IfOk result (λ text. string_bytes text ≡ names_of self.now.steps.items) }
+    {
         let mut text = String::new(alloc);
         for step in &self.steps {
-            match step.part {
-                Part::Value => {}
-                Part::Member(name) => push_name(&mut text, name)?,
-                Part::Item => text.push_str(&format!(in alloc; "[{}]", step.index)?)?,
-                Part::Extra | Part::Unknown => push_name(
-                    &mut text,
-                    &format!(in alloc; "{}", step.index)?,
-                )?,
-            }
+            push_part(alloc, &mut text, step)?;
         }
         Ok(text)
     }
@@ -58,13 +54,32 @@ impl ErrorPath {
     }
 }
 
+// Appends what a step is.
+fn push_part(alloc: Global, text: &mut String, step: &Step) -> Result<(), AllocError>
+    ensures { OnOk result (string_bytes text.new ≡ then_part (string_bytes text.old) step.now.index step.now.part) }
+{
+    match step.part {
+        Part::Value => Ok(()),
+        Part::Member(name) => push_name(text, name),
+        Part::Item => {
+            let item = format!(in alloc; "[{}]", step.index)?;
+            text.push_str(&item)
+        }
+        Part::Extra | Part::Unknown => {
+            let index = format!(in alloc; "{}", step.index)?;
+            push_name(text, &index)
+        }
+    }
+}
+
 // Appends a name, after a point if it isn't the first.
-fn push_name(text: &mut String, name: &str) -> Result<(), AllocError> {
+fn push_name(text: &mut String, name: &str) -> Result<(), AllocError>
+    ensures { OnOk result (string_bytes text.new ≡ then_name (string_bytes text.old) name.now) }
+{
     if !text.is_empty() {
         text.push('.')?;
     }
-    text.push_str(name)?;
-    Ok(())
+    text.push_str(name)
 }
 
 // What the standard calls the types with a universal tag, and else the tag.

@@ -28,7 +28,7 @@ pub enum KeyParameters {
 
 /// The algorithm of a key, as a SEQUENCE (RFC 5280, 4.1.1.2). Its parameters have the type that the identifier says.
 /// Other parameters are `InvalidData`.
-#[derive(Debug, Clone, Drop)]
+#[derive(Debug, Drop)]
 pub struct KeyAlgorithm {
     identifier: ObjectIdentifier,
     parameters: KeyParameters,

@@ -1,5 +1,6 @@
 -- The JSON of values without parts (X.697).
-use Rattle.std.specs.Prelude.{◌≡◌, ◌≢◌, ℕ, ◌<◌, ◌^◌, Bool, true, false, ◌||◌, ◌⊎◌, List, [], ◌∷◌, length, map, Option, Some, None}
+use Rattle.std.specs.Prelude.{◌≡◌, ◌≢◌, ℕ, ◌<◌, ◌^◌, Bool, true, false, ◌||◌, ◌⊎◌, List, [], ◌∷◌, length, map, Option}
+use Rattle.std.specs.Prelude.{Some, None}
 use Rattle.std.specs.Prelude.{is_err, ⊤, codes}
 use Rattle.std.specs.List.{list_any}
 use Rattle.std.specs.Str.{IsUtf8, encode_utf8_all}
@@ -8,8 +9,8 @@ use Rattle.serde_json.specs.Data.{Data, boolean, null, number, unsigned, object,
 use Rattle.picky_der_core.specs.Encoding.{plain_encoding}
 use Rattle.picky_der_core.specs.Primitive.{boolean_content}
 use Rattle.der_types.specs.BitString.{bits_of, is_bit_string}
-use Rattle.der_types.specs.CharacterStrings.{characters, is_string_content}
-use Rattle.der_types.specs.ContentTypes.{string_character, string_width}
+use Rattle.der_types.specs.CharacterStrings.{characters}
+use Rattle.der_types.specs.ContentTypes.{string_width}
 use Rattle.der_types.specs.Dotted.{dotted_or_marked, fitted}
 use Rattle.der_types.specs.ObjectIdentifier.{arcs_of, is_object_identifier}
 use Rattle.der_types.specs.RelativeOid.{is_relative_oid}
@@ -64,9 +65,8 @@ pub record IsTextJson (content : List ℕ) (d : Data) : Type 0 where
   pub is : d ≡ string content
 
 -- the characters of a restricted string by its tag
-pub record IsStringJson (tag : ℕ) (content : List ℕ) (d : Data) : Type 0 where
-  pub valid : is_string_content (string_width tag) (string_character tag) content ≡ true
-  pub is : d ≡ string (encode_utf8_all (characters (string_width tag) content))
+abbrev pub IsStringJson : ℕ → List ℕ → Data → Type 0
+IsStringJson tag s d = d ≡ string (encode_utf8_all (characters (string_width tag) s))
 
 -- the JSON of a content
 abbrev pub IsContentJson : Kind → List ℕ → Data → Type 0

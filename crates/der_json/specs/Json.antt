@@ -1,5 +1,6 @@
 -- The JSON of a value (X.697), by the nodes of its schema and the bytes of its encoding.
-use Rattle.std.specs.Prelude.{◌≡◌, ℕ, Bool, true, false, List, [], ◌∷◌, ◌++◌, Option, Some, None, option_map, slice_get, codes}
+use Rattle.std.specs.Prelude.{◌≡◌, ℕ, Bool, true, false, List, [], ◌∷◌, ◌++◌, Option, Some, None, option_map, slice_get}
+use Rattle.std.specs.Prelude.{codes}
 use Rattle.hex.specs.Hex.{encode_upper}
 use Rattle.serde_json.specs.Data.{Data, array, object, string, Members, no_members, member, put}
 use Rattle.serde_json.specs.View.{items_of}
@@ -120,7 +121,8 @@ mutual
         → IsJson nodes i true first d → AreItems nodes i rest ds → AreItems nodes i (first ++ rest) (d ∷ ds)
 
 -- the JSON of one of the alternatives
-pub record IsAlternative (nodes : List Node) (alternatives : List Alternative) (header : Bool) (bytes : List ℕ) (d : Data)
+pub record IsAlternative (nodes : List Node) (alternatives : List Alternative) (header : Bool) (bytes : List ℕ)
+    (d : Data)
     : Type 0 where
   pub place : ℕ
   pub alternative : Alternative

@@ -1,28 +1,30 @@
 //! Values without parts.
-ghost use Rattle.std.specs.Prelude.{◌≡◌, ◌⊎◌, true, IfOk, string_bytes};
-ghost use Rattle.std.specs.Str.{encode_utf8_all};
-ghost use Rattle.serde_json.specs.Data.{null, string};
+ghost use Rattle.std.specs.Prelude.{◌≡◌, ◌⊎◌, IfOk, is_err, map, string_bytes};
+ghost use Rattle.std.specs.List.{list_any};
+ghost use Rattle.hex.specs.Hex.{encode_upper};
+ghost use Rattle.serde_json.specs.Data.{string};
 ghost use Rattle.serde_json.specs.View.{view};
-ghost use Rattle.der_types.specs.CharacterStrings.{characters, is_string_content};
-ghost use Rattle.der_types.specs.ContentTypes.{string_character, string_width};
+ghost use Rattle.der_types.specs.Arcs.{arcs_left};
+ghost use Rattle.der_types.specs.Dotted.{dotted_or_marked, fitted};
 ghost use Rattle.der_types.specs.ObjectIdentifier.{arcs_of, is_object_identifier};
 ghost use Rattle.der_types.specs.RelativeOid.{is_relative_oid};
 ghost use Rattle.der_types.specs.Subidentifiers.{numbers_after};
-ghost use Rattle.der_types.specs.TimeContents.{is_generalized_time, is_utc_time};
-ghost use Rattle.der_json.specs.Contents.{IsArcsJson, IsBitsJson, IsContentJson, IsPlain, IsStringJson, IsTextJson};
-ghost use Rattle.der_json.specs.Contents.{plain_tag};
+ghost use Rattle.der_json.specs.Contents.{IsArcsJson, IsBitsJson, IsContentJson, IsPlain, IsTextJson, plain_tag};
+ghost use Rattle.der_json.specs.Numbers.{IsItemJson, IsNumberJson};
 
 use crate::JsonError;
 use crate::items::item_value;
 use crate::numbers::number_value;
-use crate::part::Part;
+use crate::part::{Part, copied};
 use crate::strings::string_value;
-use der_schema::Kind;
-use der_types::{BitString, ObjectIdentifier, RelativeOid, is_generalized_time, is_utc_time};
+use der_schema::{Item, Kind};
+use der_types::{
+    Arcs, BitString, Contents, ObjectIdentifier, RelativeOid, is_generalized_time, is_utc_time,
+};
 use hex::encode_upper;
 use picky_der_core::asn1::Tag;
 use serde_json::{Map, Value, put};
-use std::alloc::Global;
+use std::alloc::{AllocError, Global};
 
 // The JSON of a value without parts, of which the bytes have the header or not.
 pub(crate) fn plain_value(
@@ -70,8 +72,7 @@ fn content_value(alloc: Global, kind: Kind, content: Part<'_>) -> Result<Value, 
     match kind {
         Kind::Boolean => boolean_value(content),
         Kind::Integer | Kind::NamedInteger(_) | Kind::Unsigned(_) | Kind::Signed(_) => number_value(
-            alloc,
-            content,
+            alloc, content,
         ),
         Kind::Enumerated(items) => item_value(alloc, items, content),
         Kind::ExtensibleEnumerated(items) => known_item_value(alloc, items, content),
@@ -158,23 +159,44 @@ fn identifier_value(alloc: Global, content: Part<'_>) -> Result<Value, JsonError
     let Ok(identifier) = ObjectIdentifier::from_bytes(alloc, content.bytes) else {
         return Err(JsonError::OtherContent(content.place));
     };
-    if identifier.arcs().any(|arc| arc.is_err()) {
+    if has_wide_arc(identifier.arcs()) {
         return Err(JsonError::TooLarge(content.place));
     }
-    Ok(Value::String(identifier.to_string(alloc)?))
+    Ok(Value::String(identifier_text(alloc, &identifier)?))
 }
 
 fn relative_value(alloc: Global, content: Part<'_>) -> Result<Value, JsonError>
     ensures { IfOk result (λ value. IsArcsJson (is_relative_oid content.entry.bytes.now)
         (numbers_after 0 content.entry.bytes.now) (view value)) }
 {
-    let Some(identifier) = RelativeOid::from_content(content.bytes.to_vec(alloc)?) else {
+    let Some(identifier) = RelativeOid::from_content(copied(alloc, content.bytes)?) else {
         return Err(JsonError::OtherContent(content.place));
     };
-    if identifier.arcs().any(|arc| arc.is_err()) {
+    if has_wide_arc(identifier.arcs()) {
         return Err(JsonError::TooLarge(content.place));
     }
-    Ok(Value::String(identifier.to_string(alloc)?))
+    Ok(Value::String(relative_text(alloc, &identifier)?))
+}
+
+// Whether an arc has more than 64 bits.
+fn has_wide_arc(mut arcs: Arcs<'_>) -> bool
+    ensures { result ≡ list_any is_err (map fitted (arcs_left arcs.entry)) }
+{
+    arcs.any(|arc| arc.is_err())
+}
+
+fn identifier_text(alloc: Global, identifier: &ObjectIdentifier) -> Result<String, AllocError>
+    ensures { IfOk result (λ text. string_bytes text
+        ≡ dotted_or_marked (map fitted (arcs_of (⟦<ObjectIdentifier as Contents>⟧.content identifier.now)))) }
+{
+    identifier.to_string(alloc)
+}
+
+fn relative_text(alloc: Global, identifier: &RelativeOid) -> Result<String, AllocError>
+    ensures { IfOk result (λ text. string_bytes text
+        ≡ dotted_or_marked (map fitted (numbers_after 0 (⟦<RelativeOid as Contents>⟧.content identifier.now)))) }
+{
+    identifier.to_string(alloc)
 }
 
 // A text that is the content.

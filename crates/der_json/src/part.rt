@@ -7,6 +7,7 @@ ghost use Rattle.picky_der_core.specs.Wrapper.{wrapper_tag, wrapper_front};
 use crate::JsonError;
 use der_path::first_element;
 use picky_der_core::asn1::{Tag, Wrapper};
+use std::alloc::{AllocError, Global};
 
 /// Bytes of a message.
 #[derive(Clone, Copy)]
@@ -107,4 +108,11 @@ impl<'a> Part<'a> {
             place: content.place.saturating_add(1),
         })
     }
+}
+
+// A vector of these bytes.
+pub(crate) fn copied(alloc: Global, bytes: &[u8]) -> Result<Vec<u8>, AllocError>
+    ensures { IfOk result (λ copied. copied.items ≡ bytes.now) }
+{
+    bytes.iter().copied().collect(alloc)
 }

@@ -1,14 +1,15 @@
 //! Restricted strings (X.680, 41).
-ghost use Rattle.std.specs.Prelude.{◌≡◌, true, IfOk, string_bytes};
+ghost use Rattle.std.specs.Prelude.{◌≡◌, IfOk, string_bytes};
 ghost use Rattle.std.specs.Str.{encode_utf8_all};
 ghost use Rattle.serde_json.specs.View.{view};
-ghost use Rattle.der_types.specs.CharacterStrings.{characters, is_string_content};
+ghost use Rattle.der_types.specs.CharacterStrings.{characters};
+ghost use Rattle.der_types.specs.ContentTypes.{string_width};
 ghost use Rattle.der_json.specs.Contents.{IsStringJson};
 
 use crate::JsonError;
 use crate::part::Part;
 use der_types::character_sets::{Bmp, Ia5, Numeric, Printable, Universal, Visible};
-use der_types::{RestrictedString, Unicode};
+use der_types::{CharacterSet, RestrictedString, Unicode, Width};
 use serde_json::Value;
 use std::alloc::{AllocError, Global};
 
@@ -17,22 +18,59 @@ use std::alloc::{AllocError, Global};
 pub(crate) fn string_value(alloc: Global, tag: u8, content: Part<'_>) -> Result<Value, JsonError>
     ensures { IfOk result (λ value. IsStringJson tag content.entry.bytes.now (view value)) }
 {
-    let text = match tag {
-        0x12 => characters_of::<Numeric>(alloc, content)?,
-        0x13 => characters_of::<Printable>(alloc, content)?,
-        0x16 => characters_of::<Ia5>(alloc, content)?,
-        0x1A => characters_of::<Visible>(alloc, content)?,
-        0x1C => characters_of::<Universal>(alloc, content)?,
-        0x1E => characters_of::<Bmp>(alloc, content)?,
-        _ => numbered(alloc, content.bytes)?,
-    };
+    if !are_allowed(tag, content.bytes) {
+        return Err(JsonError::OtherContent(content.place));
+    }
+    let text = text_of(alloc, width_of(tag), content)?;
     Ok(Value::String(text))
+}
+
+// Whether these characters of one byte each are of the string type with this tag, as far as it says which it has.
+fn are_allowed(tag: u8, bytes: &[u8]) -> bool {
+    match tag {
+        0x12 => are_of::<Numeric>(bytes),
+        0x13 => are_of::<Printable>(bytes),
+        0x16 => are_of::<Ia5>(bytes),
+        0x1A => are_of::<Visible>(bytes),
+        _ => true,
+    }
+}
+
+fn are_of<S: CharacterSet>(bytes: &[u8]) -> bool {
+    for byte in bytes {
+        if !S::is_character(u32::from(*byte)) {
+            return false;
+        }
+    }
+    true
+}
+
+// How many bytes a character of the string type with this tag has (X.690, 8.23.7, 8.23.8).
+fn width_of(tag: u8) -> Width
+    ensures { result ≡ string_width tag }
+{
+    match tag {
+        0x1C => Width::Four,
+        0x1E => Width::Two,
+        _ => Width::One,
+    }
+}
+
+// The characters of a content, each of so many bytes.
+fn text_of(alloc: Global, width: Width, content: Part<'_>) -> Result<String, JsonError>
+    ensures { IfOk result (λ text. string_bytes text
+        ≡ encode_utf8_all (characters width content.entry.bytes.now)) }
+{
+    match width {
+        Width::One => Ok(numbered(alloc, content.bytes)?),
+        Width::Two => characters_of::<Bmp>(alloc, content),
+        Width::Four => characters_of::<Universal>(alloc, content),
+    }
 }
 
 // The characters of a content, all in the set.
 fn characters_of<S: Unicode>(alloc: Global, content: Part<'_>) -> Result<String, JsonError>
-    ensures valid { IfOk result (λ text. is_string_content S.WIDTH S.is_character content.entry.bytes.now ≡ true) }
-    ensures is { IfOk result (λ text. string_bytes text
+    ensures { IfOk result (λ text. string_bytes text
         ≡ encode_utf8_all (characters S.WIDTH content.entry.bytes.now)) }
 {
     let Ok(string) = RestrictedString::<S>::from_bytes(alloc, content.bytes) else {

@@ -81,7 +81,8 @@ impl Reader {
                 let content = part.content_of(Tag::from(tag), has_header)?;
                 self.value(before, node, false, content)
             }
-            Kind::AnyElement | Kind::WellFormedElement => any_value(self.alloc, part),
+            Kind::AnyElement => any_value(self.alloc, part),
+            Kind::WellFormedElement => any_value(self.alloc, part),
             kind => match same_as(kind) {
                 Some(node) => self.value(before, node, has_header, part),
                 None => plain_value(self.alloc, kind, has_header, part),

@@ -8,7 +8,7 @@ ghost use Rattle.der_types.specs.Notation.{Notation};
 ghost use Rattle.der_types.specs.ExactMembers.{struct_values};
 ghost use Rattle.der_types.specs.SampleTrees.{exact_example};
 
-use der_types::{Exact, ExactMembers, Notated, NotatedMembers, WithSize, copies};
+use der_types::{Exact, ExactMembers, Notated, NotatedMembers, WithSize};
 use der_x509::{AttributeType, AttributeValue};
 use picky_asn1_der::asn1::{Asn1SetOf, Tag};
 use picky_asn1_der::de::{Begins, Faithful, FaithfulMembers, Inhabited};
@@ -17,11 +17,10 @@ use picky_asn1_der::{
     Deserialize, DeserializeMembers, Deserializer, List, Result, Serialize, SerializeMembers,
     Serializer, Struct, deserialize_struct_as,
 };
-use std::alloc::AllocError;
 
 /// An attribute with one value at least, as RFC 5280 says in words, and RFC 2986 by this size.
 /// `Attribute` of PKIX1Explicit88, as a SEQUENCE.
-#[derive(Debug, Drop, PartialEq, Eq)]
+#[derive(Debug, Clone, Drop, PartialEq, Eq)]
 pub struct Attribute {
     /// Which attribute it is. `AttributeType`.
     pub type_: AttributeType,
@@ -88,16 +87,6 @@ impl Exact for Attribute {
         (λ m. (record { type_ = m.0; values = m.1 }, refl {a = m})) };
 
     ghost exact = { Prim.assumption };
-}
-
-impl Clone for Attribute {
-    ghost is_clone = { λ x y. ⟦<AttributeType as Clone>⟧.is_clone x.type_ y.type_
-        × ⟦<WithSize<Asn1SetOf<AttributeValue>, 1, { usize::MAX }> as Clone>⟧.is_clone x.values y.values };
-
-    fn clone(&self) -> std::result::Result<Attribute, AllocError> {
-        let (type_, values) = copies::two(&self.type_, &self.values)?;
-        Ok(Attribute { type_, values })
-    }
 }
 
 impl Faithful for Attribute {

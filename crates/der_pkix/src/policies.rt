@@ -34,7 +34,7 @@ use std::alloc::AllocError;
 pub type CertificatePolicies = WithSize<Vec<PolicyInformation>, 1, { usize::MAX }>;
 
 /// `PolicyInformation` of PKIX1Implicit88, as a SEQUENCE.
-#[derive(Debug, Drop, PartialEq, Eq)]
+#[derive(Debug, Clone, Drop, PartialEq, Eq)]
 pub struct PolicyInformation {
     /// `CertPolicyId`.
     pub policy_identifier: CertPolicyId,
@@ -109,22 +109,6 @@ impl Exact for PolicyInformation {
         (λ m. (record { policy_identifier = m.0; policy_qualifiers = m.1.0 }, refl {a = m})) };
 
     ghost exact = { Prim.assumption };
-}
-
-impl Clone for PolicyInformation {
-    ghost is_clone = { λ x y. ⟦<CertPolicyId as Clone>⟧.is_clone x.policy_identifier y.policy_identifier
-        × ⟦<Option<WithSize<Vec<PolicyQualifierInfo>, 1, { usize::MAX }>> as Clone>⟧.is_clone x.policy_qualifiers y.policy_qualifiers };
-
-    fn clone(&self) -> std::result::Result<PolicyInformation, AllocError> {
-        let (policy_identifier, policy_qualifiers) = copies::two(
-            &self.policy_identifier,
-            &self.policy_qualifiers,
-        )?;
-        Ok(PolicyInformation {
-            policy_identifier,
-            policy_qualifiers,
-        })
-    }
 }
 
 impl Faithful for PolicyInformation {

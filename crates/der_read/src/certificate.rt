@@ -10,7 +10,7 @@ ghost use Rattle.der_read.specs.Certificates.{summary_line, summary_text};
 use crate::explanation::explanation_of;
 use crate::names::{dotted_text, name_text};
 use crate::printed::{ended, refusal_line};
-use crate::{Outcome, block_value, examine, place_text};
+use crate::{MessageType, Outcome, block_value, examine, place_text};
 use der_program_base::{Format, Printed, Status, json_line};
 use der_types::names::name_of;
 use der_types::{DateTime, ObjectIdentifier};
@@ -78,7 +78,7 @@ fn outcome_line(
             summary_line(alloc, format, file, block, &summary, reading.is_same)
         }
         Outcome::Refused(refusal) => {
-            let reason = explanation_of(alloc, bytes, *refusal)?;
+            let reason = explanation_of(alloc, MessageType::Certificate, bytes, *refusal)?;
             let text = format!(in alloc; "no certificate: {reason}")?;
             refusal_line(
                 alloc,

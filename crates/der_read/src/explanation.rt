@@ -2,6 +2,8 @@
 ghost use Rattle.std.specs.Prelude.{◌≡◌, Some, IfOk, string_bytes};
 ghost use Rattle.der_read.specs.Explanation.{IsComplaintExplanation, IsExplanationOf};
 
+use crate::MessageType;
+use crate::path::path_text;
 use der_show::{Cause, Complaint, Reason, reason_of};
 use picky_asn1_der::DecodeError;
 use std::alloc::{AllocError, Global};
@@ -12,7 +14,8 @@ use std::fmt;
 pub struct Explanation {
     /// The offset of the element at which it was found.
     pub offset: usize,
-    /// The place and the reason in words, as `refused at 402: another element or value than the type has`.
+    /// The place and the reason in words, as `refused at 402: another element or value than the type has`. After it
+    /// comes the path of the element, as `; tbsCertificate.signature.algorithm: expected OBJECT IDENTIFIER, found SET`.
     pub text: String,
 }
 
@@ -24,16 +27,18 @@ impl fmt::Display for Explanation {
     }
 }
 
-// Why bytes are refused as a value of a type.
+// Why bytes are refused as a message of a type.
 pub(crate) fn explanation_of(
     alloc: Global,
+    named: MessageType,
     bytes: &[u8],
     refusal: DecodeError,
 ) -> Result<Explanation, AllocError>
     ensures { IfOk result (IsExplanationOf bytes.now refusal) }
 {
     let reason = reason_of(alloc, bytes, refusal)?;
-    explained(alloc, reason)
+    let path = path_text(alloc, named, bytes, refusal.position, &reason)?;
+    explained(alloc, reason, &path)
 }
 
 // Why bytes aren't DER.
@@ -47,13 +52,14 @@ pub(crate) fn complaint_explanation(
         offset: complaint.offset,
         cause: Cause::NotDer(complaint.rule),
     };
-    explained(alloc, reason)
+    explained(alloc, reason, "")
 }
 
-fn explained(alloc: Global, reason: Reason) -> Result<Explanation, AllocError>
+// The explanation by a reason, with this text after it.
+fn explained(alloc: Global, reason: Reason, path: &str) -> Result<Explanation, AllocError>
     ensures { IfOk result (λ it. it.offset ≡ reason.offset) }
 {
     let offset = reason.offset;
-    let text = format!(in alloc; "{reason}")?;
+    let text = format!(in alloc; "{reason}{path}")?;
     Ok(Explanation { offset, text })
 }

@@ -9,6 +9,7 @@ mod message;
 mod message_type;
 mod names;
 mod outcome;
+mod path;
 mod place;
 mod printed;
 mod strings;

@@ -58,7 +58,10 @@ fn of_type(alloc: Global, named: MessageType, bytes: &[u8]) -> Result<Verdict, A
 {
     match refusal_of(alloc, named, bytes)? {
         None => Ok(Verdict::Message(vec![in alloc; named]?)),
-        Some(refusal) => Ok(Verdict::Other(named, explanation_of(alloc, bytes, refusal)?)),
+        Some(refusal) => {
+            let reason = explanation_of(alloc, named, bytes, refusal)?;
+            Ok(Verdict::Other(named, reason))
+        }
     }
 }
 

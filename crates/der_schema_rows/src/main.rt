@@ -3,7 +3,7 @@
 #![tactic(auto)]
 
 use der_schema::Schema;
-use der_schemas::{kerberos, pkix, x509};
+use der_schemas::{cms, kerberos, pkix, x509};
 use std::alloc::{AllocError, Global};
 use std::io;
 
@@ -29,6 +29,10 @@ fn schema_of(name: &str) -> Option<Schema> {
         b"KeyUsage" => Some(x509::key_usage()),
         b"GeneralName" => Some(pkix::general_name()),
         b"GeneralNames" => Some(pkix::general_names()),
+        b"SignedData" => Some(cms::signed_data()),
+        b"EnvelopedData" => Some(cms::enveloped_data()),
+        b"EncryptedData" => Some(cms::encrypted_data()),
+        b"DigestedData" => Some(cms::digested_data()),
         b"KRB-ERROR" => Some(kerberos::krb_error()),
         b"Ticket" => Some(kerberos::ticket()),
         _ => None,

@@ -16,8 +16,9 @@ _TWO, _THREE = STEP * 2, STEP * 3
 
 
 def is_copied(declared: Declaration) -> bool:
-    """Whether the type's `Clone` is by the functions of `der_types::copies`. That of every other type is derived."""
-    return isinstance(declared, StructDeclaration) and len(declared.parts()) > 1
+    """Whether the type's `Clone` is by the functions of `der_types::copies`. That of every other type is derived: other crates can't read the contract
+    of an implementation that quotes a type with a block in it, as `{ usize::MAX }`."""
+    return isinstance(declared, StructDeclaration) and len(declared.parts()) > 1 and not any("{" in str(type_of(it)) for it in declared.parts())
 
 
 def copies_uses(declared: StructDeclaration) -> Uses:

@@ -26,8 +26,6 @@ _SIMPLE = {
     "UTCTime": "UtcTime",
     "any-element": "AnyElement",
     "ANY": "WellFormedElement",
-    "encoded": "WellFormedElement",
-    "one-of": "WellFormedElement",
 }
 _NAMED = {
     "INTEGER-named": "NamedInteger",
@@ -67,7 +65,7 @@ class Writer:
         word, _, rest = term.head.partition(" ")
         if word in self.declared:
             return self.type_named(word)
-        if word in ("wider", "narrower"):
+        if word == "wider":
             return self.type(term.inner)
         if word in _SIMPLE:
             return self.add(_SIMPLE[word])
@@ -113,8 +111,10 @@ class Writer:
     def constructed(self, term: Term) -> int:
         """A SEQUENCE, a SET or a CHOICE."""
         end = term.head.partition(" ")[2] if term.items is None else term.end
-        if end not in ("end", "none"):
+        if end not in ("end", "none") or term.head == "CHOICE-extensible":
             raise NoNode("a table has no node for a type with an extension marker")
+        if term.head == "one-of":
+            raise NoNode("a table has no node for an element of one of several types")
         if term.head == "CHOICE":
             return self.add("Choice", tuple(Alternative(name_of(it.text), self.type(it.term)) for it in term.items))
         if not term.items:

@@ -55,7 +55,14 @@ PRINTED = [
 ]
 
 # types that a table has no node for
-WITHOUT = ["SEQUENCE { a NULL, ... }", "SEQUENCE { a NULL, ..., b NULL }", "SEQUENCE OF SEQUENCE { ... }"]
+WITHOUT = [
+    "SEQUENCE { a NULL, ... }",
+    "SEQUENCE { a NULL, ..., b NULL }",
+    "SEQUENCE OF SEQUENCE { ... }",
+    "CHOICE { a NULL, ... }",
+    'IA5String ("a" | "b")',
+    "SEQUENCE { a NULL OPTIONAL, b BOOLEAN OPTIONAL } (WITH COMPONENTS { ..., a PRESENT } | WITH COMPONENTS { ..., b PRESENT })",
+]
 
 # a type, and another one in place of a part of its printed table
 ALTERED = [
@@ -165,11 +172,16 @@ class Agreeing(unittest.TestCase):
     def test_each_stored_table(self):
         modules = [found for path in sorted(MODULES.glob("*.asn1")) for found in read_file(str(path), Problems())]
         program = Program(modules, Problems())
-        homes = {"x509": ["PKIX1Explicit88", "PKIX1Implicit88"], "kerberos": ["KerberosV5Spec2"], "pkix": ["PKIX1Explicit88", "PKIX1Implicit88"]}
+        homes = {
+            "x509": ["PKIX1Explicit88", "PKIX1Implicit88"], "kerberos": ["KerberosV5Spec2"], "pkix": ["PKIX1Explicit88", "PKIX1Implicit88"],
+            "cms": ["PKIX1Explicit88", "CryptographicMessageSyntax2004"],
+        }
         self.assertEqual(sorted(homes), sorted(it.stem for it in TABLES.glob("*.rt") if it.stem != "lib"))
         for stem, owners in homes.items():
             table = read_table((TABLES / f"{stem}.rt").read_text(encoding="utf-8"))
             own = {it.name: module.name for module in modules if module.name in owners for it in module.assignments}
+            if stem == "cms":
+                own["Attribute"] = "CryptographicMessageSyntax2004"  # PKIX1Explicit88 has another one
             self.assertGreater(self.check(table, program, {(own[it.name], it.name): it.name for it in table.nodes if it.name}), 0)
 
     def test_each_type_of_the_messages(self):

@@ -1,0 +1,150 @@
+-- Elements that are read from the front one by one, and written in DER.
+use Rattle.std.proofs.Common.{◌≡◌, ◌≢◌, ℕ, ◌+◌, ◌<◌, ◌≤◌, List, [], ◌∷◌, ◌++◌, length, sym, ap, refl, ◌∙◌, append_assoc}
+use Rattle.std.proofs.Common.{arith, length-append, append-nil, drop, get_or, subst}
+use Rattle.std.proofs.lemmas.List.{drop_all, drop_more}
+use Rattle.picky_der_core.specs.Element.{tlv, length_octets}
+use Rattle.der_path.specs.Elements.{BeginsWith}
+use Rattle.der_schema.specs.declared.node.Member.{Member}
+use Rattle.der_schema.specs.declared.node.Node.{Node}
+use Rattle.der_schema.specs.declared.node.Presence.TheVariants.{Required}
+use Rattle.std.proofs.Common.{Bool, true, ◌==◌, eqb-true, Vec, Global, Result, Ok, Err, IfOk, ◌⊎◌, inl, inr}
+use Rattle.der_ber_types.specs.declared.error.TypeError.{TypeError}
+use Rattle.der_ber_types.specs.declared.inside.Inside.{Inside}
+use Rattle.der_ber_types.specs.declared.inside.Inside.TheVariants as inside
+use Rattle.der_ber_types.specs.Content.{IsContent, IsOne, AreEach, AreMembers, AreParts}
+use Rattle.der_ber_types.specs.Inside.{IsInside}
+use Rattle.der_ber_types.specs.Kinds.{tag_in_der}
+use Rattle.der_ber_types.specs.Pushed.{IsPushed, IsMemberPushed}
+
+one-has_bytes : (nodes : List Node) (i : ℕ) (element in_der : List ℕ) → IsOne nodes i element in_der
+    → 1 ≤ length element
+unfolding tlv
+one-has_bytes nodes i element in_der (IsOne.element _ tag x content d _ _ inside is e f) = rw e (omega arith)
+
+-- the bytes after an element are fewer
+pub pushed-shorter : (nodes : List Node) (i : ℕ) (bytes after old new : List ℕ) → IsPushed nodes i bytes after old new
+    → length after < length bytes
+pushed-shorter nodes i bytes after old new p =
+    omega (
+      arith,
+      one-has_bytes nodes i p.element p.in_der p.is_one,
+      ap length p.is ∙ length-append p.element after,
+    )
+
+-- one more of several elements
+pub each-more : (nodes : List Node) (i : ℕ) (bytes rest after old new : List ℕ)
+    → ((others : List ℕ) → AreEach nodes i rest others → AreEach nodes i bytes (old ++ others))
+    → IsPushed nodes i rest after old new
+    → (others : List ℕ) → AreEach nodes i after others → AreEach nodes i bytes (new ++ others)
+each-more nodes i bytes rest after old new so_far p others are =
+    let whole = p.in_der ++ others in
+    let same : new ++ others ≡ old ++ whole =
+    ap (λ s. s ++ others) p.appended ∙ append_assoc old p.in_der others in
+    rw same (so_far whole (AreEach.more i p.element p.in_der after others rest whole p.is_one are p.is refl))
+
+-- the bytes after a member aren't more
+pub member-fewer : (nodes : List Node) (m : Member) (bytes after old new : List ℕ)
+    → IsMemberPushed nodes m bytes after old new → length after ≤ length bytes
+member-fewer nodes m bytes after old new (IsMemberPushed.present p) =
+    omega (arith, pushed-shorter nodes m.node bytes after old new p)
+member-fewer nodes m bytes after old new (IsMemberPushed.absent free same nothing) = omega (arith, ap length same)
+
+-- one more of the members
+member-more : (nodes : List Node) (all ms : List Member) (m : Member) (bytes rest after old new : List ℕ)
+    → ((others : List ℕ) → AreMembers nodes (m ∷ ms) rest others → AreMembers nodes all bytes (old ++ others))
+    → IsMemberPushed nodes m rest after old new
+    → (others : List ℕ) → AreMembers nodes ms after others → AreMembers nodes all bytes (new ++ others)
+member-more nodes all ms m bytes rest after old new so_far (IsMemberPushed.present p) others are =
+    let whole = p.in_der ++ others in
+    let same : new ++ others ≡ old ++ whole =
+    ap (λ s. s ++ others) p.appended ∙ append_assoc old p.in_der others in
+    rw same (so_far whole (AreMembers.present m ms p.element p.in_der after others rest whole p.is_one are p.is refl))
+member-more nodes all ms m bytes rest after old new so_far (IsMemberPushed.absent free same nothing) others are =
+    rw nothing (so_far others (AreMembers.absent m ms rest others free
+    (subst (λ l. AreMembers nodes ms l others) same are)))
+
+-- the one at this index
+pub member-next : (nodes : List Node) (all : List Member) (k : ℕ) (d : Member) (bytes rest after old new : List ℕ)
+    → k < length all
+    → ((others : List ℕ) → AreMembers nodes (drop k all) rest others → AreMembers nodes all bytes (old ++ others))
+    → IsMemberPushed nodes (get_or all k d) rest after old new
+    → (others : List ℕ) → AreMembers nodes (drop (k + 1) all) after others → AreMembers nodes all bytes (new ++ others)
+member-next nodes all k d bytes rest after old new inside so_far pushed =
+    let m = get_or all k d in
+    let first : drop k all ≡ m ∷ drop (k + 1) all = drop_more all k d inside in
+    member-more nodes all (drop (k + 1) all) m bytes rest after old new
+    (λ others are. so_far others (subst (λ ms. AreMembers nodes ms rest others) (sym first) are)) pushed
+
+pub nothing_left : (rest : List ℕ) (b : Bool) → b ≡ (length rest == 0) → b ≡ true → rest ≡ []
+nothing_left [] b e h = refl
+nothing_left (x ∷ rest) b e h = absurd (omega (arith, eqb-true (length (x ∷ rest)) 0 (sym e ∙ h)))
+
+-- all of them
+pub members-end : (nodes : List Node) (all : List Member) (k : ℕ) (bytes rest der : List ℕ) → length all ≤ k
+    → rest ≡ []
+    → ((others : List ℕ) → AreMembers nodes (drop k all) rest others → AreMembers nodes all bytes (der ++ others))
+    → AreMembers nodes all bytes der
+members-end nodes all k bytes rest der past none so_far =
+    let empty : AreMembers nodes (drop k all) rest [] =
+    rw (drop_all k all past) (AreMembers.end rest [] none refl) in
+    subst (AreMembers nodes all bytes) (append-nil der) (so_far [] empty)
+
+pub each-end : (nodes : List Node) (i : ℕ) (bytes rest der : List ℕ) → rest ≡ []
+    → ((others : List ℕ) → AreEach nodes i rest others → AreEach nodes i bytes (der ++ others))
+    → AreEach nodes i bytes der
+each-end nodes i bytes rest der none so_far =
+    subst (AreEach nodes i bytes) (append-nil der) (so_far [] (AreEach.no_more i rest [] none refl))
+
+pub parts-end : (bytes rest der : List ℕ) → rest ≡ []
+    → ((others : List ℕ) → AreParts rest others → AreParts bytes (der ++ others)) → AreParts bytes der
+parts-end bytes rest der none so_far =
+    subst (AreParts bytes) (append-nil der) (so_far [] (AreParts.none rest [] none refl))
+
+-- one more part of a string
+pub part-more : (bytes rest content after old new : List ℕ)
+    → ((others : List ℕ) → AreParts rest others → AreParts bytes (old ++ others))
+    → rest ≡ tlv 0x04 content ++ after → new ≡ old ++ content
+    → (others : List ℕ) → AreParts after others → AreParts bytes (new ++ others)
+part-more bytes rest content after old new so_far is appended others are =
+    let whole = content ++ others in
+    let same : new ++ others ≡ old ++ whole =
+    ap (λ s. s ++ others) appended ∙ append_assoc old content others in
+    rw same (so_far whole (AreParts.more content after others rest whole are is refl))
+
+-- ---- contents
+
+-- a content that stays
+pub content-same : (nodes : List Node) (x : Inside) (bytes der : List ℕ) → (x ≡ inside.Same) ⊎ (x ≡ inside.Octets)
+    → der ≡ bytes → IsContent nodes x bytes der
+content-same nodes x bytes der (inl e) same = rw e (IsContent.same bytes der same)
+content-same nodes x bytes der (inr e) same = rw e (IsContent.octets bytes der same)
+
+-- one that a call returns
+pub content-of : (nodes : List Node) (x y : Inside) (bytes : List ℕ) (r : Result (Vec ℕ Global) TypeError)
+    (P : List ℕ → Type 0) → x ≡ y → ((der : List ℕ) → P der → IsContent nodes y bytes der)
+    → IfOk r (λ v. P v.items) → IfOk r (λ v. IsContent nodes x bytes v.items)
+content-of nodes x y bytes (Ok v) P e f h = rw e (f v.items h)
+content-of nodes x y bytes (Err error) P e f h = tt
+
+-- ---- an element
+
+-- its tag, the length and the content were appended
+pub pushed : (nodes : List Node) (i tag : ℕ) (x : Inside) (content in_der bytes after old mid new slice : List ℕ)
+    (t n : ℕ) → BeginsWith bytes tag content after → IsInside nodes i tag x → IsContent nodes x content in_der
+    → t ≡ tag_in_der x tag → n ≡ length in_der → mid ≡ old ++ (t ∷ length_octets n) → new ≡ mid ++ slice
+    → slice ≡ in_der → IsPushed nodes i bytes after old new
+unfolding tlv
+pushed nodes i tag x content in_der bytes after old mid new slice t n begins inside is own size first whole same =
+    let own_tag = tag_in_der x tag in
+    let all : new ≡ old ++ tlv own_tag in_der =
+    whole ∙ ap (λ s. s ++ slice) first ∙ ap (λ s. (old ++ (t ∷ length_octets n)) ++ s) same
+    ∙ append_assoc old (t ∷ length_octets n) in_der
+    ∙ ap (λ m. old ++ (t ∷ (length_octets m ++ in_der))) size
+    ∙ ap (λ u. old ++ (u ∷ (length_octets (length in_der) ++ in_der))) own in
+    record {
+      element = tlv tag content;
+      in_der = tlv own_tag in_der;
+      is_one = IsOne.element i tag x content in_der _ _ inside is refl refl;
+      is = begins.is;
+      appended = all;
+    }

@@ -1,0 +1,118 @@
+use Rattle.std.proofs.Common.{◌≡◌, ◌+◌, ◌<◌, ◌≤◌, sym, subst, refl, arith, length, IfOk}
+use Rattle.der_ber_types.specs.Content.{IsContent, IsOne, AreEach}
+use Rattle.der_ber_types.specs.Order.{AreInOrder}
+use Rattle.der_ber_types.proofs.Writing.{pushed-shorter, each-more, each-end, member-fewer, member-next, members-end}
+use Rattle.der_ber_types.proofs.Writing.{nothing_left, content-same, content-of, pushed}
+use Rattle.der_ber_types.proofs.Cutting.{smaller_content}
+use Rattle.der_ber_types.specs.Pushed.{IsPushed}
+use Rattle.der_ber_types.proofs.content.+writing.Goals as goal
+
+-- ---- content_in_der
+
+pub content_in_der-returns-in_ok-copied-in-Same : goal.content_in_der-returns-in_ok-copied-in-Same
+content_in_der-returns-in_ok-copied-in-Same t c =
+    content-same c.args.nodes.now c.args.inside c.args.content.now _ c.in-Same.is c.in_ok-copied-in-Same.ensures
+
+pub content_in_der-returns-in-Parts : goal.content_in_der-returns-in-Parts
+content_in_der-returns-in-Parts t c =
+    content-of c.args.nodes.now c.args.inside _ c.args.content.now c.joined.result _ c.in-Parts.is
+    (IsContent.parts c.args.content.now) c.joined.ensures
+
+pub content_in_der-returns-in-Boolean : goal.content_in_der-returns-in-Boolean
+content_in_der-returns-in-Boolean t c =
+    content-of c.args.nodes.now c.args.inside _ c.args.content.now c.truth.result _ c.in-Boolean.is
+    (IsContent.boolean c.args.content.now) c.truth.ensures
+
+pub content_in_der-returns-in-Members : goal.content_in_der-returns-in-Members
+content_in_der-returns-in-Members t c =
+    content-of c.args.nodes.now c.args.inside _ c.args.content.now c.members_in_der.result _ c.in-Members.is
+    (IsContent.members c.in-Members.members c.args.content.now) c.members_in_der.ensures
+
+pub content_in_der-returns-in-Each : goal.content_in_der-returns-in-Each
+content_in_der-returns-in-Each t c =
+    content-of c.args.nodes.now c.args.inside _ c.args.content.now c.each_in_der.result _ c.in-Each.is
+    (IsContent.each c.in-Each.index c.args.content.now) c.each_in_der.ensures
+
+pub content_in_der-returns-in_ok-elements-in-Set : goal.content_in_der-returns-in_ok-elements-in-Set
+content_in_der-returns-in_ok-elements-in-Set t c =
+    let content = c.args.content.now in
+    let elements = c.deref.result.now in
+    let each : AreEach c.args.nodes.now c.in-Set.index content elements =
+    subst (AreEach c.args.nodes.now c.in-Set.index content) (sym c.deref.ensures.value)
+    c.in_ok-elements-in-Set.ensures in
+    content-of c.args.nodes.now c.args.inside _ content c.in_order.result (AreInOrder elements) c.in-Set.is
+    (λ der. IsContent.set c.in-Set.index content elements der each) c.in_order.ensures
+
+pub content_in_der-returns-in-One : goal.content_in_der-returns-in-One
+content_in_der-returns-in-One t c =
+    content-of c.args.nodes.now c.args.inside _ c.args.content.now c.one_in_der.result _ c.in-One.is
+    (IsContent.explicit c.in-One.index c.args.content.now) c.one_in_der.ensures
+
+-- ---- each_in_der
+
+pub each_in_der-loop-rest-smaller : goal.each_in_der-loop-rest-smaller
+each_in_der-loop-rest-smaller t c =
+    pushed-shorter c.args.nodes.now c.args.index c.loop-rest.rest.now c.in-Some.after.now _ _
+    (rw c.in-Some.is at c.in_ok-after.ensures.ok)
+
+pub each_in_der-loop-rest-preserved : goal.each_in_der-loop-rest-preserved
+each_in_der-loop-rest-preserved t c =
+    let nodes = c.args.nodes.now in
+    let rest = c.loop-rest.rest.now in
+    let after = c.in-Some.after.now in
+    let pushed : IsPushed nodes c.args.index rest after c.loop-rest.der.items c.push_element.new.der.items =
+    rw c.in-Some.is at c.in_ok-after.ensures.ok in
+    record {
+      fewer = omega (arith, pushed-shorter nodes c.args.index rest after _ _ pushed, c.loop-rest.invariant.fewer);
+      so_far = each-more nodes c.args.index c.args.bytes.now rest after c.loop-rest.der.items
+          c.push_element.new.der.items c.loop-rest.invariant.so_far pushed;
+    }
+
+pub each_in_der-returns : goal.each_in_der-returns
+each_in_der-returns t c =
+    each-end c.args.nodes.now c.args.index c.args.bytes.now c.loop-rest.rest.now c.loop-rest.der.items
+    (nothing_left c.loop-rest.rest.now c.is_empty.result c.is_empty.ensures c.loop-rest-test.false)
+    c.loop-rest.invariant.so_far
+
+-- ---- members_in_der
+
+pub members_in_der-loop-member-preserved : goal.members_in_der-loop-member-preserved
+members_in_der-loop-member-preserved t c =
+    let nodes = c.args.nodes.now in
+    let rest = c.loop-member.rest.now in
+    let after = c.in_ok-rest.rest.now in
+    record {
+      fewer = omega (arith, member-fewer nodes _ rest after _ _ c.in_ok-rest.ensures.ok, c.loop-member.invariant.fewer);
+      so_far = member-next nodes c.args.members.now c.loop-member.member-index _ c.args.bytes.now rest after
+          c.loop-member.der.items c.push_member.new.der.items c.loop-member-test.true c.loop-member.invariant.so_far
+          c.in_ok-rest.ensures.ok;
+    }
+
+pub members_in_der-returns-then-is_empty : goal.members_in_der-returns-then-is_empty
+members_in_der-returns-then-is_empty t c =
+    members-end c.args.nodes.now c.args.members.now c.loop-member.member-index c.args.bytes.now c.loop-member.rest.now
+    c.loop-member.der.items (c.loop-member-test.false)
+    (nothing_left c.loop-member.rest.now c.is_empty.result c.is_empty.ensures c.if-is_empty.true)
+    c.loop-member.invariant.so_far
+
+-- ---- push_element
+
+pub push_element-content_in_der-requires : goal.push_element-content_in_der-requires
+push_element-content_in_der-requires t c =
+    let element = c.in-Some.element in
+    let smaller =
+    smaller_content c.args.bytes.now element.after.now element.tag element.content.now c.in-Some.ensures in
+    (omega (arith, c.decreases, smaller), tt)
+
+pub push_element-returns : goal.push_element-returns
+push_element-returns t c =
+    let element = c.in-Some.element in
+    let content = c.in_ok-content.content in
+    let size : c.len.result ≡ length content.items = omega (arith, c.len.ensures, content.ok.0) in
+    record {
+      ok = pushed c.args.nodes.now c.args.index element.tag c.in-Some-inside_of.inside element.content.now content.items
+          c.args.bytes.now element.after.now c.args.der.now.items c.push_header.new.bytes.items
+          c.extend_from_slice.new.self.items c.deref.result.now c.tag_in_der.result c.len.result c.in-Some.ensures
+          c.in-Some-inside_of.ensures c.in_ok-content.ensures c.tag_in_der.ensures size c.in_ok-push_header.ensures
+          c.in_ok-extend_from_slice.ensures.items c.deref.ensures.value;
+    }

@@ -1,0 +1,130 @@
+//! What is in an element of a type.
+ghost use Rattle.std.specs.Prelude.{◌≡◌, slice_get, IfSome};
+ghost use Rattle.der_ber_types.specs.Kinds.{tag_in_der};
+ghost use Rattle.der_ber_types.specs.Inside.{HasInside, IsInside, IsInsideOne, IsInsideOwn};
+
+use crate::kinds::{inside_here, own_tag, same_content, same_type};
+use der_schema::{Alternative, Kind, Member, Node};
+use picky_der_core::asn1::Tag;
+
+// What is in an element.
+#[derive(Clone, Copy)]
+pub(crate) enum Inside {
+    // A content that stays as it is.
+    Same,
+    // That of a string whose parts are octet strings, in one.
+    Octets,
+    // The parts of such a string.
+    Parts,
+    // TRUE or FALSE.
+    Boolean,
+    // The members of a SEQUENCE.
+    Members(&'static [Member]),
+    // Elements of this node's type, one after another.
+    Each(u16),
+    // The same in any order.
+    Set(u16),
+    // One element of this node's type.
+    One(u16),
+}
+
+impl Inside {
+    // The tag in DER of an element with this tag and this in it: a string is primitive (X.690, 10.2).
+    pub(crate) fn tag_in_der(self, tag: Tag) -> Tag
+        ensures { result ≡ tag_in_der self tag }
+    {
+        match self {
+            Inside::Parts => Tag::from(tag.inner().saturating_sub(0x20)),
+            _ => tag,
+        }
+    }
+}
+
+// The node at an index, or `None` past the end of the table.
+fn node_at(nodes: &[Node], index: u16) -> Option<Node>
+    ensures { result ≡ slice_get nodes.now index }
+{
+    nodes.get(usize::from(index)).copied()
+}
+
+// What is in an element with this tag that is of a node's type, or `None` if none of it has the tag. A node that
+// doesn't come after one that it names has no values.
+#[cycle(inside)]
+pub(crate) fn inside_of(nodes: &[Node], index: u16, tag: Tag) -> Option<Inside>
+    ensures { IfSome result (IsInside nodes.now index tag) }
+{
+    let Some(node) = node_at(nodes, index) else {
+        return None;
+    };
+    let kind = node.kind;
+    match kind {
+        Kind::Choice(alternatives) => inside_of_one(nodes, alternatives, index, tag),
+        Kind::AnyElement | Kind::WellFormedElement => Some(Inside::Same),
+        _ => match same_type(kind) {
+            Some(inner) => {
+                if inner < index {
+                    inside_of(nodes, inner, tag)
+                } else {
+                    None
+                }
+            }
+            None => with_own_tag(nodes, index, own_tag(kind)?, tag),
+        },
+    }
+}
+
+// The same of a type whose elements have a tag of their own. A string in parts has the constructed one of the same
+// number (X.690, 8.7.3.2, 8.14.4).
+fn with_own_tag(nodes: &[Node], index: u16, own: Tag, tag: Tag) -> Option<Inside>
+    ensures { IfSome result (IsInsideOwn nodes.now index own tag) }
+{
+    if own == tag {
+        return content_of(nodes, index);
+    }
+    if !tag.is_constructed() || tag.inner().checked_sub(0x20) != Some(own.inner()) {
+        return None;
+    }
+    match content_of(nodes, index) {
+        Some(Inside::Octets) => Some(Inside::Parts),
+        _ => None,
+    }
+}
+
+// The same of the first of the alternatives that has the tag, of those whose nodes come before this index.
+#[cycle(inside)]
+fn inside_of_one(
+    nodes: &[Node],
+    alternatives: &[Alternative],
+    index: u16,
+    tag: Tag,
+) -> Option<Inside>
+    ensures { IfSome result (IsInsideOne nodes.now index alternatives.now tag) }
+{
+    for alternative in alternatives {
+        if alternative.node < index {
+            if let Some(inside) = inside_of(nodes, alternative.node, tag) {
+                return Some(inside);
+            }
+        }
+    }
+    None
+}
+
+// What is in an element of a node's type, whatever tag it has.
+fn content_of(nodes: &[Node], index: u16) -> Option<Inside>
+    ensures { IfSome result (HasInside nodes.now index) }
+{
+    let Some(node) = node_at(nodes, index) else {
+        return None;
+    };
+    match same_content(node.kind) {
+        Some(inner) => {
+            if inner < index {
+                content_of(nodes, inner)
+            } else {
+                None
+            }
+        }
+        None => Some(inside_here(node.kind)),
+    }
+}

@@ -1,0 +1,14 @@
+//! BER in, DER out, by the type of a value: what the type says of an element, whatever its tag is.
+#![tactic(auto)]
+
+mod by_type;
+mod content;
+mod error;
+mod inside;
+mod kinds;
+mod message;
+mod order;
+
+pub use by_type::to_der;
+pub use error::ToDerError;
+pub use message::{ContentType, message_to_der};

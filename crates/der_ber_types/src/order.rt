@@ -1,0 +1,33 @@
+//! The order of the elements of a SET OF (X.690, 11.6).
+ghost use Rattle.std.specs.Prelude.{IfOk, map};
+ghost use Rattle.der_ber_types.specs.Order.{AreElements, AreInOrder};
+
+use crate::error::TypeError;
+use der_path::first_element;
+use std::alloc::Global;
+
+// The elements of which the bytes are made, in ascending order one after another.
+pub(crate) fn in_order(alloc: Global, bytes: &[u8]) -> Result<Vec<u8>, TypeError>
+    ensures { IfOk result (λ ordered. AreInOrder bytes.now ordered.items) }
+{
+    let mut elements = cut(alloc, bytes)?;
+    elements.sort()?;
+    Ok(elements.concat(alloc)?)
+}
+
+// The elements of which the bytes are made.
+fn cut<'a>(alloc: Global, bytes: &'a [u8]) -> Result<Vec<&'a [u8]>, TypeError>
+    ensures { IfOk result (λ elements. AreElements (map (λ e. e.now) elements.items) bytes.now) }
+{
+    let mut elements = Vec::new(alloc);
+    let mut rest = bytes;
+    while !rest.is_empty() {
+        let Some(first) = first_element(rest) else {
+            return Err(TypeError::OtherType);
+        };
+        let (element, after) = rest.split_at(rest.len() - first.after.len());
+        elements.push(element)?;
+        rest = after;
+    }
+    Ok(elements)
+}
