@@ -1,0 +1,20 @@
+//! Wrong copies.
+mod right_key_usage_flag;
+mod wrong_key_usage_flag;
+mod right_crl_reason;
+mod wrong_crl_reason;
+mod right_ocsp_response_status;
+mod wrong_ocsp_response_status;
+mod right_digest_algorithm;
+mod wrong_digest_algorithm;
+mod right_digest_comparison;
+mod wrong_digest_comparison;
+mod right_rule;
+mod wrong_rule;
+mod right_header;
+mod wrong_header;
+mod right_element;
+mod wrong_element;
+mod right_complaint;
+mod wrong_complaint;
+mod wrong_equality;
