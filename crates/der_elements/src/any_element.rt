@@ -32,7 +32,7 @@ use std::hash::Hash;
 ///
 /// On reading, `InvalidData` if the next element isn't such a one; it has been consumed completely then. Any other
 /// error is one of `Asn1RawDer`.
-#[derive(Drop, PartialEq, Eq, PartialOrd, Hash)]
+#[derive(Drop, PartialEq, Eq, PartialOrd, Ord, Hash)]
 pub struct AnyElement {
     element: Asn1RawDer,
     ghost well_formed: { ∥ IsWellFormed element.0.items ∥₁ },

@@ -16,6 +16,7 @@ use picky_der_core::{Asn1DerError, Result};
 use picky_der_de::{Alternatives, DeserializeMembers};
 use picky_der_ser::{SerializeMember, SerializeMembers};
 use std::alloc::{AllocError, Global};
+use std::hash::Hash;
 use std::marker::PhantomData;
 
 /// The members of a later version, as `LaterMembers` has them (X.680, 25.1). In each that is constructed there are
@@ -27,7 +28,7 @@ use std::marker::PhantomData;
 ///
 /// Where the tags are automatic, `LaterElementsFrom` is the type of these members.
 #[derive(Drop)]
-#[derive_where(Debug, PartialEq, Eq)]
+#[derive_where(Debug, PartialEq, Eq, PartialOrd, Ord, Hash)]
 pub struct LaterElements<A: Alternatives> {
     /// The elements, each with its header.
     pub elements: Vec<AnyElement>,

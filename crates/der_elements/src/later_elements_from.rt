@@ -15,6 +15,7 @@ use picky_der_core::{Asn1DerError, Result};
 use picky_der_de::DeserializeMembers;
 use picky_der_ser::{SerializeMember, SerializeMembers};
 use std::alloc::{AllocError, Global};
+use std::hash::Hash;
 
 /// The members of a later version of a SEQUENCE whose tags are automatic, as `LaterMembersFrom` has them (X.680, 25.1).
 /// In each that is constructed there are elements, at every depth.
@@ -23,7 +24,7 @@ use std::alloc::{AllocError, Global};
 /// whose numbers ascend from 0 on in the order of the text then (25.7), and later versions number their members after
 /// all others. So `N` is the number of members that are known. The first element has a context tag with the number `N`
 /// or a greater one, and each other a greater number than the one before it.
-#[derive(Debug, Drop, PartialEq, Eq)]
+#[derive(Debug, Drop, PartialEq, Eq, PartialOrd, Ord, Hash)]
 pub struct LaterElementsFrom<const N: u8> {
     /// The elements, each with its header.
     pub elements: Vec<AnyElement>,

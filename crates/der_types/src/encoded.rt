@@ -1,8 +1,10 @@
 //! Values that are kept together with their encoding, for open types.
 ghost use Rattle.std.proofs.Common.{rules};
 ghost use Rattle.std.specs.Prelude.{◌≡◌, IfOk, IfErr, refl};
+ghost use Rattle.std.specs.Cmp.{partial_order_from_own_ties};
 ghost use Rattle.std.specs.Cmp.Rules.{comparing};
-ghost use Rattle.std.specs.Ordering.{on};
+ghost use Rattle.std.specs.Cmp.Lexicographic.{slice_cmp};
+ghost use Rattle.std.specs.Ordering.{on, nat_cmp, as_partial_cmp};
 ghost use Rattle.picky_der_core.specs.Equality.{IsThatOf};
 ghost use Rattle.picky_der_core.specs.Tree.{Tree};
 ghost use Rattle.picky_der_core.specs.Shape.{Shape};
@@ -23,7 +25,9 @@ use picky_der_core::{Asn1DerError, Result};
 use picky_der_de::{Begins, Deserialize, Deserializer, TryVia, from_der, try_deserialize_as};
 use picky_der_ser::{Serialize, Serializer};
 use std::alloc::AllocError;
+use std::cmp::Ordering;
 use std::fmt;
+use std::hash::{Hash, Hasher};
 
 /// A value of the type `T` together with its encoding, for a member whose type another member decides (ANY DEFINED BY).
 /// Two of them are equal exactly if their encodings are. It prints as its value.
@@ -81,6 +85,46 @@ impl<T: Deserialize> PartialEq for Encoded<T> {
 
     fn eq(&self, other: &Encoded<T>) -> bool {
         self.encoding == other.encoding
+    }
+}
+
+impl<T: Deserialize> Eq for Encoded<T> {
+    ghost laws = { Prim.search (comparing, rules) };
+}
+
+/// They are ordered as their encodings.
+impl<T: Deserialize> Ord for Encoded<T> {
+    ghost cmp = { on (λ it. it.encoding.0.items) (slice_cmp nat_cmp) };
+
+    ghost total = { Prim.search (comparing, rules) };
+
+    ghost matches_partial_cmp = { λ x y. refl };
+
+    ghost matches_eq = { Prim.search (comparing, rules) };
+
+    fn cmp(&self, other: &Encoded<T>) -> Ordering {
+        self.encoding.0.cmp(&other.encoding.0)
+    }
+}
+
+impl<T: Deserialize> PartialOrd for Encoded<T> {
+    ghost partial_cmp = { as_partial_cmp (on (λ it. it.encoding.0.items) (slice_cmp nat_cmp)) };
+
+    ghost laws = { partial_order_from_own_ties (Prim.search (comparing, rules)) (Prim.search (comparing, rules)) };
+
+    fn partial_cmp(&self, other: &Encoded<T>) -> Option<Ordering> {
+        Some(self.cmp(other))
+    }
+}
+
+/// It is hashed as its encoding.
+impl<T: Deserialize> Hash for Encoded<T> {
+    ghost hash_input = { λ it. ⟦<Asn1RawDer as Hash>⟧.hash_input it.encoding };
+
+    ghost respects_eq = { λ x y. ⟦<Asn1RawDer as Hash>⟧.respects_eq x.encoding y.encoding };
+
+    fn hash<H: Hasher>(&self, state: &mut H) {
+        self.encoding.hash(state);
     }
 }
 

@@ -19,7 +19,7 @@ use picky_der_ser::SerializeMembers;
 /// `M` has those of one extension addition, and all members after them: further ones are `Added` again. One of them is
 /// always there in a value that has them, since an addition of OPTIONAL members alone is no group: these are members
 /// of the struct itself.
-#[derive(Debug, Clone, Drop, PartialEq, Eq)]
+#[derive(Debug, Clone, Drop, PartialEq, Eq, PartialOrd, Ord, Hash)]
 pub struct Added<M>(pub Option<M>);
 
 /// Members that an extension added.

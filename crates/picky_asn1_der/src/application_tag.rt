@@ -12,9 +12,10 @@ use crate::de::Begins;
 use crate::misc::{ReadExt, WriteExt};
 use crate::{Asn1DerError, Deserialize, Deserializer, Result, Serialize, Serializer};
 use std::fmt::Debug;
+use std::hash::Hash;
 
 /// A value under the application tag with the number `T`, at most 30: `60+T`, around its encoding.
-#[derive(Debug, Clone, Drop, PartialEq, Eq)]
+#[derive(Debug, Clone, Drop, PartialEq, Eq, PartialOrd, Ord, Hash)]
 pub struct ApplicationTag<V, const T: u8>(pub V)
 where
     V: Debug + PartialEq;
@@ -22,6 +23,11 @@ where
 /// Two values under one application tag are equal exactly if they are equal without it.
 pub fn equality<V: Debug + PartialEq, const T: u8>()
     ensures { IsThatOf ⟦<ApplicationTag<V, T> as PartialEq>⟧.eq (λ tagged. tagged.0) V.eq }
+{}
+
+/// Two values under one application tag are ordered as they are without it.
+pub fn order<V: Debug + Ord, const T: u8>()
+    ensures { IsThatOf ⟦<ApplicationTag<V, T> as Ord>⟧.cmp (λ tagged. tagged.0) V.cmp }
 {}
 
 /// A copy of a value under an application tag holds a copy of it.

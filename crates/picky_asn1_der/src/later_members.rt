@@ -16,6 +16,7 @@ use picky_der_core::{Asn1DerError, Result};
 use picky_der_de::{Alternatives, DeserializeMembers};
 use picky_der_ser::{SerializeMember, SerializeMembers};
 use std::alloc::{AllocError, Global};
+use std::hash::Hash;
 use std::marker::PhantomData;
 
 /// The members that are left after the members of a struct, as elements: the members of a later version of an
@@ -27,7 +28,7 @@ use std::marker::PhantomData;
 ///
 /// Where the tags are automatic, `LaterMembersFrom` is the type of these members.
 #[derive(Drop)]
-#[derive_where(Debug, PartialEq, Eq)]
+#[derive_where(Debug, PartialEq, Eq, PartialOrd, Ord, Hash)]
 pub struct LaterMembers<A: Alternatives> {
     /// The elements, each with its header.
     pub elements: Vec<Asn1RawDer>,

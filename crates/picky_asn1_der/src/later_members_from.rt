@@ -15,6 +15,7 @@ use picky_der_core::{Asn1DerError, Result};
 use picky_der_de::DeserializeMembers;
 use picky_der_ser::{SerializeMember, SerializeMembers};
 use std::alloc::{AllocError, Global};
+use std::hash::Hash;
 
 /// The members that are left after the members of a struct, as elements: the members of a later version of an
 /// extensible SEQUENCE (X.680, 25.1) whose tags are automatic, in their order. They are the last member of the struct.
@@ -23,7 +24,7 @@ use std::alloc::{AllocError, Global};
 /// whose numbers ascend from 0 on in the order of the text then (25.7), and later versions number their members after
 /// all others. So `N` is the number of members that are known. The first element has a context tag with the number `N`
 /// or a greater one, and each other a greater number than the one before it.
-#[derive(Debug, Drop, PartialEq, Eq)]
+#[derive(Debug, Drop, PartialEq, Eq, PartialOrd, Ord, Hash)]
 pub struct LaterMembersFrom<const N: u8> {
     /// The elements, each with its header.
     pub elements: Vec<Asn1RawDer>,

@@ -21,7 +21,7 @@ use std::hash::Hash;
 
 /// One element, whatever its tag, by its bytes with the header (X.690, 8.1.1). The bytes are written as they are. If
 /// they aren't exactly one element, they can't be read back as this type.
-#[derive(Clone, Drop, PartialEq, Eq, PartialOrd, Hash)]
+#[derive(Clone, Drop, PartialEq, Eq, PartialOrd, Ord, Hash)]
 pub struct Asn1RawDer(pub Vec<u8>);
 
 /// Raw elements are equal exactly if their bytes are the same. They are ordered like their bytes, at the first index

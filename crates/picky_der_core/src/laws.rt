@@ -9,6 +9,7 @@ ghost use Rattle.picky_der_core.specs.Laws.{SameBytes, OneInside, SetOrder, NoAm
 
 pub mod copies;
 pub mod equality;
+pub mod order;
 
 /// A length that begins another length, followed by any bytes, is that length (X.690, 8.1.3 and 10.1).
 pub fn length_both_ways()

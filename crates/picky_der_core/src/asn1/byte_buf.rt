@@ -2,9 +2,10 @@
 ghost use Rattle.std.specs.Prelude.{◌≡◌, IfOk, IfErr};
 
 use crate::{Asn1DerError, Result};
+use std::hash::Hash;
 
 /// An octet string in a vector of its own (X.690, 8.7).
-#[derive(Debug, Clone, Drop, PartialEq, Eq)]
+#[derive(Debug, Clone, Drop, PartialEq, Eq, PartialOrd, Ord, Hash)]
 pub struct ByteBuf(pub Vec<u8>);
 
 impl ByteBuf {

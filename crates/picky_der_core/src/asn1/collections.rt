@@ -3,9 +3,10 @@ ghost use Rattle.std.specs.Prelude.{◌≡◌, IfOk, IfErr};
 ghost use Rattle.std.specs.List.{AllZip};
 
 use crate::{Asn1DerError, Result};
+use std::hash::Hash;
 
 /// A SEQUENCE OF (X.690, 8.10): values of one type, in their order.
-#[derive(Debug, Clone, Drop, PartialEq, Eq)]
+#[derive(Debug, Clone, Drop, PartialEq, Eq, PartialOrd, Ord, Hash)]
 pub struct Asn1SequenceOf<T>(pub Vec<T>);
 
 impl<T: Clone> Asn1SequenceOf<T> {
@@ -28,7 +29,7 @@ impl<T> From<Vec<T>> for Asn1SequenceOf<T> {
 
 /// A SET OF (X.690, 8.12): values of one type. They keep the order in which they are given. They are written in
 /// ascending order of their encodings (11.6).
-#[derive(Debug, Clone, Drop, PartialEq, Eq)]
+#[derive(Debug, Clone, Drop, PartialEq, Eq, PartialOrd, Ord, Hash)]
 pub struct Asn1SetOf<T>(pub Vec<T>);
 
 impl<T: Clone> Asn1SetOf<T> {

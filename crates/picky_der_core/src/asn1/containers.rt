@@ -2,9 +2,10 @@
 ghost use Rattle.std.specs.Prelude.{◌≡◌, IfOk, IfErr};
 
 use crate::{Asn1DerError, Result};
+use std::hash::Hash;
 
 /// An octet string (X.690, 8.7) whose content is the encoding of a value.
-#[derive(Debug, Clone, Drop, PartialEq, Eq)]
+#[derive(Debug, Clone, Drop, PartialEq, Eq, PartialOrd, Ord, Hash)]
 pub struct OctetStringAsn1Container<T>(pub T);
 
 impl<T: Clone> OctetStringAsn1Container<T> {
@@ -26,7 +27,7 @@ impl<T> From<T> for OctetStringAsn1Container<T> {
 }
 
 /// A bit string (X.690, 8.6.2) whose content is a byte 00, for no unused bits, and the encoding of a value.
-#[derive(Debug, Clone, Drop, PartialEq, Eq)]
+#[derive(Debug, Clone, Drop, PartialEq, Eq, PartialOrd, Ord, Hash)]
 pub struct BitStringAsn1Container<T>(pub T);
 
 impl<T: Clone> BitStringAsn1Container<T> {

@@ -2,9 +2,10 @@
 ghost use Rattle.std.specs.Prelude.{◌≡◌, IfOk, IfErr};
 
 use crate::{Asn1DerError, Result};
+use std::hash::Hash;
 
 /// A value under the explicit context tag with the number `N`, at most 30: `A0+N`, around its encoding.
-#[derive(Debug, Clone, Drop, PartialEq, Eq)]
+#[derive(Debug, Clone, Drop, PartialEq, Eq, PartialOrd, Ord, Hash)]
 pub struct ExplicitContextTag<T, const N: u8>(pub T);
 
 impl<T: Clone, const N: u8> ExplicitContextTag<T, N> {
@@ -29,7 +30,7 @@ impl<T, const N: u8> From<T> for ExplicitContextTag<T, N> {
 /// a plain value or of a list, and around the encoding of any other.
 ///
 /// X.690 (8.14) has `A0+N` over a list. This type follows the Rust crate there; `ImplicitList` writes and reads `A0+N`.
-#[derive(Debug, Clone, Drop, PartialEq, Eq)]
+#[derive(Debug, Clone, Drop, PartialEq, Eq, PartialOrd, Ord, Hash)]
 pub struct ImplicitContextTag<T, const N: u8>(pub T);
 
 impl<T: Clone, const N: u8> ImplicitContextTag<T, N> {

@@ -2,6 +2,7 @@
 ghost use Rattle.std.specs.Prelude.{◌≡◌, IfOk, IfErr};
 
 use crate::{Asn1DerError, Result};
+use std::hash::Hash;
 
 /// A SEQUENCE or SET, of fixed members or of many, under the tag `TAG` in place of its own tag 30 or 31. This is an
 /// implicit tag by X.690, 8.14: `A0+n` is the context tag n, and `60+n` the application tag n.
@@ -11,7 +12,7 @@ use crate::{Asn1DerError, Result};
 ///
 /// `ImplicitContextTag` writes `80+n` over everything, also over a list, as the Rust crate does. The structures of
 /// standards need this type instead.
-#[derive(Debug, Clone, Drop, PartialEq, Eq)]
+#[derive(Debug, Clone, Drop, PartialEq, Eq, PartialOrd, Ord, Hash)]
 pub struct ImplicitList<T, const TAG: u8>(pub T);
 
 impl<T: Clone, const TAG: u8> ImplicitList<T, TAG> {

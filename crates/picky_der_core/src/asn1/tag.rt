@@ -2,10 +2,11 @@
 ghost use Rattle.std.specs.Prelude.{◌≡◌, ◌+◌, ◌≤◌, ◌↔◌, ℕ, IsTrue, IsBitSet};
 ghost use Rattle.picky_der_core.specs.Tag.{class_of, number_of, is_constructed};
 
+use std::hash::Hash;
 use std::marker::Model;
 
 /// The class of an identifier byte: its bits 8 and 7.
-#[derive(Debug, Clone, Copy, PartialEq, Eq)]
+#[derive(Debug, Clone, Copy, PartialEq, Eq, PartialOrd, Ord, Hash)]
 pub enum TagClass {
     /// Tags of X.680 itself.
     Universal = 0,
@@ -21,7 +22,7 @@ pub enum TagClass {
 ///
 /// The number is at most 30. 31, all five bits set, announces the long form, which isn't supported: writing or reading
 /// such a tag returns `UnsupportedValue`.
-#[derive(Debug, Clone, Copy, PartialEq, Eq)]
+#[derive(Debug, Clone, Copy, PartialEq, Eq, PartialOrd, Ord, Hash)]
 pub struct Tag(u8);
 
 impl Model for Tag {

@@ -2,10 +2,11 @@
 ghost use Rattle.std.specs.Prelude.{◌≡◌, IfOk, IfErr};
 
 use crate::{Asn1DerError, Result};
+use std::hash::Hash;
 
 /// A content under the tag byte `TAG`. The content isn't checked. Whoever makes a value of a type below has to give it
 /// bytes that are a content of that type.
-#[derive(Debug, Clone, Drop, PartialEq, Eq)]
+#[derive(Debug, Clone, Drop, PartialEq, Eq, PartialOrd, Ord, Hash)]
 pub struct TaggedBytes<const TAG: u8>(pub Vec<u8>);
 
 /// A number in two's complement, most significant byte first (X.690, 8.3).
