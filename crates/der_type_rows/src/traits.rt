@@ -40,7 +40,7 @@ fn has_debug<T: Debug>() {}
 
 fn has_display<T: Display>() {}
 
-// What every type of `der_types` has, but `Encoded`.
+// What every type of values of the library has.
 fn has_all<T: Clone + Ord + Hash + Debug>() {
     has_clone::<T>();
     has_equality::<T>();
@@ -54,7 +54,7 @@ fn has_all_and_text<T: Clone + Ord + Hash + Debug + Display>() {
     has_display::<T>();
 }
 
-// What `Encoded`, every type of values of `picky_asn1_der`, and every type that a module of ASN.1 is compiled to have.
+// What every type has that a module of ASN.1 is compiled to.
 fn has_most<T: Clone + PartialEq + Debug>() {
     has_clone::<T>();
     has_debug::<T>();
@@ -117,7 +117,7 @@ fn around() {
     has_all::<ImplicitPrimitive<Integer, 0x80>>();
     has_all::<Asn1Set<Integer>>();
     has_all::<ImplicitSet<Integer, 0xA0>>();
-    has_most::<Encoded<Integer>>();
+    has_all::<Encoded<Integer>>();
 }
 
 // Errors, and what they are about.
@@ -130,19 +130,21 @@ fn errors() {
 
 // Types of `picky_asn1_der`.
 fn plain() {
-    has_most::<ByteBuf>();
-    has_most::<TaggedBytes<0x41>>();
-    has_most::<Asn1SequenceOf<bool>>();
-    has_most::<Asn1SetOf<bool>>();
-    has_most::<OctetStringAsn1Container<bool>>();
-    has_most::<BitStringAsn1Container<bool>>();
-    has_most::<ExplicitContextTag<bool, 0>>();
-    has_most::<ImplicitContextTag<bool, 0>>();
-    has_most::<ImplicitList<Vec<bool>, 0xA0>>();
-    has_most::<ApplicationTag<bool, 1>>();
-    has_most::<Asn1RawDer>();
-    has_most::<Asn1DerError>();
-    has_most::<Tag>();
+    has_all::<ByteBuf>();
+    has_all::<TaggedBytes<0x41>>();
+    has_all::<Asn1SequenceOf<bool>>();
+    has_all::<Asn1SetOf<bool>>();
+    has_all::<OctetStringAsn1Container<bool>>();
+    has_all::<BitStringAsn1Container<bool>>();
+    has_all::<ExplicitContextTag<bool, 0>>();
+    has_all::<ImplicitContextTag<bool, 0>>();
+    has_all::<ImplicitList<Vec<bool>, 0xA0>>();
+    has_all::<ApplicationTag<bool, 1>>();
+    has_all::<Asn1RawDer>();
+    has_clone::<Asn1DerError>();
+    has_equality::<Asn1DerError>();
+    has_debug::<Asn1DerError>();
+    has_all::<Tag>();
 }
 
 // Types of modules of ASN.1.
