@@ -69,8 +69,8 @@ own-one nodes i own tag x y (IsInsideOwn.parts a k e p f) (IsInsideOwn.parts b l
 
 pub tag_of : (nodes : List Node) (i tag : ℕ) (x : Inside) → IsInside nodes i tag x → HasTag nodes i tag
 tag_of nodes i tag x (IsInside.other _ j _ n _ e f less p) = HasTag.other i j tag n e f less (tag_of nodes j tag x p)
-tag_of nodes i tag x (IsInside.choice _ _ n as _ e f (IsInsideOne.first _ k _ _ a _ g less none p)) =
-    HasTag.choice i k tag n as a e f g less (tag_of nodes a.node tag x p)
+tag_of nodes i tag x (IsInside.choice _ _ n cs _ e f (IsInsideOne.first _ k _ _ a _ g less none p)) =
+    HasTag.choice i k tag n cs a e f g less (tag_of nodes a.node tag x p)
 tag_of nodes i tag x (IsInside.any _ _ n _ e f same) = HasTag.any i tag n e f
 tag_of nodes i tag x (IsInside.own _ own _ n _ e f g p) = HasTag.own i own tag n x e f g p
 
@@ -85,14 +85,14 @@ any-none : {A : Type 0} (f : Kind → Option A) (k : Kind) (a : A) → f kind.An
 any-none f k a none also (inl e) some = none_of f k kind.AnyElement a e none some
 any-none f k a none also (inr e) some = none_of f k kind.WellFormedElement a e also some
 
-choice-same : (k : Kind) (as bs : Bor (List Alternative)) → k ≡ kind.Choice as → k ≡ kind.Choice bs → as ≡ bs
-choice-same k as bs e f = cc
+choice-same : (k : Kind) (cs ds : Bor (List Alternative)) → k ≡ kind.Choice cs → k ≡ kind.Choice ds → cs ≡ ds
+choice-same k cs ds e f = cc
 
 -- ---- no element has a tag
 
 pub no_tag-none : (nodes : List Node) (i tag : ℕ) → slice_get nodes i ≡ None → HasTag nodes i tag → ⊥
 no_tag-none nodes i tag none (HasTag.other _ j _ n e f less p) = cc
-no_tag-none nodes i tag none (HasTag.choice _ k _ n as a e f g less p) = cc
+no_tag-none nodes i tag none (HasTag.choice _ k _ n cs a e f g less p) = cc
 no_tag-none nodes i tag none (HasTag.any _ _ n e f) = cc
 no_tag-none nodes i tag none (HasTag.own _ own _ n x e f g p) = cc
 
@@ -102,41 +102,41 @@ no_tag-other nodes i j tag node is same none (HasTag.other _ k _ m e f less p) =
     let kinds : node.kind ≡ m.kind = kind-same nodes i node m is e in
     let here : j ≡ k = some-same (same_type node.kind) j k same (ap same_type kinds ∙ f) in
     none (subst (λ l. l < i) (sym here) less) (subst (λ l. HasTag nodes l tag) (sym here) p)
-no_tag-other nodes i j tag node is same none (HasTag.choice _ k _ m as a e f g less p) =
-    none_of same_type node.kind (kind.Choice as) j (kind-same nodes i node m is e ∙ f) refl same
+no_tag-other nodes i j tag node is same none (HasTag.choice _ k _ m cs a e f g less p) =
+    none_of same_type node.kind (kind.Choice cs) j (kind-same nodes i node m is e ∙ f) refl same
 no_tag-other nodes i j tag node is same none (HasTag.any _ _ m e f) =
     any-none same_type m.kind j refl refl f (ap same_type (sym (kind-same nodes i node m is e)) ∙ same)
 no_tag-other nodes i j tag node is same none (HasTag.own _ own _ m x e f g p) =
     let wrong : None ≡ Some j = sym f ∙ sym (ap same_type (kind-same nodes i node m is e)) ∙ same in
     cc
 
-pub no_tag-choice : (nodes : List Node) (i tag : ℕ) (node : Node) (as : Bor (List Alternative))
-    → slice_get nodes i ≡ Some node → node.kind ≡ kind.Choice as → HasNoneTag nodes i as.now tag
+pub no_tag-choice : (nodes : List Node) (i tag : ℕ) (node : Node) (cs : Bor (List Alternative))
+    → slice_get nodes i ≡ Some node → node.kind ≡ kind.Choice cs → HasNoneTag nodes i cs.now tag
     → HasTag nodes i tag → ⊥
-no_tag-choice nodes i tag node as is same none (HasTag.other _ k _ m e f less p) =
-    none_of same_type m.kind (kind.Choice as) k (sym (kind-same nodes i node m is e) ∙ same) refl f
-no_tag-choice nodes i tag node as is same none (HasTag.choice _ k _ m bs a e f g less p) =
-    let lists : as ≡ bs = choice-same node.kind as bs same (kind-same nodes i node m is e ∙ f) in
+no_tag-choice nodes i tag node cs is same none (HasTag.other _ k _ m e f less p) =
+    none_of same_type m.kind (kind.Choice cs) k (sym (kind-same nodes i node m is e) ∙ same) refl f
+no_tag-choice nodes i tag node cs is same none (HasTag.choice _ k _ m ds a e f g less p) =
+    let lists : cs ≡ ds = choice-same node.kind cs ds same (kind-same nodes i node m is e ∙ f) in
     none k a (ap (λ l. slice_get l.now k) lists ∙ g) less p
-no_tag-choice nodes i tag node as is same none (HasTag.any _ _ m e (inl f)) =
-    let wrong : kind.Choice as ≡ kind.AnyElement = sym same ∙ kind-same nodes i node m is e ∙ f in
+no_tag-choice nodes i tag node cs is same none (HasTag.any _ _ m e (inl f)) =
+    let wrong : kind.Choice cs ≡ kind.AnyElement = sym same ∙ kind-same nodes i node m is e ∙ f in
     cc
-no_tag-choice nodes i tag node as is same none (HasTag.any _ _ m e (inr f)) =
-    let wrong : kind.Choice as ≡ kind.WellFormedElement = sym same ∙ kind-same nodes i node m is e ∙ f in
+no_tag-choice nodes i tag node cs is same none (HasTag.any _ _ m e (inr f)) =
+    let wrong : kind.Choice cs ≡ kind.WellFormedElement = sym same ∙ kind-same nodes i node m is e ∙ f in
     cc
-no_tag-choice nodes i tag node as is same none (HasTag.own _ own _ m x e f g p) =
-    none_of own_tag m.kind (kind.Choice as) own (sym (kind-same nodes i node m is e) ∙ same) refl g
+no_tag-choice nodes i tag node cs is same none (HasTag.own _ own _ m x e f g p) =
+    none_of own_tag m.kind (kind.Choice cs) own (sym (kind-same nodes i node m is e) ∙ same) refl g
 
 -- of a type with a tag of its own, or with none at all
 pub no_tag-own : (nodes : List Node) (i tag : ℕ) (node : Node) → slice_get nodes i ≡ Some node
-    → same_type node.kind ≡ None → ((as : Bor (List Alternative)) → node.kind ≡ kind.Choice as → ⊥)
+    → same_type node.kind ≡ None → ((cs : Bor (List Alternative)) → node.kind ≡ kind.Choice cs → ⊥)
     → (IsAny node.kind → ⊥)
     → ((own : ℕ) → own_tag node.kind ≡ Some own → IsNoInsideOwn nodes i own tag) → HasTag nodes i tag → ⊥
 no_tag-own nodes i tag node is same choice any none (HasTag.other _ k _ m e f less p) =
     let wrong : None ≡ Some k = sym same ∙ ap same_type (kind-same nodes i node m is e) ∙ f in
     cc
-no_tag-own nodes i tag node is same choice any none (HasTag.choice _ k _ m bs a e f g less p) =
-    choice bs (kind-same nodes i node m is e ∙ f)
+no_tag-own nodes i tag node is same choice any none (HasTag.choice _ k _ m ds a e f g less p) =
+    choice ds (kind-same nodes i node m is e ∙ f)
 no_tag-own nodes i tag node is same choice any none (HasTag.any _ _ m e f) =
     any (subst IsAny (sym (kind-same nodes i node m is e)) f)
 no_tag-own nodes i tag node is same choice any none (HasTag.own _ own _ m x e f g p) =
@@ -150,33 +150,33 @@ mutual
   inside-same nodes i tag x y (IsInside.other _ j _ n _ e f less p) (IsInside.other _ k _ m _ g h lesser q) =
       let here : j ≡ k = some-same (same_type n.kind) j k f (ap same_type (kind-same nodes i n m e g) ∙ h) in
       inside-same nodes j tag x y p (subst (λ l. IsInside nodes l tag y) (sym here) q)
-  inside-same nodes i tag x y (IsInside.other _ j _ n _ e f less p) (IsInside.choice _ _ m bs _ g h q) =
-      absurd (none_of same_type n.kind (kind.Choice bs) j (kind-same nodes i n m e g ∙ h) refl f)
+  inside-same nodes i tag x y (IsInside.other _ j _ n _ e f less p) (IsInside.choice _ _ m ds _ g h q) =
+      absurd (none_of same_type n.kind (kind.Choice ds) j (kind-same nodes i n m e g ∙ h) refl f)
   inside-same nodes i tag x y (IsInside.other _ j _ n _ e f less p) (IsInside.any _ _ m _ g h q) =
       absurd (any-none same_type m.kind j refl refl h (ap same_type (sym (kind-same nodes i n m e g)) ∙ f))
   inside-same nodes i tag x y (IsInside.other _ j _ n _ e f less p) (IsInside.own _ own _ m _ g h o q) =
       let wrong : None ≡ Some j = sym h ∙ sym (ap same_type (kind-same nodes i n m e g)) ∙ f in
       absurd cc
-  inside-same nodes i tag x y (IsInside.choice _ _ n as _ e f p) (IsInside.other _ k _ m _ g h lesser q) =
-      absurd (none_of same_type m.kind (kind.Choice as) k (sym (kind-same nodes i n m e g) ∙ f) refl h)
-  inside-same nodes i tag x y (IsInside.choice _ _ n as _ e f p) (IsInside.choice _ _ m bs _ g h q) =
-      let lists : as ≡ bs = choice-same n.kind as bs f (kind-same nodes i n m e g ∙ h) in
-      one-same nodes i as.now tag x y p (subst (λ l. IsInsideOne nodes i l.now tag y) (sym lists) q)
-  inside-same nodes i tag x y (IsInside.choice _ _ n as _ e f p) (IsInside.any _ _ m _ g (inl h) q) =
-      let wrong : kind.Choice as ≡ kind.AnyElement = sym f ∙ kind-same nodes i n m e g ∙ h in
+  inside-same nodes i tag x y (IsInside.choice _ _ n cs _ e f p) (IsInside.other _ k _ m _ g h lesser q) =
+      absurd (none_of same_type m.kind (kind.Choice cs) k (sym (kind-same nodes i n m e g) ∙ f) refl h)
+  inside-same nodes i tag x y (IsInside.choice _ _ n cs _ e f p) (IsInside.choice _ _ m ds _ g h q) =
+      let lists : cs ≡ ds = choice-same n.kind cs ds f (kind-same nodes i n m e g ∙ h) in
+      one-same nodes i cs.now tag x y p (subst (λ l. IsInsideOne nodes i l.now tag y) (sym lists) q)
+  inside-same nodes i tag x y (IsInside.choice _ _ n cs _ e f p) (IsInside.any _ _ m _ g (inl h) q) =
+      let wrong : kind.Choice cs ≡ kind.AnyElement = sym f ∙ kind-same nodes i n m e g ∙ h in
       absurd cc
-  inside-same nodes i tag x y (IsInside.choice _ _ n as _ e f p) (IsInside.any _ _ m _ g (inr h) q) =
-      let wrong : kind.Choice as ≡ kind.WellFormedElement = sym f ∙ kind-same nodes i n m e g ∙ h in
+  inside-same nodes i tag x y (IsInside.choice _ _ n cs _ e f p) (IsInside.any _ _ m _ g (inr h) q) =
+      let wrong : kind.Choice cs ≡ kind.WellFormedElement = sym f ∙ kind-same nodes i n m e g ∙ h in
       absurd cc
-  inside-same nodes i tag x y (IsInside.choice _ _ n as _ e f p) (IsInside.own _ own _ m _ g h o q) =
-      absurd (none_of own_tag m.kind (kind.Choice as) own (sym (kind-same nodes i n m e g) ∙ f) refl o)
+  inside-same nodes i tag x y (IsInside.choice _ _ n cs _ e f p) (IsInside.own _ own _ m _ g h o q) =
+      absurd (none_of own_tag m.kind (kind.Choice cs) own (sym (kind-same nodes i n m e g) ∙ f) refl o)
   inside-same nodes i tag x y (IsInside.any _ _ n _ e f p) (IsInside.other _ k _ m _ g h lesser q) =
       absurd (any-none same_type n.kind k refl refl f (ap same_type (kind-same nodes i n m e g) ∙ h))
-  inside-same nodes i tag x y (IsInside.any _ _ n _ e (inl f) p) (IsInside.choice _ _ m bs _ g h q) =
-      let wrong : kind.Choice bs ≡ kind.AnyElement = sym h ∙ sym (kind-same nodes i n m e g) ∙ f in
+  inside-same nodes i tag x y (IsInside.any _ _ n _ e (inl f) p) (IsInside.choice _ _ m ds _ g h q) =
+      let wrong : kind.Choice ds ≡ kind.AnyElement = sym h ∙ sym (kind-same nodes i n m e g) ∙ f in
       absurd cc
-  inside-same nodes i tag x y (IsInside.any _ _ n _ e (inr f) p) (IsInside.choice _ _ m bs _ g h q) =
-      let wrong : kind.Choice bs ≡ kind.WellFormedElement = sym h ∙ sym (kind-same nodes i n m e g) ∙ f in
+  inside-same nodes i tag x y (IsInside.any _ _ n _ e (inr f) p) (IsInside.choice _ _ m ds _ g h q) =
+      let wrong : kind.Choice ds ≡ kind.WellFormedElement = sym h ∙ sym (kind-same nodes i n m e g) ∙ f in
       absurd cc
   inside-same nodes i tag x y (IsInside.any _ _ n _ e f p) (IsInside.any _ _ m _ g h q) = p ∙ sym q
   inside-same nodes i tag x y (IsInside.any _ _ n _ e f p) (IsInside.own _ own _ m _ g h o q) =
@@ -184,8 +184,8 @@ mutual
   inside-same nodes i tag x y (IsInside.own _ own _ n _ e f o p) (IsInside.other _ k _ m _ g h lesser q) =
       let wrong : None ≡ Some k = sym f ∙ ap same_type (kind-same nodes i n m e g) ∙ h in
       absurd cc
-  inside-same nodes i tag x y (IsInside.own _ own _ n _ e f o p) (IsInside.choice _ _ m bs _ g h q) =
-      absurd (none_of own_tag n.kind (kind.Choice bs) own (kind-same nodes i n m e g ∙ h) refl o)
+  inside-same nodes i tag x y (IsInside.own _ own _ n _ e f o p) (IsInside.choice _ _ m ds _ g h q) =
+      absurd (none_of own_tag n.kind (kind.Choice ds) own (kind-same nodes i n m e g ∙ h) refl o)
   inside-same nodes i tag x y (IsInside.own _ own _ n _ e f o p) (IsInside.any _ _ m _ g h q) =
       absurd (any-none own_tag m.kind own refl refl h (ap own_tag (sym (kind-same nodes i n m e g)) ∙ o))
   inside-same nodes i tag x y (IsInside.own _ own _ n _ e f o p) (IsInside.own _ other _ m _ g h l q) =
@@ -193,16 +193,16 @@ mutual
       some-same (own_tag n.kind) own other o (ap own_tag (kind-same nodes i n m e g) ∙ l) in
       own-one nodes i own tag x y p (subst (λ t. IsInsideOwn nodes i t tag y) (sym owns) q)
 
-  one-same : (nodes : List Node) (i : ℕ) (as : List Alternative) (tag : ℕ) (x y : Inside)
-      → IsInsideOne nodes i as tag x → IsInsideOne nodes i as tag y → x ≡ y
-  one-same nodes i as tag x y (IsInsideOne.first _ k _ _ a _ e less none p)
+  one-same : (nodes : List Node) (i : ℕ) (cs : List Alternative) (tag : ℕ) (x y : Inside)
+      → IsInsideOne nodes i cs tag x → IsInsideOne nodes i cs tag y → x ≡ y
+  one-same nodes i cs tag x y (IsInsideOne.first _ k _ _ a _ e less none p)
       (IsInsideOne.first _ l _ _ b _ f lesser no q) = elim (cases_lt k l) [
-    | inl before ↦ absurd (no k a before e less (tag_of nodes a.node tag x p))
-    | inr h ↦ elim (cases_lt l k) [
-      | inl after ↦ absurd (none l b after f lesser (tag_of nodes b.node tag y q))
-      | inr g ↦
-          let here : k ≡ l = omega arith in
-          let alternatives : a ≡ b = some-same (slice_get as k) a b e (ap (slice_get as) here ∙ f) in
-          inside-same nodes a.node tag x y p (subst (λ d. IsInside nodes d.node tag y) (sym alternatives) q)
-    ]
-  ]
+        | inl before ↦ absurd (no k a before e less (tag_of nodes a.node tag x p))
+        | inr h ↦ elim (cases_lt l k) [
+          | inl after ↦ absurd (none l b after f lesser (tag_of nodes b.node tag y q))
+          | inr g ↦
+              let here : k ≡ l = omega arith in
+              let alternatives : a ≡ b = some-same (slice_get cs k) a b e (ap (slice_get cs) here ∙ f) in
+              inside-same nodes a.node tag x y p (subst (λ d. IsInside nodes d.node tag y) (sym alternatives) q)
+        ]
+      ]

@@ -22,7 +22,7 @@ pub record IsBitPart (bytes : List ℕ) (unused : ℕ) (bits after : List ℕ) :
   pub most : unused ≤ most_unused bits
   pub is : bytes ≡ tlv 0x03 (unused ∷ bits) ++ after
 
--- The bytes are bit strings one after another with these bits, of which so many are unused: only the last one has unused
+-- They are bit strings one after another with these bits, of which so many are unused. Only the last one has unused
 -- bits (8.6.4).
 pub data AreBitParts : List ℕ → ℕ → List ℕ → Type 0 where
   none : (bytes : List ℕ) (unused : ℕ) (bits : List ℕ) → bytes ≡ [] → unused ≡ 0 → bits ≡ []

@@ -38,8 +38,8 @@ pub record HasNone (nodes : List Node) (i : ℕ) (bytes : List ℕ) : Type 0 whe
   pub is : bytes ≡ before ++ after
   pub ends : BeginsWithNone after
 
--- The others are the same elements in the order of the members, and those of none after them. The element of a member is
--- the first one with a tag of its type: different members have different tags (X.680, 27.3).
+-- The others are the same elements in the order of the members, and those of none after them. The element of a member
+-- is the first one with a tag of its type: different members have different tags (X.680, 27.3).
 pub data AreReordered (nodes : List Node) : List Member → List ℕ → List ℕ → Type 0 where
   end : (bytes ordered : List ℕ) → ordered ≡ bytes → AreReordered nodes [] bytes ordered
   present : (m : Member) (ms : List Member) (before element after others bytes ordered : List ℕ)

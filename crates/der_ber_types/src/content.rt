@@ -137,9 +137,9 @@ fn content_in_der(
     ensures { IfOk result (λ der. IsContent nodes.now inside content.now der.items) }
 {
     match inside {
-        Inside::Same | Inside::Number | Inside::Octets | Inside::Bits => Ok(
-            copied(alloc, content)?,
-        ),
+        Inside::Same | Inside::Number | Inside::Octets | Inside::Bits => Ok(copied(
+            alloc, content,
+        )?),
         Inside::Boolean => truth(alloc, content),
         Inside::Parts => joined(alloc, content),
         Inside::BitParts => joined_bits(alloc, content),

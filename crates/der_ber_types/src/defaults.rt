@@ -55,8 +55,8 @@ fn is_truth_of(value: DefaultValue, content: &[u8]) -> bool
     ensures { IsTrue result ↔ IsContentOf Inside.Boolean value content.now }
 {
     match value {
-        DefaultValue::True => content == [0xFF],
-        DefaultValue::False => content == [0x00],
+        DefaultValue::True => content == [0xFF].as_slice(),
+        DefaultValue::False => content == [0x00].as_slice(),
         DefaultValue::Number(_) => false,
     }
 }

@@ -44,8 +44,8 @@ pub(crate) fn same_content(kind: Kind) -> Option<u16>
     }
 }
 
-// What is in an element of a kind with the content of another, which is this: members under the tag of a SET come in any
-// order (X.690, 8.11.3).
+// What is in an element of a kind with the content of another, which is this. Members under the tag of a SET come in
+// any order (X.690, 8.11.3).
 pub(crate) fn inside_same(kind: Kind, inside: Inside) -> Inside
     ensures { result ≡ inside_same kind inside }
 {
