@@ -2,8 +2,7 @@
 use Rattle.std.specs.Prelude.{List, ℕ, ⊤}
 use Rattle.der_ber.specs.declared.error.BerError.{BerError}
 use Rattle.der_ber.specs.declared.error.BerError.TheVariants as ber
-use Rattle.der_ber.specs.declared.strings.Strings.TheVariants.{Whole}
-use Rattle.der_ber.specs.InDer.{IsRefusedWith}
+use Rattle.der_ber.specs.WholeStrings.{IsRefusedWhole}
 use Rattle.der_ber_types.specs.declared.error.TypeError.{TypeError}
 use Rattle.der_ber_types.specs.declared.error.TypeError.TheVariants as type
 use Rattle.der_ber_types.specs.declared.error.ToDerError.{ToDerError}
@@ -20,5 +19,5 @@ type_error type.OtherType = OtherType
 -- the error has the first element that breaks a rule, at its index
 abbrev pub IsRefusedByType : List ℕ → ToDerError → Type 0
 IsRefusedByType bytes OutOfMemory = ⊤
-IsRefusedByType bytes (Broken position r) = IsRefusedWith Whole bytes (ber.Broken position r)
+IsRefusedByType bytes (Broken position r) = IsRefusedWhole bytes (ber.Broken position r)
 IsRefusedByType bytes OtherType = ⊤

@@ -3,9 +3,9 @@ use Rattle.std.specs.Prelude.{◌≡◌, ℕ, List, [], ◌∷◌, ◌++◌, Opt
 use Rattle.std.specs.Cmp.Lexicographic.{pointwise}
 use Rattle.picky_der_core.specs.Element.{tlv}
 use Rattle.der_schema.specs.declared.node.Schema.{Schema}
+use Rattle.der_ber.specs.WholeStrings.{IsMadeWhole}
 use Rattle.der_ber_types.specs.declared.message.ContentType.{ContentType}
 use Rattle.der_ber_types.specs.Content.{IsOne}
-use Rattle.der_ber_types.specs.ToDer.{IsMadeWhole}
 
 -- a SEQUENCE of an OBJECT IDENTIFIER and of a content in the explicit tag [0]
 abbrev pub message_bytes : List ℕ → List ℕ → List ℕ

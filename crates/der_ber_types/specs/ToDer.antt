@@ -1,13 +1,8 @@
 -- BER of a value by its schema, and its DER.
 use Rattle.std.specs.Prelude.{ℕ, List}
 use Rattle.der_schema.specs.declared.node.Node.{Node}
-use Rattle.der_ber.specs.declared.strings.Strings.TheVariants.{Whole}
-use Rattle.der_ber.specs.InDer.{IsInDer}
+use Rattle.der_ber.specs.WholeStrings.{IsMadeWhole}
 use Rattle.der_ber_types.specs.Content.{IsOne}
-
--- the bytes are elements in BER, and the others are the same with the lengths of DER and whole strings
-abbrev pub IsMadeWhole : List ℕ → List ℕ → Type 0
-IsMadeWhole bytes whole = IsInDer Whole bytes whole
 
 -- The bytes are an element in BER of the node's type, and the others are the same value's in DER: with the lengths of
 -- DER and whole strings (X.690, 10.1, 10.2), and by the type.

@@ -67,12 +67,18 @@ pub(crate) struct Message<'a> {
 fn message_of(bytes: &[u8]) -> Option<Message<'_>>
     ensures { IfSome result (λ m. bytes.now ≡ message_bytes m.identifier.now m.content.now) }
 {
-    let members = content_under(Tag::SEQUENCE, bytes)?;
-    let first = first_element(members)?;
+    let Some(members) = content_under(Tag::SEQUENCE, bytes) else {
+        return None;
+    };
+    let Some(first) = first_element(members) else {
+        return None;
+    };
     if first.tag.inner() != 0x06 {
         return None;
     }
-    let content = content_under(Tag::context_specific_constructed(0), first.after)?;
+    let Some(content) = content_under(Tag::context_specific_constructed(0), first.after) else {
+        return None;
+    };
     Some(Message {
         identifier: first.content,
         content,
@@ -83,7 +89,9 @@ fn message_of(bytes: &[u8]) -> Option<Message<'_>>
 fn content_under(tag: Tag, bytes: &[u8]) -> Option<&[u8]>
     ensures { IfSome result (λ content. bytes.now ≡ tlv tag content.now) }
 {
-    let element = first_element(bytes)?;
+    let Some(element) = first_element(bytes) else {
+        return None;
+    };
     if element.tag.inner() == tag.inner() && element.after.is_empty() {
         Some(element.content)
     } else {
