@@ -27,24 +27,24 @@ bits-begin last bytes bits none empty unused others after =
 one-more : (bytes rest after old first : List ℕ) (last u unused : ℕ) (others : List ℕ) → last ≡ 0
     → BitsSoFar last bytes rest old → IsBitPart rest u first after → AreBitsAfter u after unused others
     → AreBitParts bytes unused ((old ++ first) ++ others)
-one-more bytes rest after old first last u unused others zero so_far part (AreBitsAfter.zero e are) =
+one-more bytes rest after old first last u unused others is_zero so_far part (AreBitsAfter.zero e are) =
     let begins : IsBitPart rest 0 first after = subst (λ l. IsBitPart rest l first after) e part in
-    rw append_assoc (so_far unused (first ++ others) (AreBitsAfter.zero zero
+    rw append_assoc (so_far unused (first ++ others) (AreBitsAfter.zero is_zero
     (AreBitParts.more first after others rest unused (first ++ others) begins are refl)))
-one-more bytes rest after old first last u unused others zero so_far part (AreBitsAfter.end some e f g) =
+one-more bytes rest after old first last u unused others is_zero so_far part (AreBitsAfter.end some e f g) =
     let alone : IsBitPart rest u first [] = subst (IsBitPart rest u first) e part in
     let bits : (old ++ first) ++ others ≡ old ++ first = ap (λ l. (old ++ first) ++ l) g ∙ append-nil (old ++ first) in
-    rw (bits, f) (so_far u first (AreBitsAfter.zero zero (AreBitParts.last rest u first some alone)))
+    rw (bits, f) (so_far u first (AreBitsAfter.zero is_zero (AreBitParts.last rest u first some alone)))
 
 pub bits-more : (bytes rest after old first new : List ℕ) (last u : ℕ) → last ≡ 0 → BitsSoFar last bytes rest old
     → IsBitPart rest u first after → new ≡ old ++ first → BitsSoFar u bytes after new
-bits-more bytes rest after old first new last u zero so_far part appended unused others are =
-    rw appended (one-more bytes rest after old first last u unused others zero so_far part are)
+bits-more bytes rest after old first new last u is_zero so_far part appended unused others are =
+    rw appended (one-more bytes rest after old first last u unused others is_zero so_far part are)
 
 none_after : (last : ℕ) (rest : List ℕ) → rest ≡ [] → AreBitsAfter last rest last []
 none_after last rest none = elim (cases_lt 0 last) [
   | inl some ↦ AreBitsAfter.end some none refl refl
-  | inr zero ↦
+  | inr most ↦
       let is : last ≡ 0 = omega arith in
       AreBitsAfter.zero is (AreBitParts.none rest last [] none is refl)
 ]

@@ -1,6 +1,8 @@
 -- What is in elements: at most one thing by each tag, and nothing where no rule says it.
-use Rattle.std.proofs.Common.{◌≡◌, ℕ, ◌<◌, List, Option, Some, None, slice_get, sym, ap, ap₂, ◌∙◌}
-use Rattle.std.proofs.Common.{subst, arith, refl, inl, inr}
+use Rattle.std.proofs.Common.{◌≡◌, ℕ, ◌+◌, ◌<◌, ◌≤◌, List, Option, Some, None, IfSome, IfNone, sym, ap, ap₂, ◌∙◌}
+use Rattle.std.proofs.Common.{slice_get, length, subst, arith, refl, inl, inr, true}
+use Rattle.std.proofs.lemmas.Option.{slice_get_within}
+use Rattle.picky_der_core.specs.Tag.{is_constructed}
 use Rattle.std.proofs.lemmas.Bool.{cases_lt}
 use Rattle.std.specs.Borrow.{Bor}
 use Rattle.der_schema.specs.declared.node.Alternative.{Alternative}
@@ -127,20 +129,65 @@ no_tag-choice nodes i tag node cs is same none (HasTag.any _ _ m e (inr f)) =
 no_tag-choice nodes i tag node cs is same none (HasTag.own _ own _ m x e f g p) =
     none_of own_tag m.kind (kind.Choice cs) own (sym (kind-same nodes i node m is e) ∙ same) refl g
 
--- of a type with a tag of its own, or with none at all
-pub no_tag-own : (nodes : List Node) (i tag : ℕ) (node : Node) → slice_get nodes i ≡ Some node
+-- of a type with a tag of its own
+pub no_tag-own : (nodes : List Node) (i tag : ℕ) (node : Node) (own : ℕ) → slice_get nodes i ≡ Some node
     → same_type node.kind ≡ None → ((cs : Bor (List Alternative)) → node.kind ≡ kind.Choice cs → ⊥)
-    → (IsAny node.kind → ⊥)
-    → ((own : ℕ) → own_tag node.kind ≡ Some own → IsNoInsideOwn nodes i own tag) → HasTag nodes i tag → ⊥
-no_tag-own nodes i tag node is same choice any none (HasTag.other _ k _ m e f less p) =
+    → (IsAny node.kind → ⊥) → own_tag node.kind ≡ Some own → IsNoInsideOwn nodes i own tag → HasTag nodes i tag → ⊥
+no_tag-own nodes i tag node own is same choice any has none (HasTag.other _ k _ m e f less p) =
     let wrong : None ≡ Some k = sym same ∙ ap same_type (kind-same nodes i node m is e) ∙ f in
     cc
-no_tag-own nodes i tag node is same choice any none (HasTag.choice _ k _ m ds a e f g less p) =
+no_tag-own nodes i tag node own is same choice any has none (HasTag.choice _ k _ m ds a e f g less p) =
     choice ds (kind-same nodes i node m is e ∙ f)
-no_tag-own nodes i tag node is same choice any none (HasTag.any _ _ m e f) =
+no_tag-own nodes i tag node own is same choice any has none (HasTag.any _ _ m e f) =
     any (subst IsAny (sym (kind-same nodes i node m is e)) f)
-no_tag-own nodes i tag node is same choice any none (HasTag.own _ own _ m x e f g p) =
-    none own (ap own_tag (kind-same nodes i node m is e) ∙ g) x p
+no_tag-own nodes i tag node own is same choice any has none (HasTag.own _ o _ m x e f g p) =
+    let owns : own ≡ o = some-same (own_tag node.kind) own o has (ap own_tag (kind-same nodes i node m is e) ∙ g) in
+    none x (subst (λ l. IsInsideOwn nodes i l tag x) (sym owns) p)
+
+-- neither any element
+pub no-any : (k : Kind) → (k ≡ kind.AnyElement → ⊥) → (k ≡ kind.WellFormedElement → ⊥) → IsAny k → ⊥
+no-any k none also (inl e) = none e
+no-any k none also (inr e) = also e
+
+-- one alternative more hasn't the tag
+pub none-next : (nodes : List Node) (i : ℕ) (cs : List Alternative) (k tag : ℕ) → NoneBefore nodes i cs k tag
+    → ((a : Alternative) → slice_get cs k ≡ Some a → a.node < i → HasTag nodes a.node tag → ⊥)
+    → NoneBefore nodes i cs (k + 1) tag
+none-next nodes i cs k tag before here j a less is small has = elim (cases_lt j k) [
+  | inl earlier ↦ before j a earlier is small has
+  | inr h ↦
+      let same : j ≡ k = omega arith in
+      here a (ap (slice_get cs) (sym same) ∙ is) small has
+]
+
+pub none-all : (nodes : List Node) (i : ℕ) (cs : List Alternative) (k tag : ℕ) → NoneBefore nodes i cs k tag
+    → length cs ≤ k → HasNoneTag nodes i cs tag
+none-all nodes i cs k tag before past j a is small has =
+    let within : j < length cs = slice_get_within cs j a is in
+    before j a (omega arith) is small has
+
+-- ---- what a call returned
+
+pub if_none : {A : Type 0} {P Q : Type 0} (r : Option A) → IfNone r P → (P → Q) → IfNone r Q
+if_none None p f = f p
+if_none (Some x) p f = tt
+
+-- a string in parts
+pub own-parts : (nodes : List Node) (i own tag : ℕ) (y : Inside) (r : Option Inside) → is_constructed tag ≡ true
+    → own + 0x20 ≡ tag → HasInside nodes i y → r ≡ in_parts y → IfSome r (IsInsideOwn nodes i own tag)
+own-parts nodes i own tag y None k e p f = tt
+own-parts nodes i own tag y (Some x) k e p f = IsInsideOwn.parts y k e p (sym f)
+
+pub none-parts : (nodes : List Node) (i own tag : ℕ) (y : Inside) (r : Option Inside) → own + 0x20 ≡ tag
+    → HasInside nodes i y → r ≡ in_parts y → IfNone r (IsNoInsideOwn nodes i own tag)
+none-parts nodes i own tag y (Some x) e p f = tt
+none-parts nodes i own tag y None e p f = none
+  where
+    none : IsNoInsideOwn nodes i own tag
+    none x (IsInsideOwn.whole same q) = omega (arith, e, same)
+    none x (IsInsideOwn.parts b k g q h) =
+        let wrong : None ≡ Some x = f ∙ ap in_parts (inside-one nodes i y b p q) ∙ h in
+        cc
 
 -- ---- only one thing is in an element
 
@@ -196,8 +243,8 @@ mutual
   one-same : (nodes : List Node) (i : ℕ) (cs : List Alternative) (tag : ℕ) (x y : Inside)
       → IsInsideOne nodes i cs tag x → IsInsideOne nodes i cs tag y → x ≡ y
   one-same nodes i cs tag x y (IsInsideOne.first _ k _ _ a _ e less none p)
-      (IsInsideOne.first _ l _ _ b _ f lesser no q) = elim (cases_lt k l) [
-        | inl before ↦ absurd (no k a before e less (tag_of nodes a.node tag x p))
+      (IsInsideOne.first _ l _ _ b _ f lesser nothing q) = elim (cases_lt k l) [
+        | inl before ↦ absurd (nothing k a before e less (tag_of nodes a.node tag x p))
         | inr h ↦ elim (cases_lt l k) [
           | inl after ↦ absurd (none l b after f lesser (tag_of nodes b.node tag y q))
           | inr g ↦

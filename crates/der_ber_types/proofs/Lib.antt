@@ -4,3 +4,4 @@ pub mod ValueLemmas
 pub mod SetLemmas
 pub mod BitLemmas
 pub mod Writing
+pub mod Unique

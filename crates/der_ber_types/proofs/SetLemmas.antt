@@ -1,5 +1,6 @@
 -- The elements of a SET in the order of its members.
-use Rattle.std.proofs.Common.{◌≡◌, ℕ, ◌+◌, ◌-◌, ◌<◌, ◌≤◌, List, [], ◌∷◌, ◌++◌, length, sym, ap, refl, ◌∙◌, append_assoc}
+use Rattle.std.proofs.Common.{◌≡◌, ℕ, ◌+◌, ◌-◌, ◌<◌, ◌≤◌, List, [], ◌∷◌, ◌++◌, length, sym, ap, ap₂, refl, ◌∙◌}
+use Rattle.std.proofs.Common.{append_assoc}
 use Rattle.std.proofs.Common.{arith, length-append, append-nil, drop, take, get_or, subst}
 use Rattle.std.proofs.Math.Seq.{take-append_seam, drop-append_seam}
 use Rattle.std.proofs.lemmas.List.{drop_all, drop_more}
@@ -10,7 +11,7 @@ use Rattle.der_schema.specs.declared.node.Member.{Member}
 use Rattle.der_schema.specs.declared.node.Node.{Node}
 use Rattle.der_ber_types.specs.Inside.{HasTag}
 use Rattle.der_ber_types.specs.Pushed.{IsMoved}
-use Rattle.der_ber_types.specs.Reordered.{AreOthers, AreReordered, HasNone, IsAhead, IsFirst}
+use Rattle.der_ber_types.specs.Reordered.{AreOthers, AreReordered, HasNone, IsFirst}
 use Rattle.der_ber_types.proofs.Cutting.{cut_off}
 
 -- elements without a tag of the type were passed, and these bytes are after them
@@ -61,17 +62,11 @@ first-found nodes i bytes rest tag content after front back element end m n p be
     let cut = cut_off rest after tag content n begins count in
     let own : element ≡ tlv tag content = elements ∙ ap (take n) second ∙ cut.0 in
     let last : end ≡ after = ends ∙ ap (drop n) second ∙ cut.1 in
-    let whole : element ++ end ≡ tlv tag content ++ end = ap (λ e. e ++ end) own in
+    let whole : element ++ end ≡ tlv tag content ++ after = ap₂ (λ e a. e ++ a) own last in
     record {
       others = subst (AreOthers nodes i) (sym first) p.others;
-      is = p.is ∙ ap (λ b. b ++ rest) (sym first) ∙ ap (λ b. front ++ b)
-          (begins.is ∙ ap (λ b. tlv tag content ++ b) (sym last) ∙ sym whole);
-      ahead = record {
-        tag = tag;
-        content = content;
-        begins = record { number = begins.number; is = whole };
-        has_tag = has;
-      };
+      tagged = record { tag = tag; content = content; number = begins.number; has_tag = has; is = own };
+      is = p.is ∙ ap (λ b. b ++ rest) (sym first) ∙ ap (λ b. front ++ b) (begins.is ∙ sym whole);
     }
 
 -- ---- the members one by one

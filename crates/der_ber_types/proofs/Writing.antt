@@ -9,7 +9,8 @@ use Rattle.der_path.proofs.Elements.{one_element}
 use Rattle.der_schema.specs.declared.node.Member.{Member}
 use Rattle.der_schema.specs.declared.node.Node.{Node}
 use Rattle.der_schema.specs.declared.node.Presence.TheVariants.{Required}
-use Rattle.std.proofs.Common.{Bool, true, ◌==◌, eqb-true, Vec, Global, Result, Ok, Err, IfOk, ◌⊎◌, inl, inr}
+use Rattle.std.proofs.lemmas.Bool.{false≢true}
+use Rattle.std.proofs.Common.{Bool, true, false, ◌==◌, eqb-true, Vec, Global, Result, Ok, Err, IfOk, ◌⊎◌, inl, inr}
 use Rattle.der_ber_types.specs.declared.error.TypeError.{TypeError}
 use Rattle.der_ber_types.specs.declared.inside.Inside.{Inside}
 use Rattle.der_ber_types.specs.declared.inside.Inside.TheVariants as inside
@@ -89,6 +90,10 @@ member-next nodes all k d bytes rest after old new inside so_far pushed =
 pub nothing_left : (rest : List ℕ) (b : Bool) → b ≡ (length rest == 0) → b ≡ true → rest ≡ []
 nothing_left [] b e h = refl
 nothing_left (x ∷ rest) b e h = absurd (omega (arith, eqb-true (length (x ∷ rest)) 0 (sym e ∙ h)))
+
+pub something_left : (rest : List ℕ) (b : Bool) → b ≡ (length rest == 0) → b ≡ false → rest ≡ [] → ⊥
+something_left [] b e h same = absurd (false≢true (sym h ∙ e))
+something_left (x ∷ rest) b e h same = cc
 
 -- all of them
 pub members-end : (nodes : List Node) (all : List Member) (k : ℕ) (bytes rest der : List ℕ) → length all ≤ k

@@ -24,11 +24,19 @@ pub data AreOthers (nodes : List Node) (i : ℕ) : List ℕ → Type 0 where
   more : (tag : ℕ) (content rest bytes : List ℕ) → IsTagNumber (number_of tag) → (HasTag nodes i tag → ⊥)
       → AreOthers nodes i rest → bytes ≡ tlv tag content ++ rest → AreOthers nodes i bytes
 
+-- the bytes are one element, which has a tag of the node's type
+pub record IsTagged (nodes : List Node) (i : ℕ) (element : List ℕ) : Type 0 where
+  pub tag : ℕ
+  pub content : List ℕ
+  pub number : IsTagNumber (number_of tag)
+  pub has_tag : HasTag nodes i tag
+  pub is : element ≡ tlv tag content
+
 -- this element is the first one with a tag of the node's type
 pub record IsFirst (nodes : List Node) (i : ℕ) (bytes before element after : List ℕ) : Type 0 where
   pub others : AreOthers nodes i before
+  pub tagged : IsTagged nodes i element
   pub is : bytes ≡ before ++ (element ++ after)
-  pub ahead : IsAhead nodes i (element ++ after) after
 
 -- no element has one
 pub record HasNone (nodes : List Node) (i : ℕ) (bytes : List ℕ) : Type 0 where
