@@ -146,7 +146,7 @@ first-unique nodes i b xs ys e f r s t u c v (AreOthers.more w d rest _ n un oth
     let same = tlv-fronts b u w v d s (rest ++ (e ++ r)) begins other in
     absurd (un (subst (HasTag nodes i) same.0 k))
 first-unique nodes i b xs ys e f r s t u c v (AreOthers.more w d rest _ n un others p)
-    (AreOthers.more z g last _ o other more q) h k is also l m =
+    (AreOthers.more z g last _ o free more q) h k is also l m =
     let begins : b ≡ tlv w d ++ (rest ++ (e ++ r)) =
     l ∙ ap (λ x. x ++ (e ++ r)) p ∙ append_assoc (tlv w d) rest (e ++ r) in
     let other : b ≡ tlv z g ++ (last ++ (f ++ s)) =
@@ -172,7 +172,7 @@ first-none nodes i b xs ys e r s t c (AreOthers.more w d rest _ n un others p) (
     sym (m ∙ ap (λ x. x ++ s) q) ∙ l ∙ ap (λ x. x ++ (e ++ r)) p ∙ append_assoc (tlv w d) rest (e ++ r) in
     none w d (rest ++ (e ++ r)) (record { number = n; is = begins })
 first-none nodes i b xs ys e r s t c (AreOthers.more w d rest _ n un others p)
-    (AreOthers.more z f last _ o other more q) h is none g l m =
+    (AreOthers.more z f last _ o free more q) h is none g l m =
     let begins : b ≡ tlv w d ++ (rest ++ (e ++ r)) =
     l ∙ ap (λ x. x ++ (e ++ r)) p ∙ append_assoc (tlv w d) rest (e ++ r) in
     let other : b ≡ tlv z f ++ (last ++ s) = m ∙ ap (λ x. x ++ s) q ∙ append_assoc (tlv z f) last s in
@@ -252,7 +252,7 @@ mutual
       → AreMembers nodes ms b e → d ≡ e
   members-unique nodes ms b d e (AreMembers.end _ _ p f) (AreMembers.end _ _ q g) = f ∙ sym g
   members-unique nodes ms b d e (AreMembers.present m ns x k r others _ _ one un are p f)
-      (AreMembers.present _ _ y l s more _ _ other not also q g) =
+      (AreMembers.present _ _ y l s more _ _ other lacks also q g) =
       let same = one-fronts nodes m.node m.node b x y k l r s one other p q in
       let first : k ≡ l =
       one-unique nodes m.node x k l one (subst (λ w. IsOne nodes m.node w l) (sym same.0) other) in
@@ -269,11 +269,11 @@ mutual
       (AreMembers.absent _ _ _ _ free none also) =
       absurd (none r (one-ahead nodes m.node b x k r one p))
   members-unique nodes ms b d e (AreMembers.written m ns x k r _ _ one given are p)
-      (AreMembers.present _ _ y l s more _ _ other not also q g) =
+      (AreMembers.present _ _ y l s more _ _ other lacks also q g) =
       let same = one-fronts nodes m.node m.node b x y k l r s one other p q in
       let first : k ≡ l =
       one-unique nodes m.node x k l one (subst (λ w. IsOne nodes m.node w l) (sym same.0) other) in
-      absurd (not (subst (IsDefault nodes m) first given))
+      absurd (lacks (subst (IsDefault nodes m) first given))
   members-unique nodes ms b d e (AreMembers.written m ns x k r _ _ one given are p)
       (AreMembers.written _ _ y l s _ _ other also more q) =
       let same = one-fronts nodes m.node m.node b x y k l r s one other p q in
@@ -282,7 +282,7 @@ mutual
       (AreMembers.absent _ _ _ _ free none also) =
       absurd (none r (one-ahead nodes m.node b x k r one p))
   members-unique nodes ms b d e (AreMembers.absent m ns _ _ free none are)
-      (AreMembers.present _ _ y l s more _ _ other not also q g) =
+      (AreMembers.present _ _ y l s more _ _ other lacks also q g) =
       absurd (none s (one-ahead nodes m.node b y l s other q))
   members-unique nodes ms b d e (AreMembers.absent m ns _ _ free none are)
       (AreMembers.written _ _ y l s _ _ other given more q) =
