@@ -48,13 +48,17 @@ returns-in-One t c =
 pub returns-in_default-inside : goal.returns-in_default-inside
 returns-in_default-inside t c =
     let nodes = c.args.nodes.now in
+    let value = c.args.value in
+    let index = c.args.index in
+    let element = c.args.element.now in
     let first = c.in-Some.first in
-    let it = c.in-Some-inside_of.inside in (
-      λ h. value-own nodes c.args.value c.args.index c.args.element.now first.tag it first.content.now first.after.now
-          c.in-Some.ensures
-          (nothing_left first.after.now c.is_empty.result c.is_empty.ensures c.if-not-is_empty.false)
-          c.in-Some-inside_of.ensures.some (c.is_content_of.ensures.0 h),
-      λ v. c.is_content_of.ensures.1 (own-value nodes c.args.value c.args.index c.args.element.now first.tag it
-          first.content.now first.after.now c.in-Some.ensures c.in-Some-inside_of.ensures.some c.in_default-inside.not-One
-          v),
+    let content = first.content.now in
+    let after = first.after.now in
+    let it = c.in-Some-inside_of.inside in
+    let is = c.in-Some-inside_of.ensures.some in
+    let none = nothing_left after c.is_empty.result c.is_empty.ensures c.if-not-is_empty.false in (
+      λ h. value-own nodes value index element first.tag it content after c.in-Some.ensures none is
+          (c.is_content_of.ensures.0 h),
+      λ v. c.is_content_of.ensures.1 (own-value nodes value index element first.tag it content after c.in-Some.ensures
+          is c.in_default-inside.not-One v),
     )
