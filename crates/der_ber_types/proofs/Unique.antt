@@ -287,7 +287,7 @@ mutual
   members-unique nodes ms b d e (AreMembers.absent m ns _ _ free none are)
       (AreMembers.written _ _ y l s _ _ other given more q) =
       absurd (none s (one-ahead nodes m.node b y l s other q))
-  members-unique nodes ms b d e (AreMembers.absent m ns _ _ free none are) (AreMembers.absent _ _ _ _ also nothing more) =
+  members-unique nodes ms b d e (AreMembers.absent m ns _ _ free none are) (AreMembers.absent _ _ _ _ also un more) =
       members-unique nodes ns b d e are more
 
   content-unique : (nodes : List Node) (x : Inside) (b d e : List ℕ) → IsContent nodes x b d → IsContent nodes x b e
