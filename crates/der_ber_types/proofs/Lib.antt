@@ -5,3 +5,4 @@ pub mod SetLemmas
 pub mod BitLemmas
 pub mod Writing
 pub mod Unique
+pub mod LawLemmas

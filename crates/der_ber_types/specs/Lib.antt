@@ -9,3 +9,4 @@ pub mod Pushed
 pub mod ToDer
 pub mod Errors
 pub mod Message
+pub mod Laws

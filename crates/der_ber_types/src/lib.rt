@@ -9,6 +9,7 @@ mod defaults;
 mod error;
 mod inside;
 mod kinds;
+pub mod laws;
 mod message;
 mod order;
 mod sets;
