@@ -1,6 +1,6 @@
 -- What is in elements: at most one thing by each tag, and nothing where no rule says it.
 use Rattle.std.proofs.Common.{◌≡◌, ℕ, ◌+◌, ◌<◌, ◌≤◌, List, Option, Some, None, IfSome, IfNone, sym, ap, ap₂, ◌∙◌}
-use Rattle.std.proofs.Common.{slice_get, length, subst, arith, refl, inl, inr, true}
+use Rattle.std.proofs.Common.{slice_get, length, subst, arith, refl, inl, inr, Bool, true, false, is_some}
 use Rattle.std.proofs.lemmas.Option.{slice_get_within}
 use Rattle.picky_der_core.specs.Tag.{is_constructed}
 use Rattle.std.proofs.lemmas.Bool.{cases_lt}
@@ -171,6 +171,17 @@ none-all nodes i cs k tag before past j a is small has =
 pub if_none : {A : Type 0} {P Q : Type 0} (r : Option A) → IfNone r P → (P → Q) → IfNone r Q
 if_none None p f = f p
 if_none (Some x) p f = tt
+
+-- whether something is in an element
+pub has_tag-some : (nodes : List Node) (i tag : ℕ) (r : Option Inside) (b : Bool) → IfSome r (IsInside nodes i tag)
+    → b ≡ is_some r → b ≡ true → HasTag nodes i tag
+has_tag-some nodes i tag (Some x) b p e f = tag_of nodes i tag x p
+has_tag-some nodes i tag None b p e f = let wrong : false ≡ true = sym e ∙ f in cc
+
+pub has_tag-none : (nodes : List Node) (i tag : ℕ) (r : Option Inside) (b : Bool) → IfNone r (HasTag nodes i tag → ⊥)
+    → b ≡ is_some r → b ≡ false → HasTag nodes i tag → ⊥
+has_tag-none nodes i tag None b none e f = none
+has_tag-none nodes i tag (Some x) b none e f = let wrong : true ≡ false = sym e ∙ f in cc
 
 -- a string in parts
 pub own-parts : (nodes : List Node) (i own tag : ℕ) (y : Inside) (r : Option Inside) → is_constructed tag ≡ true

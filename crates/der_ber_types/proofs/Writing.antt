@@ -131,12 +131,12 @@ part-more bytes rest content after old new so_far is appended others are =
 
 -- a content that stays
 pub content-same : (nodes : List Node) (x : Inside) (bytes der : List ℕ)
-    → (((x ≡ inside.Same) ⊎ (x ≡ inside.Number)) ⊎ (x ≡ inside.Octets)) ⊎ (x ≡ inside.Bits) → der ≡ bytes
+    → (x ≡ inside.Same) ⊎ ((x ≡ inside.Number) ⊎ ((x ≡ inside.Octets) ⊎ (x ≡ inside.Bits))) → der ≡ bytes
     → IsContent nodes x bytes der
-content-same nodes x bytes der (inl (inl (inl e))) same = rw e (IsContent.same bytes der same)
-content-same nodes x bytes der (inl (inl (inr e))) same = rw e (IsContent.number bytes der same)
-content-same nodes x bytes der (inl (inr e)) same = rw e (IsContent.octets bytes der same)
-content-same nodes x bytes der (inr e) same = rw e (IsContent.bits bytes der same)
+content-same nodes x bytes der (inl e) same = rw e (IsContent.same bytes der same)
+content-same nodes x bytes der (inr (inl e)) same = rw e (IsContent.number bytes der same)
+content-same nodes x bytes der (inr (inr (inl e))) same = rw e (IsContent.octets bytes der same)
+content-same nodes x bytes der (inr (inr (inr e))) same = rw e (IsContent.bits bytes der same)
 
 -- one that a call returns
 pub content-of : (nodes : List Node) (x y : Inside) (bytes : List ℕ) (r : Result (Vec ℕ Global) TypeError)

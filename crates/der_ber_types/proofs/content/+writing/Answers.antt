@@ -1,8 +1,10 @@
-use Rattle.std.proofs.Common.{◌≡◌, ◌+◌, ◌<◌, ◌≤◌, sym, subst, refl, arith, length, IfOk}
+use Rattle.std.proofs.Common.{◌≡◌, ◌+◌, ◌<◌, ◌≤◌, sym, ap, subst, refl, arith, length, IfOk}
 use Rattle.der_ber_types.specs.Content.{IsContent, IsOne, AreEach}
 use Rattle.der_ber_types.specs.Order.{AreInOrder}
 use Rattle.der_ber_types.proofs.Writing.{pushed-shorter, each-more, each-end, member-fewer, member-next, members-end}
-use Rattle.der_ber_types.proofs.Writing.{nothing_left, content-same, content-of, pushed}
+use Rattle.der_ber_types.proofs.Writing.{nothing_left, content-same, content-of, pushed, not_ahead-tag}
+use Rattle.der_ber_types.proofs.Writing.{member-kept, member-cut}
+use Rattle.der_ber_types.proofs.SetLemmas.{reordered-length}
 use Rattle.der_ber_types.proofs.Cutting.{smaller_content}
 use Rattle.der_ber_types.specs.Pushed.{IsPushed}
 use Rattle.der_ber_types.proofs.content.+writing.Goals as goal
@@ -33,12 +35,27 @@ content_in_der-returns-in-Each t c =
     content-of c.args.nodes.now c.args.inside _ c.args.content.now c.each_in_der.result _ c.in-Each.is
     (IsContent.each c.in-Each.index c.args.content.now) c.each_in_der.ensures
 
+pub content_in_der-returns-in-BitParts : goal.content_in_der-returns-in-BitParts
+content_in_der-returns-in-BitParts t c =
+    content-of c.args.nodes.now c.args.inside _ c.args.content.now c.joined_bits.result _ c.in-BitParts.is
+    (IsContent.bit_parts c.args.content.now) c.joined_bits.ensures
+
+pub content_in_der-members_in_der-requires-in-AnyOrder : goal.content_in_der-members_in_der-requires-in-AnyOrder
+content_in_der-members_in_der-requires-in-AnyOrder t c =
+    let nodes = c.args.nodes.now in
+    let same = reordered-length nodes c.in-AnyOrder.members.now c.args.content.now
+    c.in_ok-ordered-in-AnyOrder.ordered.items c.in_ok-ordered-in-AnyOrder.ensures in
+    (omega (arith, c.decreases, same, ap length c.deref.ensures.value), tt)
+
+pub content_in_der-returns-in_ok-ordered-in-AnyOrder : goal.content_in_der-returns-in_ok-ordered-in-AnyOrder
+content_in_der-returns-in_ok-ordered-in-AnyOrder t c = ?
+
 pub content_in_der-returns-in_ok-elements-in-Set : goal.content_in_der-returns-in_ok-elements-in-Set
 content_in_der-returns-in_ok-elements-in-Set t c =
     let content = c.args.content.now in
-    let elements = c.deref.result.now in
+    let elements = c.deref-in-Set.result.now in
     let each : AreEach c.args.nodes.now c.in-Set.index content elements =
-    subst (AreEach c.args.nodes.now c.in-Set.index content) (sym c.deref.ensures.value)
+    subst (AreEach c.args.nodes.now c.in-Set.index content) (sym c.deref-in-Set.ensures.value)
     c.in_ok-elements-in-Set.ensures in
     content-of c.args.nodes.now c.args.inside _ content c.in_order.result (AreInOrder elements) c.in-Set.is
     (λ der. IsContent.set c.in-Set.index content elements der each) c.in_order.ensures
@@ -112,6 +129,20 @@ push_element-content_in_der-requires t c =
     smaller_content c.args.bytes.now element.after.now element.tag element.content.now c.in-Some.ensures in
     (omega (arith, c.decreases, smaller), tt)
 
+pub push_element-returns-in_default-inside_of : goal.push_element-returns-in_default-inside_of
+push_element-returns-in_default-inside_of t c =
+    let element = c.in-Some.element in
+    record {
+      ok = record {
+        none = not_ahead-tag c.args.nodes.now c.args.index element.tag c.args.bytes.now element.content.now
+            element.after.now c.in-Some.ensures c.in_default-inside_of.ensures.none;
+        same = refl;
+      };
+    }
+
+pub push_member-returns : goal.push_member-returns
+push_member-returns t c = ?
+
 pub push_element-returns : goal.push_element-returns
 push_element-returns t c =
     let element = c.in-Some.element in
@@ -121,6 +152,6 @@ push_element-returns t c =
       ok = pushed c.args.nodes.now c.args.index element.tag c.in-Some-inside_of.inside element.content.now content.items
           c.args.bytes.now element.after.now c.args.der.now.items c.push_header.new.bytes.items
           c.extend_from_slice.new.self.items c.deref.result.now c.tag_in_der.result c.len.result c.in-Some.ensures
-          c.in-Some-inside_of.ensures c.in_ok-content.ensures c.tag_in_der.ensures size c.in_ok-push_header.ensures
+          c.in-Some-inside_of.ensures.some c.in_ok-content.ensures c.tag_in_der.ensures size c.in_ok-push_header.ensures
           c.in_ok-extend_from_slice.ensures.items c.deref.ensures.value;
     }
