@@ -146,13 +146,13 @@ first-unique nodes i b xs ys e f r s t u c v (AreOthers.more w d rest _ n un oth
     let same = tlv-fronts b u w v d s (rest ++ (e ++ r)) begins other in
     absurd (un (subst (HasTag nodes i) same.0 k))
 first-unique nodes i b xs ys e f r s t u c v (AreOthers.more w d rest _ n un others p)
-    (AreOthers.more z g last _ o free more q) h k is also l m =
+    (AreOthers.more z g last _ o free latter q) h k is also l m =
     let begins : b ≡ tlv w d ++ (rest ++ (e ++ r)) =
     l ∙ ap (λ x. x ++ (e ++ r)) p ∙ append_assoc (tlv w d) rest (e ++ r) in
     let other : b ≡ tlv z g ++ (last ++ (f ++ s)) =
     m ∙ ap (λ x. x ++ (f ++ s)) q ∙ append_assoc (tlv z g) last (f ++ s) in
     let same = tlv-fronts b w z d g (rest ++ (e ++ r)) (last ++ (f ++ s)) begins other in
-    let ends = first-unique nodes i (rest ++ (e ++ r)) rest last e f r s t u c v others more h k is also refl same.2 in
+    let ends = first-unique nodes i (rest ++ (e ++ r)) rest last e f r s t u c v others latter h k is also refl same.2 in
     (p ∙ ap₂ (λ x y. x ++ y) (ap₂ tlv same.0 same.1) ends.0 ∙ sym q, ends.1, ends.2)
 
 -- an element is found, and none is
@@ -172,12 +172,12 @@ first-none nodes i b xs ys e r s t c (AreOthers.more w d rest _ n un others p) (
     sym (m ∙ ap (λ x. x ++ s) q) ∙ l ∙ ap (λ x. x ++ (e ++ r)) p ∙ append_assoc (tlv w d) rest (e ++ r) in
     none w d (rest ++ (e ++ r)) (record { number = n; is = begins })
 first-none nodes i b xs ys e r s t c (AreOthers.more w d rest _ n un others p)
-    (AreOthers.more z f last _ o free more q) h is none g l m =
+    (AreOthers.more z f last _ o free latter q) h is none g l m =
     let begins : b ≡ tlv w d ++ (rest ++ (e ++ r)) =
     l ∙ ap (λ x. x ++ (e ++ r)) p ∙ append_assoc (tlv w d) rest (e ++ r) in
     let other : b ≡ tlv z f ++ (last ++ s) = m ∙ ap (λ x. x ++ s) q ∙ append_assoc (tlv z f) last s in
     let same = tlv-fronts b w z d f (rest ++ (e ++ r)) (last ++ s) begins other in
-    first-none nodes i (rest ++ (e ++ r)) rest last e r s t c others more h is none g refl same.2
+    first-none nodes i (rest ++ (e ++ r)) rest last e r s t c others latter h is none g refl same.2
 
 reordered-unique : (nodes : List Node) (ms : List Member) (b d e : List ℕ) → AreReordered nodes ms b d
     → AreReordered nodes ms b e → d ≡ e

@@ -1,8 +1,10 @@
 -- Elements that are read from the front one by one, and written in DER.
-use Rattle.std.proofs.Common.{◌≡◌, ◌≢◌, ℕ, ◌+◌, ◌<◌, ◌≤◌, List, [], ◌∷◌, ◌++◌, length, sym, ap, refl, ◌∙◌, append_assoc}
+use Rattle.std.proofs.Common.{◌≡◌, ◌≢◌, ℕ, ◌+◌, ◌-◌, ◌<◌, ◌≤◌, List, [], ◌∷◌, ◌++◌, length, sym, ap, refl, ◌∙◌}
+use Rattle.std.proofs.Common.{append_assoc}
 use Rattle.std.proofs.Common.{arith, length-append, append-nil, drop, take, get_or, subst}
 use Rattle.std.proofs.Math.Seq.{take-append_seam, drop-append_seam}
-use Rattle.std.proofs.lemmas.List.{drop_all, drop_more}
+use Rattle.std.proofs.lemmas.List.{drop_all, drop_more, take_all, length-drop}
+use Rattle.std.specs.Prelude.{slice_range}
 use Rattle.picky_der_core.specs.Element.{tlv, length_octets}
 use Rattle.der_path.specs.Elements.{BeginsWith, BeginsWithNone}
 use Rattle.der_path.proofs.Elements.{one_element}
@@ -196,3 +198,12 @@ member-cut nodes m bytes after old new slice last place p size is given cut =
     let own : slice ≡ p.in_der = is ∙ rw (size, p.appended) (drop-append_seam old p.in_der) in
     IsMemberPushed.written p.element p.in_der p.is_one (subst (IsDefault nodes m) own given) p.is
     (cut ∙ rw (size, p.appended) (take-append_seam old p.in_der))
+
+-- the bytes from a place on
+pub range-end : (xs ys : List ℕ) (place : ℕ) → xs ≡ ys → slice_range xs place (length xs) ≡ drop place ys
+range-end xs ys place e =
+    take_all (length xs - place) (drop place xs) (omega (arith, length-drop place xs)) ∙ ap (drop place) e
+
+pub member-same : (nodes : List Node) (m : Member) (bytes after old new last : List ℕ) → last ≡ new
+    → IsMemberPushed nodes m bytes after old new → IsMemberPushed nodes m bytes after old last
+member-same nodes m bytes after old new last e p = subst (IsMemberPushed nodes m bytes after old) (sym e) p

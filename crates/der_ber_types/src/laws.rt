@@ -2,7 +2,6 @@
 ghost use Rattle.der_ber_types.specs.Laws.{OneDer};
 
 /// Bytes are BER of one DER only, by a type.
-#[tactic(auto, using(crate::proofs::LawLemmas::one_der))]
 pub fn one_der()
     ensures { OneDer }
 {}

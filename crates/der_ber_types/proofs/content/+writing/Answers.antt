@@ -1,9 +1,13 @@
-use Rattle.std.proofs.Common.{◌≡◌, ◌+◌, ◌<◌, ◌≤◌, sym, ap, subst, refl, arith, length, IfOk}
-use Rattle.der_ber_types.specs.Content.{IsContent, IsOne, AreEach}
+use Rattle.std.proofs.Common.{◌≡◌, ◌+◌, ◌<◌, ◌≤◌, sym, ap, ◌∙◌, subst, refl, arith, length, drop}
+use Rattle.std.proofs.Common.{IfOk, slice_range}
+use Rattle.der_ber_types.specs.Content.{IsContent, IsOne, AreEach, AreMembers}
 use Rattle.der_ber_types.specs.Order.{AreInOrder}
 use Rattle.der_ber_types.proofs.Writing.{pushed-shorter, each-more, each-end, member-fewer, member-next, members-end}
 use Rattle.der_ber_types.proofs.Writing.{nothing_left, content-same, content-of, pushed, not_ahead-tag}
-use Rattle.der_ber_types.proofs.Writing.{member-kept, member-cut}
+use Rattle.der_ber_types.proofs.Writing.{member-kept, member-cut, member-same, range-end}
+use Rattle.std.proofs.lemmas.Bool.{false≢true}
+use Rattle.der_ber_types.specs.Reordered.{AreReordered}
+use Rattle.der_ber_types.proofs.content.+writing.Goals.{push_member-then-is_default, push_member-else-is_default}
 use Rattle.der_ber_types.proofs.SetLemmas.{reordered-length}
 use Rattle.der_ber_types.proofs.Cutting.{smaller_content}
 use Rattle.der_ber_types.specs.Pushed.{IsPushed}
@@ -48,7 +52,16 @@ content_in_der-members_in_der-requires-in-AnyOrder t c =
     (omega (arith, c.decreases, same, ap length c.deref.ensures.value), tt)
 
 pub content_in_der-returns-in_ok-ordered-in-AnyOrder : goal.content_in_der-returns-in_ok-ordered-in-AnyOrder
-content_in_der-returns-in_ok-ordered-in-AnyOrder t c = ?
+content_in_der-returns-in_ok-ordered-in-AnyOrder t c =
+    let nodes = c.args.nodes.now in
+    let content = c.args.content.now in
+    let members = c.in-AnyOrder.members in
+    let ordered = c.deref.result.now in
+    let order : AreReordered nodes members.now content ordered =
+    subst (AreReordered nodes members.now content) (sym c.deref.ensures.value) c.in_ok-ordered-in-AnyOrder.ensures in
+    content-of nodes c.args.inside _ content c.members_in_der-in-AnyOrder.result
+    (AreMembers nodes members.now ordered) c.in-AnyOrder.is
+    (λ der. IsContent.any_order members content ordered der order) c.members_in_der-in-AnyOrder.ensures
 
 pub content_in_der-returns-in_ok-elements-in-Set : goal.content_in_der-returns-in_ok-elements-in-Set
 content_in_der-returns-in_ok-elements-in-Set t c =
@@ -141,7 +154,30 @@ push_element-returns-in_default-inside_of t c =
     }
 
 pub push_member-returns : goal.push_member-returns
-push_member-returns t c = ?
+push_member-returns t c =
+    let nodes = c.args.nodes.now in
+    let m = c.args.member.now in
+    let bytes = c.args.bytes.now in
+    let after = c.in-Some.after.now in
+    let old = c.args.der.now.items in
+    let new = c.push_element.new.der.items in
+    let place = c.len-place.result in
+    let slice = slice_range c.deref.result.now place (length c.deref.result.now) in
+    let pushed : IsPushed nodes m.node bytes after old new = rw c.in-Some.is at c.in_ok-after.ensures.ok in
+    let size : place ≡ length old = omega (arith, c.len-place.ensures, c.args.der.now.ok.0) in
+    let whole : slice ≡ drop place new = range-end c.deref.result.now new place c.deref.ensures.value in
+    elim c.if-is_default.branch [
+      | push_member-then-is_default w ↦ record {
+        ok = member-cut nodes m bytes after old new slice c.if-is_default.der.items place pushed size whole
+            (c.is_default.ensures.0 w.if-is_default.true)
+            (ap (λ d. d.items) w.der-is ∙ w.truncate.ensures.items);
+      }
+      | push_member-else-is_default w ↦ record {
+        ok = member-same nodes m bytes after old new c.if-is_default.der.items (ap (λ d. d.items) w.der-is)
+            (member-kept nodes m bytes after old new slice place pushed size whole
+            (λ h. false≢true (sym w.if-is_default.false ∙ c.is_default.ensures.1 h)));
+      }
+    ]
 
 pub push_element-returns : goal.push_element-returns
 push_element-returns t c =

@@ -17,14 +17,16 @@ loop-element-preserved c =
     let element = c.in-Some.element in
     passed-more c.args.nodes.now c.args.index c.args.bytes.now c.loop-element.rest.now element.tag element.content.now
     element.after.now c.loop-element.invariant c.in-Some.ensures
-    (has_tag-none c.args.nodes.now c.args.index element.tag c.inside_of.result c.inside_of.ensures.none
-    c.is_some.result c.is_some.ensures c.if-is_some.false)
+    (has_tag-none c.args.nodes.now c.args.index element.tag c.inside_of.result c.is_some.result
+    c.inside_of.ensures.none c.is_some.ensures c.if-is_some.false)
 
 pub returns-then-is_some : goal.returns-then-is_some
 returns-then-is_some c =
+    let nodes = c.args.nodes.now in
     let element = c.in-Some.element in
-    first-found c.args.nodes.now c.args.index c.args.bytes.now c.loop-element.rest.now element.tag element.content.now
-    element.after.now _ c.split_at.result.1.now _ _ _ _ c.loop-element.invariant c.in-Some.ensures
-    (has_tag-some c.args.nodes.now c.args.index element.tag c.inside_of.result c.inside_of.ensures.some
-    c.is_some.result c.is_some.ensures c.if-is_some.true) refl c.split_at.ensures.front c.split_at.ensures.back refl
-    c.split_at-then-is_some.ensures.front c.split_at-then-is_some.ensures.back
+    let has = has_tag-some nodes c.args.index element.tag c.inside_of.result c.is_some.result c.inside_of.ensures.some
+    c.is_some.ensures c.if-is_some.true in
+    first-found nodes c.args.index c.args.bytes.now c.loop-element.rest.now element.tag element.content.now
+    element.after.now _ c.split_at.result.1.now _ _ _ _ c.loop-element.invariant c.in-Some.ensures has refl
+    c.split_at.ensures.front c.split_at.ensures.back refl c.split_at-then-is_some.ensures.front
+    c.split_at-then-is_some.ensures.back
