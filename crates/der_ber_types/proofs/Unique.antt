@@ -152,7 +152,8 @@ first-unique nodes i b xs ys e f r s t u c v (AreOthers.more w d rest _ n un oth
     let other : b ≡ tlv z g ++ (last ++ (f ++ s)) =
     m ∙ ap (λ x. x ++ (f ++ s)) q ∙ append_assoc (tlv z g) last (f ++ s) in
     let same = tlv-fronts b w z d g (rest ++ (e ++ r)) (last ++ (f ++ s)) begins other in
-    let ends = first-unique nodes i (rest ++ (e ++ r)) rest last e f r s t u c v others latter h k is also refl same.2 in
+    let ends = first-unique nodes i (rest ++ (e ++ r)) rest last e f r s t u c v others latter h k is also refl same.2
+    in
     (p ∙ ap₂ (λ x y. x ++ y) (ap₂ tlv same.0 same.1) ends.0 ∙ sym q, ends.1, ends.2)
 
 -- an element is found, and none is
