@@ -7,15 +7,44 @@ from .ber import OCTET_STRING, by_chance, grouped, in_parts, parts_of, shortened
 from .der import element, encoded
 
 FOLDERS = ("bouncycastle", "cms", "kerberos", "keys", "pkix", "rfc")
-# the word of each type in a row
+# the name of each type in a row, and `message` for one whose content has a type by its identifier
 TYPES = {
-    "der_x509::Certificate": "certificate",
-    "der_x509::CertificateList": "certificate_list",
     "der_cms::ContentInfo": "message",
-    "der_pkix::SubjectAltName": "general_names",
-    "der_pkix::IssuerAltName": "general_names",
-    "der_kerberos::KrbError": "krb_error",
-    "der_kerberos::Ticket": "ticket",
+    "der_kerberos::ApRep": "AP-REP",
+    "der_kerberos::ApReq": "AP-REQ",
+    "der_kerberos::AsRep": "AS-REP",
+    "der_kerberos::AsReq": "AS-REQ",
+    "der_kerberos::Authenticator": "Authenticator",
+    "der_kerberos::EncApRepPart": "EncAPRepPart",
+    "der_kerberos::EncAsRepPart": "EncASRepPart",
+    "der_kerberos::EncTgsRepPart": "EncTGSRepPart",
+    "der_kerberos::EncTicketPart": "EncTicketPart",
+    "der_kerberos::KrbCred": "KRB-CRED",
+    "der_kerberos::KrbError": "KRB-ERROR",
+    "der_kerberos::KrbPriv": "KRB-PRIV",
+    "der_kerberos::KrbSafe": "KRB-SAFE",
+    "der_kerberos::TgsRep": "TGS-REP",
+    "der_kerberos::TgsReq": "TGS-REQ",
+    "der_kerberos::Ticket": "Ticket",
+    "der_pkcs12::PFX": "PFX",
+    "der_pkix::AttributeCertificate": "AttributeCertificate",
+    "der_pkix::CertificationRequest": "CertificationRequest",
+    "der_pkix::EcPrivateKey": "ECPrivateKey",
+    "der_pkix::EncryptedPrivateKeyInfo": "EncryptedPrivateKeyInfo",
+    "der_pkix::IssuerAltName": "GeneralNames",
+    "der_pkix::PrivateKeyInfo": "PrivateKeyInfo",
+    "der_pkix::RsaPrivateKey": "RSAPrivateKey",
+    "der_pkix::RsaPublicKey": "RSAPublicKey",
+    "der_pkix::SubjectAltName": "GeneralNames",
+    "der_status::BasicOcspResponse": "BasicOCSPResponse",
+    "der_status::OcspRequest": "OCSPRequest",
+    "der_status::OcspResponse": "OCSPResponse",
+    "der_status::TimeStampReq": "TimeStampReq",
+    "der_status::TimeStampResp": "TimeStampResp",
+    "der_status::TstInfo": "TSTInfo",
+    "der_x509::Certificate": "Certificate",
+    "der_x509::CertificateList": "CertificateList",
+    "der_x509::SubjectPublicKeyInfo": "SubjectPublicKeyInfo",
 }
 BOOLEAN, CONSTRUCTED, TRUE = 0x01, 0x20, 0xFF
 # id-signedData, id-digestedData and id-encryptedData
@@ -34,36 +63,46 @@ def paths(*texts: str) -> set[Path]:
     return {tuple(bytes.fromhex(it)) for it in texts}
 
 
-# where certificates, lists, and in them and around them messages have sets, BOOLEANs, strings under implicit tags, and sequences with a member
-# `critical BOOLEAN DEFAULT FALSE` after the first; identifiers of keys and the content of EncryptedData are such strings
+# Where these types have sets, BOOLEANs, strings under implicit tags, and sequences with a member `critical BOOLEAN DEFAULT FALSE` after the
+# first, or with a first one `version [0] EXPLICIT INTEGER DEFAULT 0`. Identifiers of keys and the content of EncryptedData are such strings.
 NAMES, CRITICAL, LISTED = paths("30303031"), paths("3030A3303001"), paths("3030A0303001", "30303030303001")
 EXTENSIONS, OF_LISTS = paths("3030A33030"), paths("3030A03030", "303030303030")
 ATTRIBUTES = paths("30A03031", "30A030A0", "30A030A1", "30A0303130A0", "30A0303130A1", "30A0303130A03031", "30A0303130A13031", "30A030A13031",
                    "30A0303130303031")
+MESSAGE_SETS = ATTRIBUTES | below("30A030A0", NAMES) | below("30A030A1", NAMES)
 NOTHING: set[Path] = set()
 SETS: dict[str, set[Path]] = {
-    "any": NOTHING,
-    "certificate": NAMES,
-    "certificate_list": NAMES,
-    "general_names": paths("30A4303031"),
-    "krb_error": NOTHING,
-    "message": ATTRIBUTES | below("30A030A0", NAMES) | below("30A030A1", NAMES),
-    "ticket": NOTHING,
+    "BasicOCSPResponse": paths("3030A13031") | below("30A030", NAMES),
+    "Certificate": NAMES,
+    "CertificateList": NAMES,
+    "CertificationRequest": NAMES | paths("3030A0", "3030A03031"),
+    "GeneralNames": paths("30A4303031"),
+    "PrivateKeyInfo": paths("30A0", "30A03031"),
+    "TimeStampResp": below("30", MESSAGE_SETS),
+    "message": MESSAGE_SETS,
 }
 TRUTHS: dict[str, set[Path]] = {
-    "certificate": CRITICAL,
-    "certificate_list": LISTED,
+    "Certificate": CRITICAL,
+    "CertificateList": LISTED,
     "message": below("30A030A0", CRITICAL) | below("30A030A1", LISTED),
 }
 DEFAULTS: dict[str, set[Path]] = {
-    "certificate": EXTENSIONS,
-    "certificate_list": OF_LISTS,
+    "BasicOCSPResponse": below("30A030", EXTENSIONS),
+    "Certificate": EXTENSIONS,
+    "CertificateList": OF_LISTS,
     "message": below("30A030A0", EXTENSIONS) | below("30A030A1", OF_LISTS),
 }
+VERSIONS: dict[str, set[Path]] = {
+    "BasicOCSPResponse": paths("3030"),
+    "Certificate": paths("3030"),
+    "OCSPRequest": paths("3030"),
+}
 PARTS: dict[str, set[Path]] = {
-    "general_names": paths("3081", "3082", "3086", "3087"),
+    "GeneralNames": paths("3081", "3082", "3086", "3087"),
     "message": paths("30A0303080", "30A030313080"),
 }
+# the tag of such a version, and the version
+VERSION, FIRST_VERSION = 0xA0, bytes.fromhex("A003020100")
 
 
 # ---- forms of a message
@@ -93,13 +132,15 @@ def changed(name: str, data: bytes, path: Path, chance: random.Random | None) ->
         here = (*path, tag)
         if tag & CONSTRUCTED:
             content = changed(name, content, here, chance)
-            if here in SETS[name]:
+            if here in SETS.get(name, NOTHING):
                 members = sorted(elements(content))
                 if chance:
                     chance.shuffle(members)
                 content = b"".join(members)
             elif chance and here in DEFAULTS.get(name, NOTHING) and chance.randint(1, 2) == 1:
                 content = with_default(content)
+            elif chance and here in VERSIONS.get(name, NOTHING) and content[0] != VERSION and chance.randint(1, 2) == 1:
+                content = FIRST_VERSION + content
         elif here in TRUTHS.get(name, NOTHING) and content != b"\0":
             content = bytes([chance.randint(1, TRUE) if chance else TRUE])
         written += encoded(tag, content)

@@ -2,16 +2,15 @@
 //! or `message_to_der` for a message.
 #![tactic(auto)]
 
-mod encrypted;
 mod sample;
-mod signed;
+mod tables;
 
 use der_ber_types::{ContentType, ToDerError, message_to_der, to_der};
 use der_fixtures::{bytes_of, text_of};
-use der_schema::Schema;
-use der_schemas::{kerberos, pkix, x509};
+use der_schemas::{cms, signed_data};
 use std::alloc::{AllocError, Global};
 use std::io;
+use tables::schema_of;
 
 fn main(rt: HostRuntime) -> io::Result<()> {
     let rows = io::read_to_string(rt.alloc(), rt.reader())?;
@@ -22,36 +21,20 @@ fn main(rt: HostRuntime) -> io::Result<()> {
     Ok(())
 }
 
-// The schema of the type with this name, or `None` for a message.
-fn schema_of(name: &str) -> Option<Schema> {
-    match name {
-        "certificate" => Some(x509::certificate()),
-        "certificate_list" => Some(x509::certificate_list()),
-        "general_names" => Some(pkix::general_names()),
-        "krb_error" => Some(kerberos::krb_error()),
-        "ticket" => Some(kerberos::ticket()),
-        "signed_data" => Some(signed::signed_data()),
-        "encrypted_data" => Some(encrypted::encrypted_data()),
-        "digested_data" => Some(encrypted::digested_data()),
-        "sample" => Some(sample::sample()),
-        _ => None,
-    }
-}
-
 // The contents of messages of CMS by the contents of their identifiers (RFC 5652, 5.1, 7 and 8).
 fn contents() -> [ContentType; 3] {
     [
         ContentType {
             identifier: &[0x2A, 0x86, 0x48, 0x86, 0xF7, 0x0D, 0x01, 0x07, 0x02],
-            schema: signed::signed_data(),
+            schema: signed_data::signed_data(),
         },
         ContentType {
             identifier: &[0x2A, 0x86, 0x48, 0x86, 0xF7, 0x0D, 0x01, 0x07, 0x05],
-            schema: encrypted::digested_data(),
+            schema: cms::digested_data(),
         },
         ContentType {
             identifier: &[0x2A, 0x86, 0x48, 0x86, 0xF7, 0x0D, 0x01, 0x07, 0x06],
-            schema: encrypted::encrypted_data(),
+            schema: cms::encrypted_data(),
         },
     ]
 }
