@@ -1,5 +1,5 @@
 -- Bit strings in parts that are read one by one.
-use Rattle.std.proofs.Common.{◌≡◌, ℕ, ◌<◌, ◌≤◌, List, [], ◌∷◌, ◌++◌, length, ap, refl, ◌∙◌, append_assoc}
+use Rattle.std.proofs.Common.{◌≡◌, ℕ, ◌<◌, List, [], ◌∷◌, ◌++◌, length, ap, refl, ◌∙◌, append_assoc}
 use Rattle.std.proofs.Common.{append-nil, arith, subst, length-append, inl, inr}
 use Rattle.std.proofs.lemmas.Bool.{cases_lt}
 use Rattle.picky_der_core.specs.Element.{tlv}

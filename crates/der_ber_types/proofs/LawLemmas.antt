@@ -1,10 +1,8 @@
 -- The laws of BER and DER.
-use Rattle.std.proofs.Common.{◌≡◌, List, ℕ, sym, subst}
-use Rattle.der_schema.specs.declared.node.Node.{Node}
+use Rattle.std.proofs.Common.{sym, subst}
 use Rattle.der_ber.proofs.LawLemmas.{one_whole}
 use Rattle.der_ber_types.specs.Content.{IsOne}
 use Rattle.der_ber_types.specs.Laws.{OneDer}
-use Rattle.der_ber_types.specs.ToDer.{IsBer}
 use Rattle.der_ber_types.proofs.Unique.{one-unique}
 
 pub one_der : OneDer

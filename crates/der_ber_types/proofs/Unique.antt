@@ -1,11 +1,11 @@
 -- Bytes have one DER by a type.
-use Rattle.std.proofs.Common.{◌≡◌, ◌≢◌, ℕ, ◌+◌, ◌<◌, ◌≤◌, List, [], ◌∷◌, ◌++◌, length, sym, ap, ap₂, refl, ◌∙◌, subst}
-use Rattle.std.proofs.Common.{arith, append_assoc, length-append, ◌⊎◌, inl, inr}
+use Rattle.std.proofs.Common.{◌≡◌, ◌≢◌, ℕ, List, [], ◌∷◌, ◌++◌, sym, ap, ap₂, refl, ◌∙◌, subst}
+use Rattle.std.proofs.Common.{arith, append_assoc, ◌⊎◌, inl, inr}
 use Rattle.std.specs.List.{AllByRecursion, concat}
 use Rattle.picky_der_core.specs.Element.{tlv, IsElement}
 use Rattle.picky_der_core.specs.ElementLaws.{tlv_prefix, tlv-same}
 use Rattle.picky_der_core.specs.Order.{in_ascending_order}
-use Rattle.der_path.specs.Elements.{BeginsWith, BeginsWithNone}
+use Rattle.der_path.specs.Elements.{BeginsWithNone}
 use Rattle.der_schema.specs.declared.node.Member.{Member}
 use Rattle.der_schema.specs.declared.node.Node.{Node}
 use Rattle.der_ber_types.specs.declared.inside.Inside.{Inside}
@@ -13,7 +13,7 @@ use Rattle.der_ber_types.specs.Content.{IsContent, IsOne, AreEach, AreMembers}
 use Rattle.der_ber_types.specs.Contents.{IsTruth, AreParts, AreBitParts, AreJoinedBits, IsBitPart}
 use Rattle.der_ber_types.specs.Inside.{IsInside, HasTag}
 use Rattle.der_ber_types.specs.Kinds.{tag_in_der}
-use Rattle.der_ber_types.specs.Order.{AreInOrder, AreElements}
+use Rattle.der_ber_types.specs.Order.{AreInOrder}
 use Rattle.der_ber_types.specs.Reordered.{AreOthers, AreReordered, IsAhead, IsTagged}
 use Rattle.der_ber_types.specs.Values.{IsDefault}
 use Rattle.der_ber_types.proofs.InsideLemmas.{inside-same, tag_of}

@@ -1,9 +1,8 @@
 -- Which elements have the value of a default.
-use Rattle.std.proofs.Common.{◌≡◌, ℕ, List, [], ◌∷◌, ◌++◌, sym, ap, ◌∙◌, subst, append-nil}
+use Rattle.std.proofs.Common.{◌≡◌, ℕ, List, [], ◌++◌, sym, ap, ◌∙◌, subst, append-nil}
 use Rattle.std.proofs.Common.{IsTrue, false}
 use Rattle.std.proofs.lemmas.Bool.{false≢true}
 use Rattle.picky_der_core.specs.Element.{tlv}
-use Rattle.picky_der_core.specs.ElementLaws.{tlv_prefix}
 use Rattle.picky_der_core.specs.Tag.{number_of, IsTagNumber}
 use Rattle.der_path.specs.Elements.{BeginsWith, BeginsWithNone}
 use Rattle.der_path.proofs.Elements.{one_element}

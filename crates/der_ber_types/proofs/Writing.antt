@@ -1,5 +1,5 @@
 -- Elements that are read from the front one by one, and written in DER.
-use Rattle.std.proofs.Common.{◌≡◌, ◌≢◌, ℕ, ◌+◌, ◌-◌, ◌<◌, ◌≤◌, List, [], ◌∷◌, ◌++◌, length, sym, ap, refl, ◌∙◌}
+use Rattle.std.proofs.Common.{◌≡◌, ℕ, ◌+◌, ◌-◌, ◌<◌, ◌≤◌, List, [], ◌∷◌, ◌++◌, length, sym, ap, refl, ◌∙◌}
 use Rattle.std.proofs.Common.{append_assoc}
 use Rattle.std.proofs.Common.{arith, length-append, append-nil, drop, take, get_or, subst}
 use Rattle.std.proofs.Math.Seq.{take-append_seam, drop-append_seam}
@@ -10,7 +10,6 @@ use Rattle.der_path.specs.Elements.{BeginsWith, BeginsWithNone}
 use Rattle.der_path.proofs.Elements.{one_element}
 use Rattle.der_schema.specs.declared.node.Member.{Member}
 use Rattle.der_schema.specs.declared.node.Node.{Node}
-use Rattle.der_schema.specs.declared.node.Presence.TheVariants.{Required}
 use Rattle.std.proofs.lemmas.Bool.{false≢true}
 use Rattle.std.proofs.Common.{Bool, true, false, ◌==◌, eqb-true, Vec, Global, Result, Ok, Err, IfOk, ◌⊎◌, inl, inr}
 use Rattle.der_ber_types.specs.declared.error.TypeError.{TypeError}

@@ -1,5 +1,5 @@
 -- What is in an element of a type of a table.
-use Rattle.std.specs.Prelude.{◌≡◌, ℕ, ◌+◌, ◌<◌, true, ◌⊎◌, List, Option, Some, None, slice_get}
+use Rattle.std.specs.Prelude.{◌≡◌, ℕ, ◌+◌, ◌<◌, true, ◌⊎◌, List, Some, None, slice_get}
 use Rattle.std.specs.Borrow.{Bor}
 use Rattle.picky_der_core.specs.Tag.{is_constructed}
 use Rattle.der_schema.specs.declared.node.Alternative.{Alternative}

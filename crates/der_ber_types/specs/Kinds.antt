@@ -1,5 +1,5 @@
 -- What a kind of types says of its elements.
-use Rattle.std.specs.Prelude.{◌≡◌, ℕ, ◌-◌, Option, Some, None, ◌==◌, if◌then◌else◌}
+use Rattle.std.specs.Prelude.{ℕ, ◌-◌, Option, Some, None, ◌==◌, if◌then◌else◌}
 use Rattle.picky_der_core.specs.declared.asn1.wrapper.Wrapper.{Wrapper}
 use Rattle.picky_der_core.specs.declared.asn1.wrapper.Wrapper.TheVariants as wrapper
 use Rattle.picky_der_core.specs.Wrapper.{wrapper_tag, has_tag_number}

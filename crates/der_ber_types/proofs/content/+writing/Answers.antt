@@ -1,6 +1,6 @@
-use Rattle.std.proofs.Common.{◌≡◌, ◌+◌, ◌<◌, ◌≤◌, sym, ap, ◌∙◌, subst, refl, arith, length, drop}
-use Rattle.std.proofs.Common.{IfOk, slice_range}
-use Rattle.der_ber_types.specs.Content.{IsContent, IsOne, AreEach, AreMembers}
+use Rattle.std.proofs.Common.{◌≡◌, sym, ap, ◌∙◌, subst, refl, arith, length, drop}
+use Rattle.std.proofs.Common.{slice_range}
+use Rattle.der_ber_types.specs.Content.{IsContent, AreEach, AreMembers}
 use Rattle.der_ber_types.specs.Order.{AreInOrder}
 use Rattle.der_ber_types.proofs.Writing.{pushed-shorter, each-more, each-end, member-fewer, member-next, members-end}
 use Rattle.der_ber_types.proofs.Writing.{nothing_left, content-same, content-of, pushed, not_ahead-tag}

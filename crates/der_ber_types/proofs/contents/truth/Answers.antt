@@ -1,4 +1,4 @@
-use Rattle.std.proofs.Common.{◌≡◌, ◌≢◌, ◌≤◌, ◌<◌, ◌++◌, ◌∷◌, ℕ, List, [], length, get_or, ap, sym, refl, ◌∙◌, arith}
+use Rattle.std.proofs.Common.{◌≡◌, ◌≤◌, ◌<◌, ◌++◌, ◌∷◌, ℕ, List, [], length, get_or, ap, refl, ◌∙◌, arith}
 use Rattle.der_ber_types.specs.Contents.{IsTruth}
 use Rattle.der_ber_types.proofs.contents.truth.Goals as goal
 use Rattle.der_ber_types.proofs.contents.truth.Goals.{then-value-eq0, else-value-eq0}

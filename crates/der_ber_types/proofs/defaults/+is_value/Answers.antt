@@ -1,4 +1,4 @@
-use Rattle.std.proofs.Common.{◌≡◌, ◌+◌, ◌<◌, List, [], ℕ, IsTrue, Bool, false, true, ◌↔◌, subst, sym, arith}
+use Rattle.std.proofs.Common.{subst, arith}
 use Rattle.der_ber_types.proofs.Cutting.{smaller_content}
 use Rattle.der_ber_types.proofs.Writing.{nothing_left, something_left}
 use Rattle.der_ber_types.proofs.ValueLemmas.{no_value-none, no_value-more, no_value-tag, value-explicit}

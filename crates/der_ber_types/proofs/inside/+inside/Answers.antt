@@ -1,6 +1,6 @@
-use Rattle.std.proofs.Common.{◌≡◌, refl, sym}
+use Rattle.std.proofs.Common.{refl, sym}
 use Rattle.std.proofs.lemmas.Option.{IfSome_then, slice_get-get_or}
-use Rattle.der_ber_types.specs.Inside.{IsInside, IsInsideOne, IsNoInsideOwn}
+use Rattle.der_ber_types.specs.Inside.{IsInside, IsInsideOne}
 use Rattle.der_ber_types.proofs.InsideLemmas.{if_none, no-any, no_tag-other, no_tag-own, none-all}
 use Rattle.der_ber_types.proofs.inside.+inside.Goals as goal
 

@@ -1,4 +1,4 @@
-use Rattle.std.proofs.Common.{◌≡◌, ◌+◌, true, rules}
+use Rattle.std.proofs.Common.{rules}
 use Rattle.der_ber_types.proofs.InsideLemmas.{own-parts, none-parts}
 use Rattle.der_ber_types.proofs.inside.with_own_tag.Goals as goal
 

@@ -1,4 +1,4 @@
-use Rattle.std.proofs.Common.{◌≡◌, ap, ◌∙◌, sym}
+use Rattle.std.proofs.Common.{ap, ◌∙◌, sym}
 use Rattle.der_ber_types.specs.Message.{IsMessage, message_bytes}
 use Rattle.der_ber_types.proofs.message.message_in_der.Goals as goal
 

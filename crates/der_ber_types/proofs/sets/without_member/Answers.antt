@@ -1,4 +1,4 @@
-use Rattle.std.proofs.Common.{◌≡◌, ◌++◌, ap, ap₂, ◌∙◌, subst}
+use Rattle.std.proofs.Common.{◌++◌, ap, ◌∙◌, subst}
 use Rattle.der_ber_types.specs.Pushed.{IsMoved}
 use Rattle.der_ber_types.specs.Reordered.{IsFirst}
 use Rattle.der_ber_types.proofs.sets.without_member.Goals as goal
