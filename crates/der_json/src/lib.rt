@@ -5,12 +5,23 @@
 
 mod begins;
 mod contents;
+mod decimal;
+mod defaults;
 mod error;
+mod from_json;
 mod items;
+mod limits;
 mod numbers;
+mod octets;
 mod part;
+mod refusal;
+mod same;
 mod strings;
+mod twice;
 mod values;
+mod writer;
 
 pub use error::JsonError;
+pub use from_json::{from_json, from_json_text};
+pub use refusal::{FromJsonError, JsonForm, JsonMistake, JsonRefusal, JsonStep};
 pub use values::to_json;
