@@ -164,6 +164,12 @@ impl Writer {
     fn contained(self, limit: usize, node: u16, json: &Value) -> Result<Vec<u8>, FromJsonError>
         ensures { IfErr result (IsRefusal (view json.now)) }
     {
+        let Some(object) = json.as_object() else {
+            return Err(self.mistake(JsonMistake::Form(JsonForm::Object)));
+        };
+        if let Some(name) = other_name(object, "containing") {
+            return Err(self.unknown(json, name));
+        }
         let Some(value) = json.get("containing") else {
             return Err(self.mistake(JsonMistake::Missing("containing")));
         };
@@ -326,6 +332,16 @@ fn element(alloc: Global, tag: Tag, front: &[u8], content: &[u8]) -> Result<Vec<
 fn unknown_name<'a>(members: &[Member], object: &'a Map<String, Value>) -> Option<&'a str> {
     for (name, _) in object.iter() {
         if !has_name(members, name) {
+            return Some(name.as_str());
+        }
+    }
+    None
+}
+
+// The first name of an object that is another than this.
+fn other_name<'a>(object: &'a Map<String, Value>, own: &str) -> Option<&'a str> {
+    for (name, _) in object.iter() {
+        if name.as_str() != own {
             return Some(name.as_str());
         }
     }
