@@ -1,6 +1,6 @@
-//! For each row on standard input, writes a line to standard output. A row is a type and bytes, whose JSON is written if
-//! the bytes come back from it, or a type, `from` and JSON, whose bytes are written. If there are none, the line says
-//! why.
+//! For each row on standard input, writes a line to standard output. A row is a type and bytes, whose JSON is written
+//! if the bytes come back from it, or a type, `from` and JSON, whose bytes are written. If there are none, the line
+//! says why.
 #![tactic(auto)]
 
 mod kinds;
