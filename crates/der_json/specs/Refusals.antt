@@ -1,5 +1,5 @@
 -- Why JSON isn't that of a value, and where.
-use Rattle.std.specs.Prelude.{◌≡◌, List, [], ◌∷◌, Option, Some, None, option_and_then, string_bytes, ⊤, ⊥}
+use Rattle.std.specs.Prelude.{◌≡◌, List, [], ◌∷◌, Option, Some, None, option_and_then, string_bytes, ⊤}
 use Rattle.serde_json.specs.Data.{Data}
 use Rattle.serde_json.specs.Find.{as_array, as_bool, as_null, as_object, as_str, at, get}
 use Rattle.der_json.specs.declared.refusal.FromJsonError.{FromJsonError}

@@ -71,7 +71,9 @@ fn is_twice(alloc: Global, levels: &mut Vec<Level>, name: &str) -> Result<bool, 
 fn path_of(alloc: Global, levels: Vec<Level>) -> Result<Vec<JsonStep>, AllocError> {
     let mut path = Vec::new(alloc);
     for level in levels {
-        if let Some(step) = level.last {
+        let Level { names, last, .. } = level;
+        drop(names);
+        if let Some(step) = last {
             path.push(step)?;
         }
     }
