@@ -26,10 +26,15 @@ pub fn from_json(alloc: Global, schema: Schema, json: &Value) -> Result<Vec<u8>,
 {
     let nodes = schema.nodes;
     let bytes = Writer { alloc, nodes }.value(nodes.len(), schema.root, true, json)?;
-    match to_json(alloc, schema, &bytes) {
-        Ok(value) if is_same(&value, json) => Ok(bytes),
-        Err(JsonError::OutOfMemory) => Err(FromJsonError::OutOfMemory),
-        _ => Err(FromJsonError::of(alloc, JsonMistake::Spelling)),
+    let value = match to_json(alloc, schema, &bytes) {
+        Ok(value) => value,
+        Err(JsonError::OutOfMemory) => return Err(FromJsonError::OutOfMemory),
+        Err(_) => return Err(FromJsonError::of(alloc, JsonMistake::Spelling)),
+    };
+    if is_same(&value, json) {
+        Ok(bytes)
+    } else {
+        Err(FromJsonError::of(alloc, JsonMistake::Spelling))
     }
 }
 

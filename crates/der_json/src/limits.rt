@@ -89,7 +89,7 @@ fn is_signed(bits: u8, content: &[u8]) -> bool {
     match number {
         Some(number) => {
             let digits = if number < 0 { !number } else { number };
-            digits.cast_unsigned().leading_zeros() + u32::from(bits) >= 129
+            digits.leading_zeros() + u32::from(bits) >= 129
         }
         None => false,
     }

@@ -26,11 +26,15 @@ pub(crate) fn content_octets(
 {
     let content = unchecked_octets(alloc, kind, json)?;
     let bytes = &content;
-    match content_value(alloc, kind, Part { bytes, place: 0 }) {
-        Ok(value) if is_same(&value, json) => Ok(content),
-        Ok(_) => Err(FromJsonError::of(alloc, JsonMistake::Spelling)),
-        Err(JsonError::OutOfMemory) => Err(FromJsonError::OutOfMemory),
-        Err(_) => Err(FromJsonError::of(alloc, mistake_in(kind))),
+    let value = match content_value(alloc, kind, Part { bytes, place: 0 }) {
+        Ok(value) => value,
+        Err(JsonError::OutOfMemory) => return Err(FromJsonError::OutOfMemory),
+        Err(_) => return Err(FromJsonError::of(alloc, mistake_in(kind))),
+    };
+    if is_same(&value, json) {
+        Ok(content)
+    } else {
+        Err(FromJsonError::of(alloc, JsonMistake::Spelling))
     }
 }
 
@@ -117,7 +121,7 @@ fn item_octets(
     let text = text_of(alloc, json)?;
     for item in items {
         if item.name == text {
-            return Ok(number_octets(alloc, false, item.number)?);
+            return Ok(number_octets(alloc, item.number)?);
         }
     }
     Err(FromJsonError::of(alloc, JsonMistake::Item))
@@ -127,21 +131,21 @@ fn item_octets(
 fn bits_octets(alloc: Global, json: &Value) -> Result<Vec<u8>, FromJsonError>
     ensures { IfErr result (IsRefusal (view json.now)) }
 {
-    let (Some(Value::Number(len)), Some(value)) = (json.get("length"), json.get("value")) else {
+    let (Some(len), Some(value)) = (json.get("length"), json.get("value")) else {
         return Err(FromJsonError::of(alloc, JsonMistake::Form(JsonForm::Bits)));
     };
     let octets = match hexadecimal_octets(alloc, value) {
         Ok(octets) => octets,
         Err(error) => return Err(error.in_member(alloc, "value")),
     };
-    let Some(len) = len.as_u64() else {
+    let (Some(len), Ok(size)) = (len.as_u64(), u64::try_from(octets.len())) else {
         return Err(FromJsonError::of(alloc, JsonMistake::Length));
     };
-    let mut content = Vec::new(alloc);
     let unused = (8 - len % 8) % 8;
-    if usize::try_from(len.div_ceil(8)) != Ok(octets.len()) {
+    if len / 8 + u64::from(unused > 0) != size {
         return Err(FromJsonError::of(alloc, JsonMistake::Length));
     }
+    let mut content = Vec::new(alloc);
     content.push(unused as u8)?;
     content.extend_from_slice(&octets)?;
     Ok(content)

@@ -127,7 +127,7 @@ impl Writer {
         ensures { (whole : Data) → IfErr result (IsRefusal whole) }
     {
         if has_header {
-            Ok(element(self.alloc, tag, &[], &content)?)
+            Ok(element(self.alloc, tag, &content)?)
         } else {
             Ok(content)
         }
@@ -151,12 +151,12 @@ impl Writer {
             Wrapper::OctetContainer | Wrapper::BitContainer => self.contained(limit, node, json)?,
             _ => self.value(limit, node, wrapper.keeps_header(), json)?,
         };
-        let front: &[u8] = if wrapper.counts_unused_bits() {
-            &[0x00]
-        } else {
-            &[]
-        };
-        Ok(element(self.alloc, wrapper.tag(), front, &inner)?)
+        let mut content = Vec::new(self.alloc);
+        if wrapper.counts_unused_bits() {
+            content.push(0x00)?;
+        }
+        content.extend_from_slice(&inner)?;
+        Ok(element(self.alloc, wrapper.tag(), &content)?)
     }
 
     // What is written of the value that a string contains.
@@ -230,14 +230,15 @@ impl Writer {
                 _ => Ok(Vec::new(self.alloc)),
             };
         };
-        match self.value(limit, member.node, true, value) {
-            Ok(encoding) if has_default(member.presence, &encoding) => {
-                let error = self.mistake(JsonMistake::Default);
-                Err(error.in_member(self.alloc, member.name))
-            }
-            Ok(encoding) => Ok(encoding),
-            Err(error) => Err(error.in_member(self.alloc, member.name)),
+        let encoding = match self.value(limit, member.node, true, value) {
+            Ok(encoding) => encoding,
+            Err(error) => return Err(error.in_member(self.alloc, member.name)),
+        };
+        if has_default(member.presence, &encoding) {
+            let error = self.mistake(JsonMistake::Default);
+            return Err(error.in_member(self.alloc, member.name));
         }
+        Ok(encoding)
     }
 
     // What is written of the items of an array. Those of a set have to ascend.
@@ -258,7 +259,7 @@ impl Writer {
         let mut last = Vec::new(self.alloc);
         for index in 0..array.len() {
             let encoding = self.item(limit, item, json, index)?;
-            if is_set && encoding < last {
+            if is_set && encoding.as_slice() < last.as_slice() {
                 return Err(self.mistake(JsonMistake::Order).in_item(index));
             }
             content.extend_from_slice(&encoding)?;
@@ -317,13 +318,11 @@ impl Writer {
     }
 }
 
-// The bytes of an element with this tag. The content begins with those in front.
-fn element(alloc: Global, tag: Tag, front: &[u8], content: &[u8]) -> Result<Vec<u8>, AllocError> {
+// The bytes of an element with this tag and content.
+fn element(alloc: Global, tag: Tag, content: &[u8]) -> Result<Vec<u8>, AllocError> {
     let mut bytes = Vec::new(alloc);
     bytes.push(tag.inner())?;
-    let len = front.len().saturating_add(content.len());
-    bytes.extend_from_slice(&Length::bytes(len))?;
-    bytes.extend_from_slice(front)?;
+    bytes.extend_from_slice(&Length::bytes(content.len()))?;
     bytes.extend_from_slice(content)?;
     Ok(bytes)
 }
@@ -363,6 +362,7 @@ fn only_name(json: &Value) -> Option<&str> {
     if object.len() != 1 {
         return None;
     }
-    let (name, _) = object.iter().next()?;
+    let mut members = object.iter();
+    let (name, _) = members.next()?;
     Some(name.as_str())
 }
