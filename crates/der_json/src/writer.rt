@@ -259,7 +259,7 @@ impl Writer {
         let mut last = Vec::new(self.alloc);
         for index in 0..array.len() {
             let encoding = self.item(limit, item, json, index)?;
-            if is_set && encoding.as_slice() < last.as_slice() {
+            if is_set && encoding.as_slice().cmp(last.as_slice()).is_lt() {
                 return Err(self.mistake(JsonMistake::Order).in_item(index));
             }
             content.extend_from_slice(&encoding)?;
