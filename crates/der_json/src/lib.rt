@@ -10,6 +10,7 @@ mod defaults;
 mod error;
 mod from_json;
 mod items;
+pub mod laws;
 mod limits;
 mod numbers;
 mod octets;
