@@ -25,7 +25,7 @@ pub(crate) fn content_octets(
     ensures refused { IfErr result (IsRefusal (view json.now)) }
 {
     let content = unchecked_octets(alloc, kind, json)?;
-    let bytes = &content;
+    let bytes = content.as_slice();
     let value = match content_value(alloc, kind, Part { bytes, place: 0 }) {
         Ok(value) => value,
         Err(JsonError::OutOfMemory) => return Err(FromJsonError::OutOfMemory),

@@ -115,7 +115,7 @@ impl Writer {
         ensures { IfErr result (IsRefusal (view json.now)) }
     {
         let octets = hexadecimal_octets(self.alloc, json)?;
-        let bytes = &octets;
+        let bytes = octets.as_slice();
         match (Part { bytes, place: 0 }).element() {
             Ok(()) => Ok(octets),
             Err(_) => Err(self.mistake(JsonMistake::Content("element"))),
@@ -258,7 +258,13 @@ impl Writer {
         let mut content = Vec::new(self.alloc);
         let mut last = Vec::new(self.alloc);
         for index in 0..array.len() {
-            let encoding = self.item(limit, item, json, index)?;
+            let Some(value) = json.get(index) else {
+                return Err(self.mistake(JsonMistake::Schema));
+            };
+            let encoding = match self.value(limit, item, true, value) {
+                Ok(encoding) => encoding,
+                Err(error) => return Err(error.in_item(index)),
+            };
             if is_set && encoding.as_slice().cmp(last.as_slice()).is_lt() {
                 return Err(self.mistake(JsonMistake::Order).in_item(index));
             }
@@ -266,26 +272,6 @@ impl Writer {
             last = encoding;
         }
         Ok(content)
-    }
-
-    // What is written of the item at this index.
-    #[cycle(written)]
-    fn item(
-        self,
-        limit: usize,
-        item: u16,
-        array: &Value,
-        index: usize,
-    ) -> Result<Vec<u8>, FromJsonError>
-        ensures { IfErr result (IsRefusal (view array.now)) }
-    {
-        let Some(value) = array.get(index) else {
-            return Err(self.mistake(JsonMistake::Schema));
-        };
-        match self.value(limit, item, true, value) {
-            Ok(encoding) => Ok(encoding),
-            Err(error) => Err(error.in_item(index)),
-        }
     }
 
     // What is written of the alternative that an object of one member names.

@@ -10,9 +10,6 @@ decreases-contained l = 3 * l.limit + 1
 abbrev pub decreases-member : goal.decreases-member
 decreases-member l = 3 * l.limit + 1
 
-abbrev pub decreases-item : goal.decreases-item
-decreases-item l = 3 * l.limit + 1
-
 abbrev pub decreases-wrapped : goal.decreases-wrapped
 decreases-wrapped l = 3 * l.limit + 2
 
