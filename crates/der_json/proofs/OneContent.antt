@@ -220,7 +220,7 @@ one_text s t d a b = cc (a.is, b.is)
 -- ---- all kinds
 
 pub one_content : (k : Kind) → has_one_content k ≡ true → HasOneContent k
-one_content kind.Boolean h s t d p q a b = cc (a.1.0, a.1.1, b.1.0, b.1.1)
+one_content kind.Boolean h s t d p q a b = cc (a.1, a.2, b.1, b.2)
 one_content kind.Integer h s t d p q a b = one_number s t d p q a b
 one_content (kind.NamedInteger items) h s t d p q a b = one_number s t d p q a b
 one_content (kind.Unsigned bits) h s t d p q a b = one_number s t d p q a b
