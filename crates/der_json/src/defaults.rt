@@ -21,8 +21,8 @@ pub(crate) fn has_default(presence: Presence, encoding: &[u8]) -> bool {
 
 fn is_content_of(value: DefaultValue, content: &[u8]) -> bool {
     match value {
-        DefaultValue::True => content == [0xFF],
-        DefaultValue::False => content == [0x00],
+        DefaultValue::True => matches!(content, [0xFF]),
+        DefaultValue::False => matches!(content, [0x00]),
         DefaultValue::Number(number) => {
             if !is_integer(content) {
                 return false;
