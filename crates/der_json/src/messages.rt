@@ -1,5 +1,5 @@
 //! Messages from JSON.
-ghost use Rattle.std.specs.Prelude.{◌≡◌, ◌×◌, Some, true, IfErr, IfOk};
+ghost use Rattle.std.specs.Prelude.{◌≡◌, true, Some, IfErr, IfOk};
 ghost use Rattle.serde_json.specs.Data.{Data};
 ghost use Rattle.serde_json.specs.Read.{read};
 ghost use Rattle.serde_json.specs.View.{view};
