@@ -1,3 +1,2 @@
 pub mod NumberLemmas
-pub mod OneContent
 pub mod ValueLemmas

@@ -9,7 +9,6 @@ mod decimal;
 mod defaults;
 mod error;
 mod items;
-pub mod laws;
 mod limits;
 mod messages;
 mod numbers;
