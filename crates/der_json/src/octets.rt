@@ -1,8 +1,7 @@
 //! Contents from JSON.
-ghost use Rattle.std.specs.Prelude.{IfErr, IfOk};
+ghost use Rattle.std.specs.Prelude.{IfOk};
 ghost use Rattle.serde_json.specs.View.{view};
 ghost use Rattle.der_json.specs.Contents.{IsContentJson};
-ghost use Rattle.der_json.specs.Refusals.{IsRefusal};
 
 use crate::JsonError;
 use crate::contents::content_value;
@@ -21,8 +20,7 @@ pub(crate) fn content_octets(
     kind: Kind,
     json: &Value,
 ) -> Result<Vec<u8>, FromJsonError>
-    ensures ok { IfOk result (λ content. IsContentJson kind content.items (view json.now)) }
-    ensures refused { IfErr result (IsRefusal (view json.now)) }
+    ensures { IfOk result (λ content. IsContentJson kind content.items (view json.now)) }
 {
     let content = unchecked_octets(alloc, kind, json)?;
     let bytes = content.as_slice();
@@ -50,9 +48,7 @@ fn mistake_in(kind: Kind) -> JsonMistake {
 }
 
 // The content of a value without parts.
-fn unchecked_octets(alloc: Global, kind: Kind, json: &Value) -> Result<Vec<u8>, FromJsonError>
-    ensures { IfErr result (IsRefusal (view json.now)) }
-{
+fn unchecked_octets(alloc: Global, kind: Kind, json: &Value) -> Result<Vec<u8>, FromJsonError> {
     match kind {
         Kind::Boolean => boolean_octets(alloc, json),
         Kind::Integer | Kind::NamedInteger(_) | Kind::Unsigned(_) | Kind::Signed(_) => {
@@ -78,18 +74,14 @@ fn unchecked_octets(alloc: Global, kind: Kind, json: &Value) -> Result<Vec<u8>, 
 }
 
 // The text that this JSON is.
-fn text_of<'a>(alloc: Global, json: &'a Value) -> Result<&'a str, FromJsonError>
-    ensures { IfErr result (IsRefusal (view json.now)) }
-{
+fn text_of<'a>(alloc: Global, json: &'a Value) -> Result<&'a str, FromJsonError> {
     match json.as_str() {
         Some(text) => Ok(text),
         None => Err(FromJsonError::of(alloc, JsonMistake::Form(JsonForm::Text))),
     }
 }
 
-fn boolean_octets(alloc: Global, json: &Value) -> Result<Vec<u8>, FromJsonError>
-    ensures { IfErr result (IsRefusal (view json.now)) }
-{
+fn boolean_octets(alloc: Global, json: &Value) -> Result<Vec<u8>, FromJsonError> {
     let mut content = Vec::new(alloc);
     match json {
         Value::Bool(true) => content.push(0xFF)?,
@@ -101,9 +93,7 @@ fn boolean_octets(alloc: Global, json: &Value) -> Result<Vec<u8>, FromJsonError>
     Ok(content)
 }
 
-fn null_octets(alloc: Global, json: &Value) -> Result<Vec<u8>, FromJsonError>
-    ensures { IfErr result (IsRefusal (view json.now)) }
-{
+fn null_octets(alloc: Global, json: &Value) -> Result<Vec<u8>, FromJsonError> {
     match json {
         Value::Null => Ok(Vec::new(alloc)),
         _ => Err(FromJsonError::of(alloc, JsonMistake::Form(JsonForm::Null))),
@@ -115,9 +105,7 @@ fn item_octets(
     alloc: Global,
     items: &'static [Item],
     json: &Value,
-) -> Result<Vec<u8>, FromJsonError>
-    ensures { IfErr result (IsRefusal (view json.now)) }
-{
+) -> Result<Vec<u8>, FromJsonError> {
     let text = text_of(alloc, json)?;
     for item in items {
         if item.name == text {
@@ -128,9 +116,7 @@ fn item_octets(
 }
 
 // How many bits of the last byte are unused, and the bytes.
-fn bits_octets(alloc: Global, json: &Value) -> Result<Vec<u8>, FromJsonError>
-    ensures { IfErr result (IsRefusal (view json.now)) }
-{
+fn bits_octets(alloc: Global, json: &Value) -> Result<Vec<u8>, FromJsonError> {
     let (Some(len), Some(value)) = (json.get("length"), json.get("value")) else {
         return Err(FromJsonError::of(alloc, JsonMistake::Form(JsonForm::Bits)));
     };
@@ -152,9 +138,7 @@ fn bits_octets(alloc: Global, json: &Value) -> Result<Vec<u8>, FromJsonError>
 }
 
 // The bytes of a text of hexadecimal digits.
-pub(crate) fn hexadecimal_octets(alloc: Global, json: &Value) -> Result<Vec<u8>, FromJsonError>
-    ensures { IfErr result (IsRefusal (view json.now)) }
-{
+pub(crate) fn hexadecimal_octets(alloc: Global, json: &Value) -> Result<Vec<u8>, FromJsonError> {
     match hex::decode(alloc, text_of(alloc, json)?) {
         Ok(octets) => Ok(octets),
         Err(hex::FromHexError::OutOfMemory) => Err(FromJsonError::OutOfMemory),
@@ -162,9 +146,7 @@ pub(crate) fn hexadecimal_octets(alloc: Global, json: &Value) -> Result<Vec<u8>,
     }
 }
 
-fn identifier_octets(alloc: Global, json: &Value) -> Result<Vec<u8>, FromJsonError>
-    ensures { IfErr result (IsRefusal (view json.now)) }
-{
+fn identifier_octets(alloc: Global, json: &Value) -> Result<Vec<u8>, FromJsonError> {
     match ObjectIdentifier::from_str(alloc, text_of(alloc, json)?) {
         Ok(identifier) => Ok(identifier.content().to_vec(alloc)?),
         Err(OidError::OutOfMemory) => Err(FromJsonError::OutOfMemory),
@@ -172,9 +154,7 @@ fn identifier_octets(alloc: Global, json: &Value) -> Result<Vec<u8>, FromJsonErr
     }
 }
 
-fn relative_octets(alloc: Global, json: &Value) -> Result<Vec<u8>, FromJsonError>
-    ensures { IfErr result (IsRefusal (view json.now)) }
-{
+fn relative_octets(alloc: Global, json: &Value) -> Result<Vec<u8>, FromJsonError> {
     match RelativeOid::from_str(alloc, text_of(alloc, json)?) {
         Ok(identifier) => Ok(identifier.content().to_vec(alloc)?),
         Err(OidError::OutOfMemory) => Err(FromJsonError::OutOfMemory),
@@ -183,9 +163,7 @@ fn relative_octets(alloc: Global, json: &Value) -> Result<Vec<u8>, FromJsonError
 }
 
 // A time of a year from 2050 on, without a fraction.
-fn later_octets(alloc: Global, json: &Value) -> Result<Vec<u8>, FromJsonError>
-    ensures { IfErr result (IsRefusal (view json.now)) }
-{
+fn later_octets(alloc: Global, json: &Value) -> Result<Vec<u8>, FromJsonError> {
     let text = text_of(alloc, json)?;
     match LaterTime::from_content(text.as_bytes().to_vec(alloc)?) {
         Some(_) => Ok(text.as_bytes().to_vec(alloc)?),
@@ -194,9 +172,7 @@ fn later_octets(alloc: Global, json: &Value) -> Result<Vec<u8>, FromJsonError>
 }
 
 // The characters of a restricted string by its tag, each in one, two or four bytes.
-fn string_octets(alloc: Global, tag: u8, json: &Value) -> Result<Vec<u8>, FromJsonError>
-    ensures { IfErr result (IsRefusal (view json.now)) }
-{
+fn string_octets(alloc: Global, tag: u8, json: &Value) -> Result<Vec<u8>, FromJsonError> {
     let mut content = Vec::new(alloc);
     for character in text_of(alloc, json)?.chars() {
         let number = character as u32;
