@@ -6,6 +6,7 @@ pub mod Fitting
 pub mod Message
 pub mod Names
 pub mod Outcome
+pub mod Paths
 pub mod Place
 pub mod Printed
 pub mod Types

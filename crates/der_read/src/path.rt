@@ -1,12 +1,17 @@
 //! Where in a message an error is: by the names of its type if there is a schema of it, or by numbers. The only error
 //! of each function is a failed allocation.
+ghost use Rattle.std.specs.Prelude.{IfOk, IfSome, string_bytes};
+ghost use Rattle.der_read.specs.Paths.{IsNumbersText, IsSchemaOf};
 
 use crate::MessageType;
 use der_error_path::path_of_error;
+use der_kerberos::{KrbError, Ticket};
 use der_path::{path_at, text_of};
 use der_schema::Schema;
 use der_schemas::{kerberos, x509};
 use der_show::{Cause, Reason};
+use der_types::Notated;
+use der_x509::{Certificate, CertificateList};
 use std::alloc::{AllocError, Global};
 
 // What is printed after the reason for which bytes were refused as a message of a type, after so many of them: the path
@@ -28,7 +33,10 @@ pub(crate) fn path_text(
 }
 
 // The schema of a type of messages, if there is one.
-fn schema_of(named: MessageType) -> Option<Schema> {
+fn schema_of(named: MessageType) -> Option<Schema>
+    ensures { IfSome result (IsSchemaOf ⟦<Certificate as Notated>⟧.notation ⟦<CertificateList as Notated>⟧.notation
+        ⟦<Ticket as Notated>⟧.notation ⟦<KrbError as Notated>⟧.notation named) }
+{
     match named {
         MessageType::Certificate => Some(x509::certificate()),
         MessageType::Crl => Some(x509::certificate_list()),
@@ -62,7 +70,9 @@ fn by_names(
 
 /// Returns what is printed of the element at this offset after a reason: its path by numbers, as `; element 0.2.1`, or
 /// nothing of the first element. The only error is a failed allocation.
-pub fn path_by_numbers(alloc: Global, bytes: &[u8], offset: usize) -> Result<String, AllocError> {
+pub fn path_by_numbers(alloc: Global, bytes: &[u8], offset: usize) -> Result<String, AllocError>
+    ensures { IfOk result (λ text. IsNumbersText bytes.now offset (string_bytes text)) }
+{
     if offset == 0 {
         return Ok(String::new(alloc));
     }
