@@ -12,6 +12,7 @@ mod outcome;
 mod path;
 mod place;
 mod printed;
+mod schema;
 mod strings;
 mod verdict;
 
@@ -23,7 +24,7 @@ use message::{refusal_as, reported};
 pub use message_type::{ALL_TYPES, Described, MessageType, TRIED_TYPES, refusal_of};
 pub use names::{name_text, push_name};
 pub use outcome::{Outcome, Reading, examine};
-pub use path::path_by_numbers;
+pub use path::{path_by_numbers, path_of};
 pub use place::{block_value, place_name, place_text};
 pub use printed::read_message;
 pub use verdict::{Verdict, verdict_of};
