@@ -4,3 +4,4 @@ pub mod Types
 pub mod Elements
 pub mod Writing
 pub mod Order
+pub mod Paths

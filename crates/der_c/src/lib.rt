@@ -10,5 +10,6 @@ mod front;
 mod messages;
 mod next;
 mod order;
+mod path;
 mod types;
 mod writing;
