@@ -3,6 +3,7 @@ pub mod Certificates
 pub mod Described
 pub mod Explanation
 pub mod Fitting
+pub mod JsonMessages
 pub mod Message
 pub mod Names
 pub mod Outcome

@@ -4,6 +4,7 @@
 mod attribute_name;
 mod certificate;
 mod explanation;
+mod json;
 mod kerberos_message;
 mod message;
 mod message_type;
@@ -18,6 +19,7 @@ mod verdict;
 
 pub use certificate::certificate_line;
 pub use explanation::Explanation;
+pub use json::{MessageJson, json_of};
 pub use kerberos_message::KerberosMessage;
 pub use message::{type_of_label, type_of_word, types_of};
 use message::{refusal_as, reported};
