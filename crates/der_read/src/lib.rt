@@ -4,6 +4,7 @@
 mod attribute_name;
 mod certificate;
 mod explanation;
+mod from_json;
 mod json;
 mod kerberos_message;
 mod message;
@@ -19,6 +20,7 @@ mod verdict;
 
 pub use certificate::certificate_line;
 pub use explanation::Explanation;
+pub use from_json::{FromJson, message_from_json};
 pub use json::{MessageJson, json_of};
 pub use kerberos_message::KerberosMessage;
 pub use message::{type_of_label, type_of_word, types_of};
