@@ -24,6 +24,9 @@ no_place = 8
 abbrev pub unknown_type : ℕ
 unknown_type = 9
 
+abbrev pub no_table : ℕ
+no_table = 10
+
 -- what is asked for is too large
 abbrev pub too_large : ℕ
 too_large = 3

@@ -36,6 +36,9 @@ pub const PICKY_DER_NO_PLACE: u32 = 8;
 /// No type has this number.
 pub const PICKY_DER_UNKNOWN_TYPE: u32 = 9;
 
+/// The type has no table, and so its messages have no JSON here.
+pub const PICKY_DER_NO_TABLE: u32 = 10;
+
 /// Returns the code of an error.
 pub(crate) fn error_code(error: Asn1DerError) -> u32
     ensures { result ≡ error_code error }

@@ -7,6 +7,7 @@ mod code;
 mod element;
 mod elements;
 mod front;
+mod json;
 mod messages;
 mod next;
 mod order;
