@@ -1,12 +1,12 @@
 -- Messages in JSON, written into a buffer.
-use Rattle.std.specs.Prelude.{◌≡◌, ◌≢◌, ℕ, Option, None, Some, List}
+use Rattle.std.specs.Prelude.{◌≡◌, ◌≢◌, ◌==◌, ℕ, Option, None, Some, List, if◌then◌else◌}
 use Rattle.serde_json.specs.Data.{Data}
 use Rattle.der_program_base.specs.Json.{json_line}
 use Rattle.der_read.specs.contracts.message_type.MessageTypeDescribed.TheImpl as known
 use Rattle.der_read.specs.declared.message_type.MessageType.{MessageType}
-use Rattle.der_read.specs.JsonMessages.{IsJsonOf}
+use Rattle.der_read.specs.JsonMessages.{IsJsonOf, IsMessageOfJson}
 use Rattle.der_read.specs.Paths.{HasNoSchema}
-use Rattle.der_c.specs.Codes.{ok, memory_failed, no_table, too_large, unknown_type}
+use Rattle.der_c.specs.Codes.{ok, memory_failed, no_table, no_value, too_large, unknown_type}
 use Rattle.der_c.specs.Verdict.{IsVerdict}
 use Rattle.der_c.specs.Writing.{IsPut}
 
@@ -31,3 +31,19 @@ abbrev pub IsJsonPut : Option MessageType → List ℕ → ℕ → List ℕ → 
 IsJsonPut None bytes position old new before after code = (position ≡ 0) × (new ≡ old) × (after ≡ before)
     × (code ≡ unknown_type)
 IsJsonPut (Some t) bytes position old new before after code = IsJsonOfMessage t bytes position old new before after code
+
+-- ---- the other way
+
+-- the DER of a message with this JSON was appended; or the reason for which it is that of none, with another code
+pub data IsMessageWritten (t : MessageType) (json old new : List ℕ) (before after code : ℕ) : Type 0 where
+  message : (bytes : List ℕ) → IsMessageOfJson t json bytes → IsPut bytes old new before after code
+      → IsMessageWritten t json old new before after code
+  no_table : HasNoSchema t → new ≡ old → after ≡ before → code ≡ no_table
+      → IsMessageWritten t json old new before after code
+  refused : (reason : List ℕ) (put : ℕ) → IsPut reason old new before after put
+      → code ≡ (if put == ok then no_value else put) → IsMessageWritten t json old new before after code
+  no_memory : new ≡ old → after ≡ before → code ≡ memory_failed → IsMessageWritten t json old new before after code
+
+abbrev pub IsMessagePut : Option MessageType → List ℕ → List ℕ → List ℕ → ℕ → ℕ → ℕ → Type 0
+IsMessagePut None json old new before after code = (new ≡ old) × (after ≡ before) × (code ≡ unknown_type)
+IsMessagePut (Some t) json old new before after code = IsMessageWritten t json old new before after code
