@@ -72,6 +72,17 @@ int main(int argc, char **argv) {
     } while (code != PICKY_DER_OK);
     need(failures > 1, "a listing takes memory");
     failures = 0;
+    bytes[0] = 0x31;
+    do {
+        left = failures++;
+        size_t written = 0;
+        uint8_t path[64];
+        code = picky_der_path(PICKY_DER_TYPE_CERTIFICATE, bytes, len, path, sizeof path, &written);
+        need(code == PICKY_DER_OK || (code == PICKY_DER_NO_MEMORY && written == 0), "a path without memory");
+    } while (code != PICKY_DER_OK);
+    need(failures > 1, "a path takes memory");
+    bytes[0] = 0x30;
+    failures = 0;
     uint8_t sorted[] = {2, 1, 2, 2, 1, 1};
     do {
         left = failures++;

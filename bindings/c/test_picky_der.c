@@ -201,6 +201,34 @@ static void places(void) {
     need(*picky_der_text(77) == 0 && *picky_der_clause(PICKY_DER_OK) == 0, "no texts");
 }
 
+/* ---- paths */
+
+/* The path of a refusal is appended, and counted where there is no room. */
+static void path(const struct input *it) {
+    uint8_t *bytes = malloc(it->len), out[64], nothing;
+    memcpy(bytes, it->bytes, it->len);
+    size_t used = 0, ends[DEEPEST];
+    need(picky_der_path(PICKY_DER_TYPE_CERTIFICATE, bytes, it->len, out, sizeof out, &used) == PICKY_DER_OK && used == 0, "the path of none");
+    picky_der_place place = {0, 0};
+    picky_der_element element = {0};
+    while (element.tag != 0x06)
+        need(picky_der_next(bytes, it->len, &place, ends, DEEPEST, &element) == PICKY_DER_OK, "an object identifier");
+    bytes[element.offset] = 0x04;
+    const char *wanted = "tbsCertificate.signature.algorithm";
+    need(picky_der_path(PICKY_DER_TYPE_CERTIFICATE, bytes, it->len, &nothing, 0, &used) == PICKY_DER_NO_ROOM && used == strlen(wanted), "no room");
+    used = 3;
+    need(picky_der_path(PICKY_DER_TYPE_CERTIFICATE, bytes, it->len, out, sizeof out, &used) == PICKY_DER_OK, "a path");
+    need(used == 3 + strlen(wanted) && memcmp(out + 3, wanted, strlen(wanted)) == 0, "a path by names");
+    used = SIZE_MAX - 1;
+    need(picky_der_path(PICKY_DER_TYPE_CERTIFICATE, bytes, it->len, out, sizeof out, &used) == PICKY_DER_UNSUPPORTED && used == SIZE_MAX - 1, "a path past all memory");
+    need(picky_der_path(0, bytes, it->len, out, sizeof out, &used) == PICKY_DER_UNKNOWN_TYPE, "the path by no type");
+    const uint8_t padded[] = {0x30, 8, 0x30, 6, 2, 2, 0, 0, 5, 0};
+    used = 0;
+    need(picky_der_path(PICKY_DER_TYPE_CSR, padded, sizeof padded, out, sizeof out, &used) == PICKY_DER_OK, "a path");
+    need(used == 5 && memcmp(out, "0.0.0", 5) == 0, "a path by numbers");
+    free(bytes);
+}
+
 /* ---- writing */
 
 struct buffer {
@@ -343,6 +371,7 @@ int main(int argc, char **argv) {
     for (size_t i = 0; i < input_count; i++)
         if (inputs[i].verdict == CERTIFICATE)
             written_again(&inputs[i]);
+    path(&inputs[0]);
     pthread_t threads[THREADS];
     for (int i = 0; i < THREADS; i++)
         need(pthread_create(&threads[i], NULL, run, NULL) == 0, "a thread");

@@ -41,17 +41,23 @@ func (c Code) String() string { return C.GoString(C.picky_der_text(C.picky_der_c
 // Clause returns the clause of X.690 that is broken, or an empty text.
 func (c Code) Clause() string { return C.GoString(C.picky_der_clause(C.picky_der_code(c))) }
 
-// An Error says why bytes are refused, and the index of the byte or element where this was found.
+// An Error says why bytes are refused, and the index of the byte or element where this was found. Check adds the path of the element, as
+// tbsCertificate.extensions[3].extnID, or by numbers, as 0.2.1. It is empty for the outermost one.
 type Error struct {
 	Code     Code
 	Position int
+	Path     string
 }
 
 func (e *Error) Error() string {
-	if clause := e.Code.Clause(); clause != "" {
-		return fmt.Sprintf("pickyder: at %d: %v (X.690, %s)", e.Position, e.Code, clause)
+	place := fmt.Sprint(e.Position)
+	if e.Path != "" {
+		place += ", " + e.Path
 	}
-	return fmt.Sprintf("pickyder: at %d: %v", e.Position, e.Code)
+	if clause := e.Code.Clause(); clause != "" {
+		return fmt.Sprintf("pickyder: at %s: %v (X.690, %s)", place, e.Code, clause)
+	}
+	return fmt.Sprintf("pickyder: at %s: %v", place, e.Code)
 }
 
 func errorOf(code C.picky_der_code, position int) error {
@@ -61,7 +67,31 @@ func errorOf(code C.picky_der_code, position int) error {
 	case C.PICKY_DER_NO_MEMORY:
 		return ErrNoMemory
 	}
-	return &Error{Code(code), position}
+	return &Error{Code: Code(code), Position: position}
+}
+
+// written returns what a call returns and writes with little room, and if that is too small, with as much as the first call counted.
+func written(call func(out []byte, used *C.size_t) C.picky_der_code) (C.picky_der_code, []byte) {
+	var used C.size_t
+	out := make([]byte, 128)
+	code := call(out, &used)
+	if code == C.PICKY_DER_NO_ROOM {
+		out = make([]byte, used)
+		used = 0
+		code = call(out, &used)
+	}
+	return code, out[:used]
+}
+
+// pathOf is the path of the element for which a check refuses the bytes.
+func pathOf(message Message, bytes []byte) string {
+	code, path := written(func(out []byte, used *C.size_t) C.picky_der_code {
+		return C.picky_der_path(C.uint32_t(message), pointer(bytes), C.size_t(len(bytes)), pointer(out), C.size_t(len(out)), used)
+	})
+	if code != C.PICKY_DER_OK {
+		return ""
+	}
+	return string(path)
 }
 
 // The library writes to nothing else that it is given, so parts of a writer's buffer are copied first.
@@ -89,7 +119,11 @@ func pointer(bytes []byte) *C.uint8_t {
 func Check(message Message, bytes []byte) error {
 	var position C.size_t
 	code := C.picky_der_check(C.uint32_t(message), pointer(bytes), C.size_t(len(bytes)), &position)
-	return errorOf(code, int(position))
+	err := errorOf(code, int(position))
+	if refusal, ok := err.(*Error); ok {
+		refusal.Path = pathOf(message, bytes)
+	}
+	return err
 }
 
 // An Element is an element of bytes, by its place in them.

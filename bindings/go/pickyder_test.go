@@ -111,6 +111,25 @@ func TestParts(t *testing.T) {
 	}
 }
 
+func TestPaths(t *testing.T) {
+	der := inputs(t)[0].der
+	elements, _ := Elements(der)
+	for _, it := range elements {
+		if it.Tag == 0x06 {
+			it.Encoding[0] = 0x04
+			break
+		}
+	}
+	var why *Error
+	if !errors.As(Check(Certificate, der), &why) || why.Path != "tbsCertificate.signature.algorithm" || !strings.Contains(why.Error(), ", tbsC") {
+		t.Error("a path by names", why)
+	}
+	padded := []byte{0x30, 8, 0x30, 6, 2, 2, 0, 0, 5, 0}
+	if !errors.As(Check(Csr, padded), &why) || why.Path != "0.0.0" {
+		t.Error("a path by numbers", why)
+	}
+}
+
 func writeAgain(t *testing.T, w *Writer, der []byte) error {
 	elements, err := Elements(der)
 	for _, it := range elements {

@@ -114,6 +114,17 @@ class Tests(unittest.TestCase):
         self.assertRaises(KeyError, picky_der.check, "passport", b"")
         self.assertRaises(DecodeError, picky_der.front, b"")
 
+    def test_paths(self) -> None:
+        """An error has the path of the element: by names, or else by numbers."""
+        der = CASES[0].der
+        algorithm = next(it.offset for it in picky_der.elements(der) if it.tag == 0x06)
+        error = self.refused("certificate", der[:algorithm] + b"\x04" + der[algorithm + 1 :])
+        self.assertEqual(error.path, "tbsCertificate.signature.algorithm")
+        self.assertIn(f"at {error.position}, tbsCertificate.signature.algorithm: ", str(error))
+        padded = self.refused("csr", bytes.fromhex("30083006020200000500"))
+        self.assertEqual((padded.rule, padded.path), ("padded_integer", "0.0.0"))
+        self.assertEqual([self.refused("csr", it).path for it in (b"", b"\x30", b"\x05\x00")], ["", "", ""])
+
     def test_elements(self) -> None:
         """Elements come with their contents, and deep ones too."""
         outer, inner = picky_der.elements(memoryview(bytes.fromhex("3003020105")))
@@ -186,9 +197,11 @@ class Tests(unittest.TestCase):
 
     def test_copies_of_errors(self) -> None:
         """An error is the same after it was sent to another process."""
-        error = self.refused("certificate", bytes.fromhex("30810100"))
-        again = pickle.loads(pickle.dumps(error))
-        self.assertEqual((again.code, again.position, again.rule, str(again)), (error.code, error.position, error.rule, str(error)))
+        for der in (bytes.fromhex("30810100"), bytes.fromhex("30053003020100")):
+            error = self.refused("certificate", der)
+            again = pickle.loads(pickle.dumps(error))
+            self.assertEqual((again.code, again.position, again.rule, str(again)), (error.code, error.position, error.rule, str(error)))
+            self.assertEqual(again.path, error.path)
 
     def again(self, der: bytes) -> bytes:
         """The bytes, written from their elements."""

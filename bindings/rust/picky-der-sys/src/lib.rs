@@ -20,6 +20,11 @@ pub fn check(number: u32, bytes: &[u8]) -> (u32, usize) {
     (code, position)
 }
 
+/// Appends to the first `used` bytes the path of the element for which `check` refuses bytes. Returns the code.
+pub fn path(number: u32, bytes: &[u8], out: &mut [u8], used: &mut usize) -> u32 {
+    unsafe { raw::picky_der_path(number, bytes.as_ptr(), bytes.len(), out.as_mut_ptr(), out.len(), used) }
+}
+
 /// Returns the code, and the element at the front of the bytes if it is `PICKY_DER_OK`.
 pub fn front(bytes: &[u8]) -> (u32, Element) {
     let mut element = Element::default();

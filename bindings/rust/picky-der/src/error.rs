@@ -21,12 +21,15 @@ pub enum Reason {
 }
 
 /// Why bytes are refused, and where this was found.
-#[derive(Clone, Copy, Debug, PartialEq, Eq, Hash)]
+#[derive(Clone, Debug, PartialEq, Eq, Hash)]
 pub struct Error {
     /// Why.
     pub reason: Reason,
     /// The index of a byte, or of the first byte of an element.
     pub position: usize,
+    /// The path of the element in a message, as `tbsCertificate.extensions[3].extnID`, or by numbers, as `0.2.1`. It is empty for the
+    /// outermost one, and where no message was checked.
+    pub path: String,
 }
 
 impl Error {
@@ -41,7 +44,16 @@ impl Error {
             rule if rule > 100 => Reason::Rule(rule),
             other => Reason::Other(other),
         };
-        Err(Error { reason, position })
+        Err(Error { reason, position, path: String::new() })
+    }
+
+    // The same, with the path of the element for which a check refuses the bytes.
+    pub(crate) fn with_path(mut self, number: u32, bytes: &[u8]) -> Error {
+        let (code, path) = written(|out, used| picky_der_sys::path(number, bytes, out, used));
+        if code == picky_der_sys::PICKY_DER_OK {
+            self.path = String::from_utf8(path).unwrap_or_default();
+        }
+        self
     }
 
     /// The rule of X.690 that is broken: what is wrong, and the clause.
@@ -55,7 +67,8 @@ impl Error {
 
 impl fmt::Display for Error {
     fn fmt(&self, f: &mut fmt::Formatter<'_>) -> fmt::Result {
-        let at = self.position;
+        let separator = if self.path.is_empty() { "" } else { ", " };
+        let at = format!("{}{separator}{}", self.position, self.path);
         match (self.rule(), self.reason) {
             (Some((words, clause)), _) => write!(f, "at {at}: {words} (X.690, {clause})"),
             (None, Reason::Truncated) => write!(f, "at {at}: the bytes are cut short"),
@@ -68,3 +81,17 @@ impl fmt::Display for Error {
 }
 
 impl std::error::Error for Error {}
+
+// What a call returns and writes with little room, and if that is too small, with as much as the first call counted.
+pub(crate) fn written(call: impl Fn(&mut [u8], &mut usize) -> u32) -> (u32, Vec<u8>) {
+    let mut out = vec![0; 128];
+    let mut used = 0;
+    let mut code = call(&mut out, &mut used);
+    if code == picky_der_sys::PICKY_DER_NO_ROOM {
+        out.resize(used, 0);
+        used = 0;
+        code = call(&mut out, &mut used);
+    }
+    out.truncate(used);
+    (code, out)
+}

@@ -27,9 +27,10 @@ impl Message {
     /// `Ok` exactly if the bytes are one message of the type and nothing else, and each element in them is in DER.
     ///
     /// # Errors
-    /// `Reason::NoMemory` says that memory ran out, and any other reason that the bytes aren't such a message, as was found at the position.
+    /// `Reason::NoMemory` says that memory ran out, and any other reason that the bytes aren't such a message, as was found at the position,
+    /// in the element with the path.
     pub fn check(self, bytes: &[u8]) -> Result<(), Error> {
         let (code, position) = picky_der_sys::check(self as u32, bytes);
-        Error::of(code, position)
+        Error::of(code, position).map_err(|error| error.with_path(self as u32, bytes))
     }
 }
