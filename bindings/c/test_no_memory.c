@@ -83,6 +83,17 @@ int main(int argc, char **argv) {
     need(failures > 1, "a path takes memory");
     bytes[0] = 0x30;
     failures = 0;
+    uint8_t *json = malloc(8 * len + 4096);
+    do {
+        left = failures++;
+        size_t written = 0;
+        code = picky_der_to_json(PICKY_DER_TYPE_CERTIFICATE, bytes, len, &position, json, 8 * len + 4096, &written);
+        need(code == PICKY_DER_OK || (code == PICKY_DER_NO_MEMORY && written == 0), "JSON without memory");
+    } while (code != PICKY_DER_OK);
+    need(failures > 10, "JSON takes memory");
+    left = -1;
+    free(json);
+    failures = 0;
     uint8_t sorted[] = {2, 1, 2, 2, 1, 1};
     do {
         left = failures++;

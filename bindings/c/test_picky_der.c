@@ -229,6 +229,30 @@ static void path(const struct input *it) {
     free(bytes);
 }
 
+/* ---- JSON */
+
+/* The JSON of a certificate begins with the first of its members by name, and is counted where there is no room. */
+static void json(const struct input *it) {
+    size_t position = 99, used = 0, again = 0;
+    uint8_t nothing;
+    picky_der_code code = picky_der_to_json(PICKY_DER_TYPE_CERTIFICATE, it->bytes, it->len, &position, &nothing, 0, &used);
+    need(code == PICKY_DER_NO_ROOM && position == it->len, "JSON without room");
+    uint8_t *out = malloc(used);
+    code = picky_der_to_json(PICKY_DER_TYPE_CERTIFICATE, it->bytes, it->len, &position, out, used, &again);
+    need(code == PICKY_DER_OK && again == used && position == it->len, "JSON");
+    const char *front = "{\"signatureAlgorithm\":{\"algorithm\":\"";
+    need(memcmp(out, front, strlen(front)) == 0 && out[used - 1] == '}' && memchr(out, '\n', used) == NULL, "an object on one line");
+    again = 0;
+    need(picky_der_to_json(PICKY_DER_TYPE_CERTIFICATE, it->bytes, it->len - 1, &position, out, used, &again) == PICKY_DER_TRUNCATED, "JSON of a part");
+    need(again == 0 && position < it->len, "nothing is appended then");
+    need(picky_der_to_json(PICKY_DER_TYPE_CRL, it->bytes, it->len, &position, out, used, &again) == PICKY_DER_INVALID, "JSON as another type");
+    need(picky_der_to_json(99, it->bytes, it->len, &position, out, used, &again) == PICKY_DER_UNKNOWN_TYPE && position == 0, "JSON of no type");
+    const uint8_t key[44] = {0x30, 0x2A, 0x30, 5, 6, 3, 0x2B, 0x65, 0x70, 3, 0x21};
+    code = picky_der_to_json(PICKY_DER_TYPE_PUBLIC_KEY, key, sizeof key, &position, out, used, &again);
+    need(code == PICKY_DER_NO_TABLE && again == 0, "a type without a table");
+    free(out);
+}
+
 /* ---- writing */
 
 struct buffer {
@@ -372,6 +396,7 @@ int main(int argc, char **argv) {
         if (inputs[i].verdict == CERTIFICATE)
             written_again(&inputs[i]);
     path(&inputs[0]);
+    json(&inputs[0]);
     pthread_t threads[THREADS];
     for (int i = 0; i < THREADS; i++)
         need(pthread_create(&threads[i], NULL, run, NULL) == 0, "a thread");

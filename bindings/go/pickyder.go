@@ -24,6 +24,9 @@ func (m Message) String() string { return words[m] }
 // ErrNoMemory says that the library got no memory. Nothing is known of the bytes then.
 var ErrNoMemory = errors.New("pickyder: no memory")
 
+// ErrNoTable says that the type has no table, and so its messages have no JSON.
+var ErrNoTable = errors.New("pickyder: the type has no table")
+
 // A Code says why bytes are refused. Those above 100 are rules of X.690.
 type Code uint32
 
@@ -66,14 +69,16 @@ func errorOf(code C.picky_der_code, position int) error {
 		return nil
 	case C.PICKY_DER_NO_MEMORY:
 		return ErrNoMemory
+	case C.PICKY_DER_NO_TABLE:
+		return ErrNoTable
 	}
 	return &Error{Code: Code(code), Position: position}
 }
 
-// written returns what a call returns and writes with little room, and if that is too small, with as much as the first call counted.
-func written(call func(out []byte, used *C.size_t) C.picky_der_code) (C.picky_der_code, []byte) {
+// written returns what a call returns and writes with this room, and if that is too small, with as much as the first call counted.
+func written(room int, call func(out []byte, used *C.size_t) C.picky_der_code) (C.picky_der_code, []byte) {
 	var used C.size_t
-	out := make([]byte, 128)
+	out := make([]byte, room)
 	code := call(out, &used)
 	if code == C.PICKY_DER_NO_ROOM {
 		out = make([]byte, used)
@@ -85,7 +90,7 @@ func written(call func(out []byte, used *C.size_t) C.picky_der_code) (C.picky_de
 
 // pathOf is the path of the element for which a check refuses the bytes.
 func pathOf(message Message, bytes []byte) string {
-	code, path := written(func(out []byte, used *C.size_t) C.picky_der_code {
+	code, path := written(128, func(out []byte, used *C.size_t) C.picky_der_code {
 		return C.picky_der_path(C.uint32_t(message), pointer(bytes), C.size_t(len(bytes)), pointer(out), C.size_t(len(out)), used)
 	})
 	if code != C.PICKY_DER_OK {
@@ -119,11 +124,32 @@ func pointer(bytes []byte) *C.uint8_t {
 func Check(message Message, bytes []byte) error {
 	var position C.size_t
 	code := C.picky_der_check(C.uint32_t(message), pointer(bytes), C.size_t(len(bytes)), &position)
+	return refusalOf(message, bytes, code, position)
+}
+
+// refusalOf is the error of a check, with the path.
+func refusalOf(message Message, bytes []byte, code C.picky_der_code, position C.size_t) error {
 	err := errorOf(code, int(position))
 	if refusal, ok := err.(*Error); ok {
 		refusal.Path = pathOf(message, bytes)
 	}
 	return err
+}
+
+// ToJSON returns the JSON of a message of the type (X.697), on one line. Certificate, Crl, Ticket and KrbError have tables, by which it is
+// made.
+//
+// It returns what Check returns if the bytes aren't such a message, ErrNoTable if the type has no table, and an *Error with the code
+// Unsupported if a number in the message has too many digits.
+func ToJSON(message Message, bytes []byte) (string, error) {
+	var position C.size_t
+	code, json := written(256+4*len(bytes), func(out []byte, used *C.size_t) C.picky_der_code {
+		return C.picky_der_to_json(C.uint32_t(message), pointer(bytes), C.size_t(len(bytes)), &position, pointer(out), C.size_t(len(out)), used)
+	})
+	if err := refusalOf(message, bytes, code, position); err != nil {
+		return "", err
+	}
+	return string(json), nil
 }
 
 // An Element is an element of bytes, by its place in them.

@@ -130,6 +130,22 @@ func TestPaths(t *testing.T) {
 	}
 }
 
+func TestJSON(t *testing.T) {
+	der := inputs(t)[0].der
+	json, err := ToJSON(Certificate, der)
+	if err != nil || !strings.HasPrefix(json, `{"signatureAlgorithm":{"algorithm":"`) || strings.Contains(json, "\n") {
+		t.Error("a certificate", json, err)
+	}
+	var why *Error
+	if _, err := ToJSON(Certificate, der[:9]); !errors.As(err, &why) || why.Code != Truncated {
+		t.Error("a part", err)
+	}
+	key := append([]byte{0x30, 0x2a, 0x30, 5, 6, 3, 0x2b, 0x65, 0x70, 3, 0x21}, make([]byte, 33)...)
+	if _, err := ToJSON(PublicKey, key); err != ErrNoTable {
+		t.Error("a type without a table", err)
+	}
+}
+
 func writeAgain(t *testing.T, w *Writer, der []byte) error {
 	elements, err := Elements(der)
 	for _, it := range elements {

@@ -1,7 +1,7 @@
 """Checks, lists and writes DER by a library that is proved.
 
 ``check("certificate", data)`` returns if the bytes are exactly one message of a type, in DER throughout, and raises `DecodeError` if they
-aren't. ``elements(data)`` goes over elements, and ``encode(tag, content)`` writes one.
+aren't. ``elements(data)`` goes over elements, and ``encode(tag, content)`` writes one. ``to_json("certificate", data)`` is a message in JSON.
 
 Data is any object with the buffer protocol. What can change is copied first, so that other threads can run during a call.
 """
@@ -14,7 +14,7 @@ from typing import Any, Callable, Iterable, Iterator, NamedTuple, Optional, Tupl
 from . import _tables
 from ._tables import RULES, TEXTS, TYPES
 
-__all__ = ["DecodeError", "Element", "TYPES", "Writer", "check", "elements", "encode", "encode_set", "front", "is_der"]
+__all__ = ["DecodeError", "Element", "TYPES", "Writer", "check", "elements", "encode", "encode_set", "front", "is_der", "to_json"]
 
 Data = Union[bytes, bytearray, memoryview]
 
@@ -47,13 +47,14 @@ def _load() -> ctypes.CDLL:
     sizes = POINTER(c_size_t)
     library.picky_der_check.argtypes = [c_uint32, c_char_p, c_size_t, sizes]
     library.picky_der_path.argtypes = [c_uint32, c_char_p, c_size_t, POINTER(c_uint8), c_size_t, sizes]
+    library.picky_der_to_json.argtypes = [c_uint32, c_char_p, c_size_t, sizes, POINTER(c_uint8), c_size_t, sizes]
     library.picky_der_front.argtypes = [c_char_p, c_size_t, POINTER(_Element)]
     library.picky_der_elements.argtypes = [c_char_p, c_size_t, POINTER(_Element), c_size_t, sizes, sizes]
     library.picky_der_next.argtypes = [c_char_p, c_size_t, POINTER(_Place), sizes, c_size_t, POINTER(_Element)]
     library.picky_der_put.argtypes = [POINTER(c_uint8), c_size_t, sizes, c_uint8, c_char_p, c_size_t]
     library.picky_der_wrap.argtypes = [POINTER(c_uint8), c_size_t, sizes, c_size_t, c_uint8]
     library.picky_der_sort.argtypes = [POINTER(c_uint8), c_size_t, c_size_t, c_size_t]
-    for name in ("check", "path", "front", "elements", "next", "put", "wrap", "sort"):
+    for name in ("check", "path", "to_json", "front", "elements", "next", "put", "wrap", "sort"):
         getattr(library, f"picky_der_{name}").restype = c_uint32
     return library
 
@@ -157,6 +158,26 @@ def check(name: str, data: Data) -> None:
         raise MemoryError
     if code != _tables.OK:
         raise DecodeError(code, position.value, _rule_of(der), _path_of(number, der))
+
+
+def to_json(name: str, data: Data) -> str:
+    """Returns the JSON of a message (X.697) on one line.
+
+    It raises what `check` raises, and KeyError also for a type that has no table: those of ``certificate``, ``crl``, ``ticket`` and
+    ``krb-error`` have one. It raises DecodeError with the code UNSUPPORTED if a number in the message has too many digits.
+    """
+    number = TYPES.get(name) or _tables.NAMES[name]
+    der, position = _bytes(data), c_size_t()
+    code, text = _written(
+        lambda out, used: _library.picky_der_to_json(number, der, len(der), byref(position), out, len(out), used), 4 * len(der) + 256
+    )
+    if code == _tables.NO_MEMORY:
+        raise MemoryError
+    if code == _tables.NO_TABLE:
+        raise KeyError(name)
+    if code != _tables.OK:
+        raise DecodeError(code, position.value, _rule_of(der), _path_of(number, der))
+    return text.decode()
 
 
 def is_der(data: Data) -> bool:

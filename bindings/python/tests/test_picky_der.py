@@ -1,5 +1,6 @@
 """Tests of the Python package. CASES names the file that tools/bindings writes. With NO_MEMORY each allocation of the library fails."""
 import array
+import json
 import os
 import pickle
 import struct
@@ -125,6 +126,24 @@ class Tests(unittest.TestCase):
         self.assertEqual((padded.rule, padded.path), ("padded_integer", "0.0.0"))
         self.assertEqual([self.refused("csr", it).path for it in (b"", b"\x30", b"\x05\x00")], ["", "", ""])
 
+    def test_json(self) -> None:
+        """A certificate has its members in JSON, by the names of its type."""
+        der = CASES[0].der
+        text = picky_der.to_json("Certificate", bytearray(der))
+        self.assertEqual(text, picky_der.to_json("certificate", der))
+        self.assertNotIn("\n", text)
+        value = json.loads(text)
+        self.assertEqual(sorted(value), ["signatureAlgorithm", "signatureValue", "tbsCertificate"])
+        oid = next(it for it in picky_der.elements(der) if it.tag == 0x06)
+        arcs = value["tbsCertificate"]["signature"]["algorithm"].split(".")
+        self.assertEqual(bytes([40 * int(arcs[0]) + int(arcs[1])]), bytes(oid.content[:1]))
+        with self.assertRaises(DecodeError) as caught:
+            picky_der.to_json("certificate", der[:-1])
+        self.assertEqual(caught.exception.code, self.refused("certificate", der[:-1]).code)
+        self.assertRaises(KeyError, picky_der.to_json, "passport", der)
+        key = bytes.fromhex("302a300506032b6570032100") + bytes(32)
+        self.assertRaises(KeyError, picky_der.to_json, "public-key", key)
+
     def test_elements(self) -> None:
         """Elements come with their contents, and deep ones too."""
         outer, inner = picky_der.elements(memoryview(bytes.fromhex("3003020105")))
@@ -228,6 +247,7 @@ class WithoutMemory(unittest.TestCase):
         der = CASES[0].der
         self.assertRaises(MemoryError, picky_der.check, "certificate", der)
         self.assertRaises(MemoryError, picky_der.is_der, der)
+        self.assertRaises(MemoryError, picky_der.to_json, "certificate", der)
         self.assertEqual(picky_der.front(der).offset, 0)
         self.assertGreater(len(list(picky_der.elements(der))), 10)
         self.assertEqual(picky_der.encode(0x02, b"\x05"), b"\x02\x01\x05")

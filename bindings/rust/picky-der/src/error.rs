@@ -14,6 +14,8 @@ pub enum Reason {
     Unsupported,
     /// Memory ran out.
     NoMemory,
+    /// The type has no table, and so its messages have no JSON.
+    NoTable,
     /// An element breaks the rule of X.690 with this code, from 101 on.
     Rule(u32),
     /// Another code of the library.
@@ -41,6 +43,7 @@ impl Error {
             sys::PICKY_DER_INVALID => Reason::Invalid,
             sys::PICKY_DER_UNSUPPORTED => Reason::Unsupported,
             sys::PICKY_DER_NO_MEMORY => Reason::NoMemory,
+            sys::PICKY_DER_NO_TABLE => Reason::NoTable,
             rule if rule > 100 => Reason::Rule(rule),
             other => Reason::Other(other),
         };
@@ -49,7 +52,7 @@ impl Error {
 
     // The same, with the path of the element for which a check refuses the bytes.
     pub(crate) fn with_path(mut self, number: u32, bytes: &[u8]) -> Error {
-        let (code, path) = written(|out, used| picky_der_sys::path(number, bytes, out, used));
+        let (code, path) = written(128, |out, used| picky_der_sys::path(number, bytes, out, used));
         if code == picky_der_sys::PICKY_DER_OK {
             self.path = String::from_utf8(path).unwrap_or_default();
         }
@@ -75,6 +78,7 @@ impl fmt::Display for Error {
             (None, Reason::Invalid) => write!(f, "at {at}: not such a message"),
             (None, Reason::Unsupported) => write!(f, "at {at}: not supported"),
             (None, Reason::NoMemory) => f.write_str("memory ran out"),
+            (None, Reason::NoTable) => f.write_str("the type has no table"),
             (None, Reason::Rule(code) | Reason::Other(code)) => write!(f, "at {at}: code {code}"),
         }
     }
@@ -82,9 +86,9 @@ impl fmt::Display for Error {
 
 impl std::error::Error for Error {}
 
-// What a call returns and writes with little room, and if that is too small, with as much as the first call counted.
-pub(crate) fn written(call: impl Fn(&mut [u8], &mut usize) -> u32) -> (u32, Vec<u8>) {
-    let mut out = vec![0; 128];
+// What a call returns and writes with this room, and if that is too small, with as much as the first call counted.
+pub(crate) fn written(room: usize, mut call: impl FnMut(&mut [u8], &mut usize) -> u32) -> (u32, Vec<u8>) {
+    let mut out = vec![0; room];
     let mut used = 0;
     let mut code = call(&mut out, &mut used);
     if code == picky_der_sys::PICKY_DER_NO_ROOM {

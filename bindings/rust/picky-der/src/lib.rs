@@ -19,6 +19,7 @@ mod tables;
 mod writer;
 
 pub use elements::{elements, front, is_der, Class, Element, Elements};
+use error::written;
 pub use error::{Error, Reason};
 pub use tables::Message;
 pub use writer::Writer;
@@ -32,5 +33,21 @@ impl Message {
     pub fn check(self, bytes: &[u8]) -> Result<(), Error> {
         let (code, position) = picky_der_sys::check(self as u32, bytes);
         Error::of(code, position).map_err(|error| error.with_path(self as u32, bytes))
+    }
+
+    /// The JSON of a message of the type (X.697), on one line. `Certificate`, `Crl`, `Ticket` and `KrbError` have tables, by which it is made.
+    ///
+    /// # Errors
+    /// Those of `check` if the bytes aren't such a message. `Reason::NoTable` if the type has no table, and `Reason::Unsupported` if a number
+    /// in the message has too many digits.
+    pub fn to_json(self, bytes: &[u8]) -> Result<String, Error> {
+        let mut position = 0;
+        let (code, json) = written(4 * bytes.len() + 256, |out, used| {
+            let (code, at) = picky_der_sys::to_json(self as u32, bytes, out, used);
+            position = at;
+            code
+        });
+        Error::of(code, position).map_err(|error| error.with_path(self as u32, bytes))?;
+        Ok(String::from_utf8_lossy(&json).into_owned())
     }
 }

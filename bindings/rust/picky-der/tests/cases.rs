@@ -110,6 +110,17 @@ fn paths() {
 }
 
 #[test]
+fn json() {
+    let der = cases().remove(0).der;
+    let json = Message::Certificate.to_json(&der).unwrap();
+    assert!(json.starts_with("{\"signatureAlgorithm\":{\"algorithm\":\"") && json.ends_with('}') && !json.contains('\n'));
+    let cut = Message::Certificate.to_json(&der[..9]).unwrap_err();
+    assert_eq!(cut, Message::Certificate.check(&der[..9]).unwrap_err());
+    let key = [&[0x30, 0x2A, 0x30, 5, 6, 3, 0x2B, 0x65, 0x70, 3, 0x21][..], &[0; 33]].concat();
+    assert_eq!(Message::PublicKey.to_json(&key).unwrap_err().reason, Reason::NoTable);
+}
+
+#[test]
 fn small_ones() {
     let first = front(&[0xA1, 0x02, 0x05, 0x00, 0xFF]).unwrap();
     assert_eq!((first.class, first.number, first.content, first.encoding.len()), (Class::ContextSpecific, 1, &[5, 0][..], 4));
