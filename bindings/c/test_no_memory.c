@@ -83,6 +83,7 @@ int main(int argc, char **argv) {
     need(failures > 1, "a path takes memory");
     bytes[0] = 0x30;
     failures = 0;
+    left = -1;
     uint8_t *json = malloc(8 * len + 4096);
     do {
         left = failures++;
