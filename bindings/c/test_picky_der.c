@@ -250,6 +250,19 @@ static void json(const struct input *it) {
     const uint8_t key[44] = {0x30, 0x2A, 0x30, 5, 6, 3, 0x2B, 0x65, 0x70, 3, 0x21};
     code = picky_der_to_json(PICKY_DER_TYPE_PUBLIC_KEY, key, sizeof key, &position, out, used, &again);
     need(code == PICKY_DER_NO_TABLE && again == 0, "a type without a table");
+
+    uint8_t *der = malloc(it->len + 100);
+    need(picky_der_from_json(PICKY_DER_TYPE_CERTIFICATE, out, used, der, it->len, &again) == PICKY_DER_OK && again == it->len, "the message of JSON");
+    need(memcmp(der, it->bytes, it->len) == 0, "the same bytes");
+    again = 0;
+    need(picky_der_from_json(PICKY_DER_TYPE_CERTIFICATE, out, used, der, it->len - 1, &again) == PICKY_DER_NO_ROOM && again == it->len, "a byte too little");
+    again = 0;
+    code = picky_der_from_json(PICKY_DER_TYPE_CERTIFICATE, out, used - 1, der, it->len + 100, &again);
+    need(code == PICKY_DER_NO_VALUE && again > 10, "a part of JSON, and why it is refused");
+    again = 0;
+    need(picky_der_from_json(PICKY_DER_TYPE_PUBLIC_KEY, out, used, der, it->len, &again) == PICKY_DER_NO_TABLE && again == 0, "no table");
+    need(picky_der_from_json(99, out, used, der, it->len, &again) == PICKY_DER_UNKNOWN_TYPE && again == 0, "no type");
+    free(der);
     free(out);
 }
 

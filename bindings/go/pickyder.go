@@ -152,6 +152,31 @@ func ToJSON(message Message, bytes []byte) (string, error) {
 	return string(json), nil
 }
 
+// A JSONError says why a text isn't JSON of a message of a type, and where.
+type JSONError struct {
+	Reason string
+}
+
+func (e *JSONError) Error() string { return "pickyder: " + e.Reason }
+
+// FromJSON returns the DER of the message of the type with this JSON, as ToJSON returns it. Check accepts it.
+//
+// It returns a *JSONError if the text isn't JSON of a message of the type, ErrNoTable if the type has no table, and ErrNoMemory if memory
+// ran out.
+func FromJSON(message Message, json string) ([]byte, error) {
+	text := []byte(json)
+	code, der := written(256+len(text), func(out []byte, used *C.size_t) C.picky_der_code {
+		return C.picky_der_from_json(C.uint32_t(message), pointer(text), C.size_t(len(text)), pointer(out), C.size_t(len(out)), used)
+	})
+	if code == C.PICKY_DER_NO_VALUE {
+		return nil, &JSONError{string(der)}
+	}
+	if err := errorOf(code, 0); err != nil {
+		return nil, err
+	}
+	return der, nil
+}
+
 // An Element is an element of bytes, by its place in them.
 type Element struct {
 	Offset      int    // the index of its first byte

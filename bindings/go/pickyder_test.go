@@ -144,6 +144,21 @@ func TestJSON(t *testing.T) {
 	if _, err := ToJSON(PublicKey, key); err != ErrNoTable {
 		t.Error("a type without a table", err)
 	}
+	if again, err := FromJSON(Certificate, json); err != nil || !bytes.Equal(again, der) {
+		t.Error("a certificate from its JSON", err)
+	}
+	var refusal *JSONError
+	if _, err := FromJSON(Certificate, strings.Replace(json, `"issuer"`, `"other"`, 1)); !errors.As(err, &refusal) || !strings.Contains(refusal.Reason, "tbsCertificate") {
+		t.Error("JSON of no certificate", err)
+	}
+	for _, wrong := range []string{"", "{", "{}", "[]", "null", "\xff"} {
+		if _, err := FromJSON(Certificate, wrong); !errors.As(err, &refusal) {
+			t.Error("JSON of no certificate", wrong, err)
+		}
+	}
+	if _, err := FromJSON(PublicKey, "{}"); err != ErrNoTable {
+		t.Error("a type without a table", err)
+	}
 }
 
 func writeAgain(t *testing.T, w *Writer, der []byte) error {

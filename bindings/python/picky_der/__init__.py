@@ -1,7 +1,8 @@
 """Checks, lists and writes DER by a library that is proved.
 
 ``check("certificate", data)`` returns if the bytes are exactly one message of a type, in DER throughout, and raises `DecodeError` if they
-aren't. ``elements(data)`` goes over elements, and ``encode(tag, content)`` writes one. ``to_json("certificate", data)`` is a message in JSON.
+aren't. ``elements(data)`` goes over elements, and ``encode(tag, content)`` writes one. ``to_json("certificate", data)`` is a message in JSON,
+and ``from_json("certificate", text)`` the message with this JSON.
 
 Data is any object with the buffer protocol. What can change is copied first, so that other threads can run during a call.
 """
@@ -14,7 +15,7 @@ from typing import Any, Callable, Iterable, Iterator, NamedTuple, Optional, Tupl
 from . import _tables
 from ._tables import RULES, TEXTS, TYPES
 
-__all__ = ["DecodeError", "Element", "TYPES", "Writer", "check", "elements", "encode", "encode_set", "front", "is_der", "to_json"]
+__all__ = ["DecodeError", "Element", "TYPES", "Writer", "check", "elements", "encode", "encode_set", "from_json", "front", "is_der", "to_json"]
 
 Data = Union[bytes, bytearray, memoryview]
 
@@ -48,13 +49,14 @@ def _load() -> ctypes.CDLL:
     library.picky_der_check.argtypes = [c_uint32, c_char_p, c_size_t, sizes]
     library.picky_der_path.argtypes = [c_uint32, c_char_p, c_size_t, POINTER(c_uint8), c_size_t, sizes]
     library.picky_der_to_json.argtypes = [c_uint32, c_char_p, c_size_t, sizes, POINTER(c_uint8), c_size_t, sizes]
+    library.picky_der_from_json.argtypes = [c_uint32, c_char_p, c_size_t, POINTER(c_uint8), c_size_t, sizes]
     library.picky_der_front.argtypes = [c_char_p, c_size_t, POINTER(_Element)]
     library.picky_der_elements.argtypes = [c_char_p, c_size_t, POINTER(_Element), c_size_t, sizes, sizes]
     library.picky_der_next.argtypes = [c_char_p, c_size_t, POINTER(_Place), sizes, c_size_t, POINTER(_Element)]
     library.picky_der_put.argtypes = [POINTER(c_uint8), c_size_t, sizes, c_uint8, c_char_p, c_size_t]
     library.picky_der_wrap.argtypes = [POINTER(c_uint8), c_size_t, sizes, c_size_t, c_uint8]
     library.picky_der_sort.argtypes = [POINTER(c_uint8), c_size_t, c_size_t, c_size_t]
-    for name in ("check", "path", "to_json", "front", "elements", "next", "put", "wrap", "sort"):
+    for name in ("check", "path", "to_json", "from_json", "front", "elements", "next", "put", "wrap", "sort"):
         getattr(library, f"picky_der_{name}").restype = c_uint32
     return library
 
@@ -178,6 +180,24 @@ def to_json(name: str, data: Data) -> str:
     if code != _tables.OK:
         raise DecodeError(code, position.value, _rule_of(der), _path_of(number, der))
     return text.decode()
+
+
+def from_json(name: str, json: Union[str, Data]) -> bytes:
+    """Returns the DER of the message with this JSON, as `to_json` returns it. `check` accepts it.
+
+    It raises ValueError, with what is wrong and where, if the text isn't JSON of a message of the type, MemoryError if memory ran out, and
+    KeyError if no type has the name, or the type has no table.
+    """
+    number = TYPES.get(name) or _tables.NAMES[name]
+    text = json.encode() if isinstance(json, str) else _bytes(json)
+    code, der = _written(lambda out, used: _library.picky_der_from_json(number, text, len(text), out, len(out), used), len(text) + 256)
+    if code == _tables.NO_MEMORY:
+        raise MemoryError
+    if code == _tables.NO_TABLE:
+        raise KeyError(name)
+    if code != _tables.OK:
+        raise ValueError(der.decode() or TEXTS.get(code, f"code {code}"))
+    return der
 
 
 def is_der(data: Data) -> bool:

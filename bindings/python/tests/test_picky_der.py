@@ -144,6 +144,24 @@ class Tests(unittest.TestCase):
         key = bytes.fromhex("302a300506032b6570032100") + bytes(32)
         self.assertRaises(KeyError, picky_der.to_json, "public-key", key)
 
+    def test_from_json(self) -> None:
+        """Certificates are the same bytes after they were JSON. JSON of no message is refused with a place."""
+        for it in CASES[:20]:
+            text = picky_der.to_json("certificate", it.der)
+            self.assertEqual(picky_der.from_json("certificate", text), it.der)
+            self.assertEqual(picky_der.from_json("certificate", json.dumps(json.loads(text), indent=1).encode()), it.der)
+        value = json.loads(picky_der.to_json("certificate", CASES[0].der))
+        del value["tbsCertificate"]["issuer"]
+        with self.assertRaises(ValueError) as caught:
+            picky_der.from_json("certificate", json.dumps(value))
+        self.assertIn("issuer", str(caught.exception))
+        self.assertIn("tbsCertificate", str(caught.exception))
+        for wrong in ("", "{", "{}", "[]", "null", '{"a": 1}', b"\xff"):
+            self.assertRaises(ValueError, picky_der.from_json, "certificate", wrong)
+        self.assertRaises(KeyError, picky_der.from_json, "public-key", "{}")
+        self.assertRaises(KeyError, picky_der.from_json, "passport", "{}")
+        self.assertRaises(TypeError, picky_der.from_json, "certificate", 5)
+
     def test_elements(self) -> None:
         """Elements come with their contents, and deep ones too."""
         outer, inner = picky_der.elements(memoryview(bytes.fromhex("3003020105")))
@@ -248,6 +266,7 @@ class WithoutMemory(unittest.TestCase):
         self.assertRaises(MemoryError, picky_der.check, "certificate", der)
         self.assertRaises(MemoryError, picky_der.is_der, der)
         self.assertRaises(MemoryError, picky_der.to_json, "certificate", der)
+        self.assertRaises(MemoryError, picky_der.from_json, "certificate", '{"a": 1}')
         self.assertEqual(picky_der.front(der).offset, 0)
         self.assertGreater(len(list(picky_der.elements(der))), 10)
         self.assertEqual(picky_der.encode(0x02, b"\x05"), b"\x02\x01\x05")

@@ -86,6 +86,44 @@ impl fmt::Display for Error {
 
 impl std::error::Error for Error {}
 
+/// Why there is no message of a type for a text of JSON.
+#[derive(Clone, Debug, PartialEq, Eq, Hash)]
+#[non_exhaustive]
+pub enum JsonError {
+    /// It isn't JSON of a message of the type: what is wrong, and where.
+    Refused(String),
+    /// The type has no table, and so its messages have no JSON.
+    NoTable,
+    /// Memory ran out.
+    NoMemory,
+    /// Another code of the library.
+    Other(u32),
+}
+
+impl JsonError {
+    pub(crate) fn of(code: u32, reason: Vec<u8>) -> JsonError {
+        match code {
+            picky_der_sys::PICKY_DER_NO_VALUE => JsonError::Refused(String::from_utf8_lossy(&reason).into_owned()),
+            picky_der_sys::PICKY_DER_NO_TABLE => JsonError::NoTable,
+            picky_der_sys::PICKY_DER_NO_MEMORY => JsonError::NoMemory,
+            other => JsonError::Other(other),
+        }
+    }
+}
+
+impl fmt::Display for JsonError {
+    fn fmt(&self, f: &mut fmt::Formatter<'_>) -> fmt::Result {
+        match self {
+            JsonError::Refused(reason) => f.write_str(reason),
+            JsonError::NoTable => f.write_str("the type has no table"),
+            JsonError::NoMemory => f.write_str("memory ran out"),
+            JsonError::Other(code) => write!(f, "code {code}"),
+        }
+    }
+}
+
+impl std::error::Error for JsonError {}
+
 // What a call returns and writes with this room, and if that is too small, with as much as the first call counted.
 pub(crate) fn written(room: usize, mut call: impl FnMut(&mut [u8], &mut usize) -> u32) -> (u32, Vec<u8>) {
     let mut out = vec![0; room];

@@ -20,7 +20,7 @@ mod writer;
 
 pub use elements::{elements, front, is_der, Class, Element, Elements};
 use error::written;
-pub use error::{Error, Reason};
+pub use error::{Error, JsonError, Reason};
 pub use tables::Message;
 pub use writer::Writer;
 
@@ -49,5 +49,16 @@ impl Message {
         });
         Error::of(code, position).map_err(|error| error.with_path(self as u32, bytes))?;
         Ok(String::from_utf8_lossy(&json).into_owned())
+    }
+
+    /// The DER of the message of the type with this JSON, as `to_json` returns it. `check` accepts it.
+    ///
+    /// # Errors
+    /// `JsonError::Refused`, with what is wrong and where, if the text isn't JSON of a message of the type.
+    pub fn from_json(self, json: &str) -> Result<Vec<u8>, JsonError> {
+        match written(json.len() + 256, |out, used| picky_der_sys::from_json(self as u32, json.as_bytes(), out, used)) {
+            (picky_der_sys::PICKY_DER_OK, der) => Ok(der),
+            (code, reason) => Err(JsonError::of(code, reason)),
+        }
     }
 }

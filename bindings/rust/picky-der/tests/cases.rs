@@ -1,5 +1,5 @@
 //! The cases that tools/bindings writes: inputs, each with what `der read` says of it.
-use picky_der::{elements, front, is_der, Class, Error, Message, Reason, Writer};
+use picky_der::{elements, front, is_der, Class, Error, JsonError, Message, Reason, Writer};
 
 const CERTIFICATE: u32 = 0;
 const READ: u32 = 1;
@@ -118,6 +118,13 @@ fn json() {
     assert_eq!(cut, Message::Certificate.check(&der[..9]).unwrap_err());
     let key = [&[0x30, 0x2A, 0x30, 5, 6, 3, 0x2B, 0x65, 0x70, 3, 0x21][..], &[0; 33]].concat();
     assert_eq!(Message::PublicKey.to_json(&key).unwrap_err().reason, Reason::NoTable);
+    assert_eq!(Message::PublicKey.from_json("{}").unwrap_err(), JsonError::NoTable);
+    assert_eq!(Message::Certificate.from_json(&json).unwrap(), der);
+    let refusal = Message::Certificate.from_json(&json.replacen("\"issuer\"", "\"other\"", 1)).unwrap_err();
+    assert!(matches!(&refusal, JsonError::Refused(reason) if reason.contains("tbsCertificate")), "{refusal}");
+    for wrong in ["", "{", "{}", "[]", "null", "\u{202E}"] {
+        assert!(matches!(Message::Certificate.from_json(wrong), Err(JsonError::Refused(_))), "{wrong}");
+    }
 }
 
 #[test]
