@@ -85,7 +85,9 @@ fn write_command<'a>(alloc: Global) -> Result<Command<'a>, AllocError> {
         .action(ArgAction::Append)
         .num_args(1..)
         .required(true)
-        .help("The word of a type, and a file of JSON. Without a file, or for -, it is standard input");
+        .help(
+            "The word of a type, and a file of JSON. Without a file, or for -, it is standard input",
+        );
     Command::new(alloc, "write")
         .about(
             "Writes the DER of a message, from its JSON: der write TYPE [FILE]. It is the value that der read --json prints",

@@ -30,9 +30,9 @@ IsMessageJson t bytes (message_json.Refused e) = ⊤
 
 -- the bytes are a message of the type in DER throughout, with the JSON of this text
 pub record IsMessageOfJson (t : MessageType) (text bytes : List ℕ) : Type 0 where
-  pub data : Data
-  pub is : read text ≡ Some data
-  pub json : IsJsonOf t bytes data
+  pub value : Data
+  pub is : read text ≡ Some value
+  pub json : IsJsonOf t bytes value
   pub message : IsMessage t bytes
   pub in_der : AreElements bytes
 
