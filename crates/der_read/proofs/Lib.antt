@@ -1,3 +1,4 @@
+pub mod Accepted
 pub mod AllTypes
 pub mod AttributeNameLemmas
 pub mod Examined

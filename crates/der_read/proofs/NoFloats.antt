@@ -31,9 +31,9 @@ module _ (file : List ℕ) (block : Option ℕ) where
   pub message_no_float : (bytes : List ℕ) (types : List MessageType) (d : Data)
       → IsMessageData file block bytes types d → has_float d ≡ false
   message_no_float bytes types d (IsMessageData.of_no_type none is) = rw is (plain_no_float (length bytes) types)
-  message_no_float bytes types d (IsMessageData.plain t others first no_schema is) =
+  message_no_float bytes types d (IsMessageData.plain t first no_schema is) =
       rw is (plain_no_float (length bytes) types)
-  message_no_float bytes types d (IsMessageData.valued t others value first json is) =
+  message_no_float bytes types d (IsMessageData.valued t value first json is) =
       rw is (valued_no_float (length bytes) types value (json_no_float _ _ _ _ _ json.json))
   message_no_float bytes types d (IsMessageData.unvalued reason is) =
       rw is (unvalued_no_float (length bytes) types reason)

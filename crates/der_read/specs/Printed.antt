@@ -1,5 +1,6 @@
 -- What is printed of a message.
-use Rattle.std.specs.Prelude.{◌≡◌, ℕ, List, [], ◌∷◌, ◌++◌, map, length, Option, codes, decimal, string_bytes}
+use Rattle.std.specs.Prelude.{◌≡◌, ℕ, List, [], ◌∷◌, ◌++◌, map, length, Option, None, Some, codes, decimal, slice_get}
+use Rattle.std.specs.Prelude.{string_bytes}
 use Rattle.std.specs.List.{flat_map}
 use Rattle.serde_json.specs.Data.{Data, null, number, unsigned, string, array, object, member, no_members}
 use Rattle.serde_json.specs.View.{items_of}
@@ -83,10 +84,11 @@ unvalued_data file block size types reason =
 -- the object of a message, with its JSON by its first type, if there is a schema of that
 pub data IsMessageData (file : List ℕ) (block : Option ℕ) (bytes : List ℕ) (types : List MessageType)
     (d : Data) : Type 0 where
-  of_no_type : types ≡ [] → d ≡ plain_data file block (length bytes) types → IsMessageData file block bytes types d
-  plain : (t : MessageType) (others : List MessageType) → types ≡ t ∷ others → HasNoSchema t
+  of_no_type : slice_get types 0 ≡ None → d ≡ plain_data file block (length bytes) types
+      → IsMessageData file block bytes types d
+  plain : (t : MessageType) → slice_get types 0 ≡ Some t → HasNoSchema t
       → d ≡ plain_data file block (length bytes) types → IsMessageData file block bytes types d
-  valued : (t : MessageType) (others : List MessageType) (value : Data) → types ≡ t ∷ others → IsJsonOf t bytes value
+  valued : (t : MessageType) (value : Data) → slice_get types 0 ≡ Some t → IsJsonOf t bytes value
       → d ≡ valued_data file block (length bytes) types value → IsMessageData file block bytes types d
   unvalued : (reason : List ℕ) → d ≡ unvalued_data file block (length bytes) types reason
       → IsMessageData file block bytes types d

@@ -99,7 +99,7 @@ fn message_value(
 ) -> Result<Value, AllocError>
     ensures { IfOk result (λ value. IsMessageData file.now block bytes.now types.now (view value)) }
 {
-    let [named, ..] = types else {
+    let Some(named) = types.first() else {
         return plain_value(alloc, file, block, bytes.len(), types);
     };
     match json_of(alloc, *named, bytes)? {
