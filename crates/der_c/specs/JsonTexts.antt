@@ -12,11 +12,11 @@ use Rattle.der_c.specs.Writing.{IsPut}
 
 -- the JSON of a message was appended, or there is none
 pub data IsJsonWritten (t : MessageType) (bytes old new : List ℕ) (before after code : ℕ) : Type 0 where
-  json : (value : Data) → IsJsonOf t bytes value → IsPut (json_line value) old new before after code
+  appended : (value : Data) → IsJsonOf t bytes value → IsPut (json_line value) old new before after code
       → IsJsonWritten t bytes old new before after code
-  no_table : HasNoSchema t → new ≡ old → after ≡ before → code ≡ no_table
+  without_table : HasNoSchema t → new ≡ old → after ≡ before → code ≡ no_table
       → IsJsonWritten t bytes old new before after code
-  no_json : new ≡ old → after ≡ before → code ≡ too_large → IsJsonWritten t bytes old new before after code
+  without_json : new ≡ old → after ≡ before → code ≡ too_large → IsJsonWritten t bytes old new before after code
   no_memory : new ≡ old → after ≡ before → code ≡ memory_failed → IsJsonWritten t bytes old new before after code
 
 -- the bytes are a message in DER, and its JSON was appended; or they aren't, and nothing was
@@ -34,16 +34,20 @@ IsJsonPut (Some t) bytes position old new before after code = IsJsonOfMessage t 
 
 -- ---- the other way
 
--- the DER of a message with this JSON was appended; or the reason for which it is that of none, with another code
-pub data IsMessageWritten (t : MessageType) (json old new : List ℕ) (before after code : ℕ) : Type 0 where
-  message : (bytes : List ℕ) → IsMessageOfJson t json bytes → IsPut bytes old new before after code
-      → IsMessageWritten t json old new before after code
-  no_table : HasNoSchema t → new ≡ old → after ≡ before → code ≡ no_table
-      → IsMessageWritten t json old new before after code
-  refused : (reason : List ℕ) (put : ℕ) → IsPut reason old new before after put
-      → code ≡ (if put == ok then no_value else put) → IsMessageWritten t json old new before after code
-  no_memory : new ≡ old → after ≡ before → code ≡ memory_failed → IsMessageWritten t json old new before after code
+-- the code of a refusal whose words were appended with this code
+abbrev pub refused_code : ℕ → ℕ
+refused_code put = if put == ok then no_value else put
+
+-- the DER of a message with the JSON of this text was appended; or why it is that of none, in words
+pub data IsMessageWritten (t : MessageType) (text old new : List ℕ) (before after code : ℕ) : Type 0 where
+  appended : (bytes : List ℕ) → IsMessageOfJson t text bytes → IsPut bytes old new before after code
+      → IsMessageWritten t text old new before after code
+  without_table : HasNoSchema t → new ≡ old → after ≡ before → code ≡ no_table
+      → IsMessageWritten t text old new before after code
+  refused : (words : List ℕ) (put : ℕ) → IsPut words old new before after put → code ≡ refused_code put
+      → IsMessageWritten t text old new before after code
+  no_memory : new ≡ old → after ≡ before → code ≡ memory_failed → IsMessageWritten t text old new before after code
 
 abbrev pub IsMessagePut : Option MessageType → List ℕ → List ℕ → List ℕ → ℕ → ℕ → ℕ → Type 0
-IsMessagePut None json old new before after code = (new ≡ old) × (after ≡ before) × (code ≡ unknown_type)
-IsMessagePut (Some t) json old new before after code = IsMessageWritten t json old new before after code
+IsMessagePut None text old new before after code = (new ≡ old) × (after ≡ before) × (code ≡ unknown_type)
+IsMessagePut (Some t) text old new before after code = IsMessageWritten t text old new before after code

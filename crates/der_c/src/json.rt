@@ -1,5 +1,6 @@
 //! Messages in JSON (X.697).
-ghost use Rattle.der_c.specs.JsonTexts.{IsJsonPut, IsJsonWritten, IsMessagePut};
+ghost use Rattle.std.specs.Prelude.{◌≡◌};
+ghost use Rattle.der_c.specs.JsonTexts.{refused_code, IsJsonPut, IsJsonWritten, IsMessagePut};
 ghost use Rattle.der_c.specs.Types.{type_of_number};
 
 use crate::check::check;
@@ -91,9 +92,17 @@ pub extern "C" fn picky_der_from_json(
     match written {
         FromJson::Message(bytes) => append(out, used, &bytes),
         FromJson::NoSchema => PICKY_DER_NO_TABLE,
-        FromJson::Refused(reason) => match append(out, used, reason.as_bytes()) {
-            PICKY_DER_OK => PICKY_DER_NO_VALUE,
-            code => code,
-        },
+        FromJson::Refused(reason) => refused_code(append(out, used, reason.as_bytes())),
+    }
+}
+
+// The code for a refusal whose words were appended with this code.
+fn refused_code(put: u32) -> u32
+    ensures { result ≡ refused_code put }
+{
+    if put == PICKY_DER_OK {
+        PICKY_DER_NO_VALUE
+    } else {
+        put
     }
 }
