@@ -224,7 +224,7 @@ static void path(const struct input *it) {
     need(picky_der_path(0, bytes, it->len, out, sizeof out, &used) == PICKY_DER_UNKNOWN_TYPE, "the path by no type");
     const uint8_t padded[] = {0x30, 8, 0x30, 6, 2, 2, 0, 0, 5, 0};
     used = 0;
-    need(picky_der_path(PICKY_DER_TYPE_CSR, padded, sizeof padded, out, sizeof out, &used) == PICKY_DER_OK, "a path");
+    need(picky_der_path(PICKY_DER_TYPE_ENVELOPED_DATA, padded, sizeof padded, out, sizeof out, &used) == PICKY_DER_OK, "a path");
     need(used == 5 && memcmp(out, "0.0.0", 5) == 0, "a path by numbers");
     free(bytes);
 }
@@ -247,8 +247,13 @@ static void json(const struct input *it) {
     need(again == 0 && position < it->len, "nothing is appended then");
     need(picky_der_to_json(PICKY_DER_TYPE_CRL, it->bytes, it->len, &position, out, used, &again) != PICKY_DER_OK, "JSON as another type");
     need(picky_der_to_json(99, it->bytes, it->len, &position, out, used, &again) == PICKY_DER_UNKNOWN_TYPE && position == 0, "JSON of no type");
-    const uint8_t key[44] = {0x30, 0x2A, 0x30, 5, 6, 3, 0x2B, 0x65, 0x70, 3, 0x21};
-    code = picky_der_to_json(PICKY_DER_TYPE_PUBLIC_KEY, key, sizeof key, &position, out, used, &again);
+    /* an error of Kerberos (RFC 4120, 5.9.1) */
+    const uint8_t krb[] = {
+        0x7E, 0x3E, 0x30, 0x3C, 0xA0, 0x03, 0x02, 0x01, 0x05, 0xA1, 0x03, 0x02, 0x01, 0x1E, 0xA4, 0x11, 0x18, 0x0F, 0x32, 0x30, 0x32, 0x36,
+        0x30, 0x31, 0x30, 0x31, 0x30, 0x30, 0x30, 0x30, 0x30, 0x30, 0x5A, 0xA5, 0x03, 0x02, 0x01, 0x00, 0xA6, 0x03, 0x02, 0x01, 0x00, 0xA9,
+        0x03, 0x1B, 0x01, 0x41, 0xAA, 0x0E, 0x30, 0x0C, 0xA0, 0x03, 0x02, 0x01, 0x01, 0xA1, 0x05, 0x30, 0x03, 0x1B, 0x01, 0x6B,
+    };
+    code = picky_der_to_json(PICKY_DER_TYPE_KRB, krb, sizeof krb, &position, out, used, &again);
     need(code == PICKY_DER_NO_TABLE && again == 0, "a type without a table");
 
     uint8_t *der = malloc(it->len + 100);
@@ -260,7 +265,7 @@ static void json(const struct input *it) {
     code = picky_der_from_json(PICKY_DER_TYPE_CERTIFICATE, out, used - 1, der, it->len + 100, &again);
     need(code == PICKY_DER_NO_VALUE && again > 10, "a part of JSON, and why it is refused");
     again = 0;
-    need(picky_der_from_json(PICKY_DER_TYPE_PUBLIC_KEY, out, used, der, it->len, &again) == PICKY_DER_NO_TABLE && again == 0, "no table");
+    need(picky_der_from_json(PICKY_DER_TYPE_KRB, out, used, der, it->len, &again) == PICKY_DER_NO_TABLE && again == 0, "no table");
     need(picky_der_from_json(99, out, used, der, it->len, &again) == PICKY_DER_UNKNOWN_TYPE && again == 0, "no type");
     free(der);
     free(out);

@@ -125,9 +125,17 @@ func TestPaths(t *testing.T) {
 		t.Error("a path by names", why)
 	}
 	padded := []byte{0x30, 8, 0x30, 6, 2, 2, 0, 0, 5, 0}
-	if !errors.As(Check(Csr, padded), &why) || why.Path != "0.0.0" {
+	if !errors.As(Check(EnvelopedData, padded), &why) || why.Path != "0.0.0" {
 		t.Error("a path by numbers", why)
 	}
+}
+
+// An error of Kerberos (RFC 4120, 5.9.1).
+var krbError = []byte{
+	0x7e, 0x3e, 0x30, 0x3c, 0xa0, 0x03, 0x02, 0x01, 0x05, 0xa1, 0x03, 0x02, 0x01, 0x1e, 0xa4, 0x11, 0x18, 0x0f, 0x32, 0x30,
+	0x32, 0x36, 0x30, 0x31, 0x30, 0x31, 0x30, 0x30, 0x30, 0x30, 0x30, 0x30, 0x5a, 0xa5, 0x03, 0x02, 0x01, 0x00, 0xa6, 0x03,
+	0x02, 0x01, 0x00, 0xa9, 0x03, 0x1b, 0x01, 0x41, 0xaa, 0x0e, 0x30, 0x0c, 0xa0, 0x03, 0x02, 0x01, 0x01, 0xa1, 0x05, 0x30,
+	0x03, 0x1b, 0x01, 0x6b,
 }
 
 func TestJSON(t *testing.T) {
@@ -140,8 +148,7 @@ func TestJSON(t *testing.T) {
 	if _, err := ToJSON(Certificate, der[:9]); !errors.As(err, &why) || why.Code != Truncated {
 		t.Error("a part", err)
 	}
-	key := append([]byte{0x30, 0x2a, 0x30, 5, 6, 3, 0x2b, 0x65, 0x70, 3, 0x21}, make([]byte, 33)...)
-	if _, err := ToJSON(PublicKey, key); err != ErrNoTable {
+	if _, err := ToJSON(Krb, krbError); err != ErrNoTable {
 		t.Error("a type without a table", err)
 	}
 	if again, err := FromJSON(Certificate, json); err != nil || !bytes.Equal(again, der) {
@@ -156,7 +163,7 @@ func TestJSON(t *testing.T) {
 			t.Error("JSON of no certificate", wrong, err)
 		}
 	}
-	if _, err := FromJSON(PublicKey, "{}"); err != ErrNoTable {
+	if _, err := FromJSON(Krb, "{}"); err != ErrNoTable {
 		t.Error("a type without a table", err)
 	}
 }

@@ -122,9 +122,9 @@ class Tests(unittest.TestCase):
         error = self.refused("certificate", der[:algorithm] + b"\x04" + der[algorithm + 1 :])
         self.assertEqual(error.path, "tbsCertificate.signature.algorithm")
         self.assertIn(f"at {error.position}, tbsCertificate.signature.algorithm: ", str(error))
-        padded = self.refused("csr", bytes.fromhex("30083006020200000500"))
+        padded = self.refused("enveloped-data", bytes.fromhex("30083006020200000500"))
         self.assertEqual((padded.rule, padded.path), ("padded_integer", "0.0.0"))
-        self.assertEqual([self.refused("csr", it).path for it in (b"", b"\x30", b"\x05\x00")], ["", "", ""])
+        self.assertEqual([self.refused("enveloped-data", it).path for it in (b"", b"\x30", b"\x05\x00")], ["", "", ""])
 
     def test_json(self) -> None:
         """A certificate has its members in JSON, by the names of its type."""
@@ -141,8 +141,9 @@ class Tests(unittest.TestCase):
             picky_der.to_json("certificate", der[:-1])
         self.assertEqual(caught.exception.code, self.refused("certificate", der[:-1]).code)
         self.assertRaises(KeyError, picky_der.to_json, "passport", der)
-        key = bytes.fromhex("302a300506032b6570032100") + bytes(32)
-        self.assertRaises(KeyError, picky_der.to_json, "public-key", key)
+        # an error of Kerberos (RFC 4120, 5.9.1)
+        krb = "7e3e303ca003020105a10302011ea411180f32303236303130313030303030305aa503020100a603020100a9031b0141aa0e300c"
+        self.assertRaises(KeyError, picky_der.to_json, "krb", bytes.fromhex(krb + "a003020101a10530031b016b"))
 
     def test_from_json(self) -> None:
         """Certificates are the same bytes after they were JSON. JSON of no message is refused with a place."""
@@ -158,7 +159,7 @@ class Tests(unittest.TestCase):
         self.assertIn("tbsCertificate", str(caught.exception))
         for wrong in ("", "{", "{}", "[]", "null", '{"a": 1}', b"\xff"):
             self.assertRaises(ValueError, picky_der.from_json, "certificate", wrong)
-        self.assertRaises(KeyError, picky_der.from_json, "public-key", "{}")
+        self.assertRaises(KeyError, picky_der.from_json, "krb", "{}")
         self.assertRaises(KeyError, picky_der.from_json, "passport", "{}")
         self.assertRaises(TypeError, picky_der.from_json, "certificate", 5)
 
