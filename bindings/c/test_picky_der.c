@@ -247,8 +247,8 @@ static void json(const struct input *it) {
     need(again == 0 && position < it->len, "nothing is appended then");
     need(picky_der_to_json(PICKY_DER_TYPE_CRL, it->bytes, it->len, &position, out, used, &again) != PICKY_DER_OK, "JSON as another type");
     need(picky_der_to_json(99, it->bytes, it->len, &position, out, used, &again) == PICKY_DER_UNKNOWN_TYPE && position == 0, "JSON of no type");
-    const uint8_t key[44] = {0x30, 0x2A, 0x30, 5, 6, 3, 0x2B, 0x65, 0x70, 3, 0x21};
-    code = picky_der_to_json(PICKY_DER_TYPE_PUBLIC_KEY, key, sizeof key, &position, out, used, &again);
+    const uint8_t reply[] = {0x6F, 0x1B, 0x30, 0x19, 0xA0, 3, 2, 1, 5, 0xA1, 3, 2, 1, 0x0F, 0xA2, 0x0D, 0x30, 0x0B, 0xA0, 3, 2, 1, 0x11, 0xA2, 4, 4, 2, 1, 2};
+    code = picky_der_to_json(PICKY_DER_TYPE_KRB, reply, sizeof reply, &position, out, used, &again);
     need(code == PICKY_DER_NO_TABLE && again == 0, "a type without a table");
 
     uint8_t *der = malloc(it->len + 100);
@@ -260,7 +260,7 @@ static void json(const struct input *it) {
     code = picky_der_from_json(PICKY_DER_TYPE_CERTIFICATE, out, used - 1, der, it->len + 100, &again);
     need(code == PICKY_DER_NO_VALUE && again > 10, "a part of JSON, and why it is refused");
     again = 0;
-    need(picky_der_from_json(PICKY_DER_TYPE_PUBLIC_KEY, out, used, der, it->len, &again) == PICKY_DER_NO_TABLE && again == 0, "no table");
+    need(picky_der_from_json(PICKY_DER_TYPE_KRB, out, used, der, it->len, &again) == PICKY_DER_NO_TABLE && again == 0, "no table");
     need(picky_der_from_json(99, out, used, der, it->len, &again) == PICKY_DER_UNKNOWN_TYPE && again == 0, "no type");
     free(der);
     free(out);

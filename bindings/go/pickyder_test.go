@@ -140,8 +140,8 @@ func TestJSON(t *testing.T) {
 	if _, err := ToJSON(Certificate, der[:9]); !errors.As(err, &why) || why.Code != Truncated {
 		t.Error("a part", err)
 	}
-	key := append([]byte{0x30, 0x2a, 0x30, 5, 6, 3, 0x2b, 0x65, 0x70, 3, 0x21}, make([]byte, 33)...)
-	if _, err := ToJSON(PublicKey, key); err != ErrNoTable {
+	reply := []byte("\x6f\x1b\x30\x19\xa0\x03\x02\x01\x05\xa1\x03\x02\x01\x0f\xa2\x0d\x30\x0b\xa0\x03\x02\x01\x11\xa2\x04\x04\x02\x01\x02")
+	if _, err := ToJSON(Krb, reply); err != ErrNoTable {
 		t.Error("a type without a table", err)
 	}
 	if again, err := FromJSON(Certificate, json); err != nil || !bytes.Equal(again, der) {
@@ -156,7 +156,7 @@ func TestJSON(t *testing.T) {
 			t.Error("JSON of no certificate", wrong, err)
 		}
 	}
-	if _, err := FromJSON(PublicKey, "{}"); err != ErrNoTable {
+	if _, err := FromJSON(Krb, "{}"); err != ErrNoTable {
 		t.Error("a type without a table", err)
 	}
 }

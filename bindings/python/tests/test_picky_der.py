@@ -141,8 +141,8 @@ class Tests(unittest.TestCase):
             picky_der.to_json("certificate", der[:-1])
         self.assertEqual(caught.exception.code, self.refused("certificate", der[:-1]).code)
         self.assertRaises(KeyError, picky_der.to_json, "passport", der)
-        key = bytes.fromhex("302a300506032b6570032100") + bytes(32)
-        self.assertRaises(KeyError, picky_der.to_json, "public-key", key)
+        reply = bytes.fromhex("6f1b3019a003020105a10302010fa20d300ba003020111a20404020102")
+        self.assertRaises(KeyError, picky_der.to_json, "krb", reply)
 
     def test_from_json(self) -> None:
         """Certificates are the same bytes after they were JSON. JSON of no message is refused with a place."""
@@ -158,7 +158,7 @@ class Tests(unittest.TestCase):
         self.assertIn("tbsCertificate", str(caught.exception))
         for wrong in ("", "{", "{}", "[]", "null", '{"a": 1}', b"\xff"):
             self.assertRaises(ValueError, picky_der.from_json, "certificate", wrong)
-        self.assertRaises(KeyError, picky_der.from_json, "public-key", "{}")
+        self.assertRaises(KeyError, picky_der.from_json, "krb", "{}")
         self.assertRaises(KeyError, picky_der.from_json, "passport", "{}")
         self.assertRaises(TypeError, picky_der.from_json, "certificate", 5)
 

@@ -116,9 +116,9 @@ fn json() {
     assert!(json.starts_with("{\"signatureAlgorithm\":{\"algorithm\":\"") && json.ends_with('}') && !json.contains('\n'));
     let cut = Message::Certificate.to_json(&der[..9]).unwrap_err();
     assert_eq!(cut, Message::Certificate.check(&der[..9]).unwrap_err());
-    let key = [&[0x30, 0x2A, 0x30, 5, 6, 3, 0x2B, 0x65, 0x70, 3, 0x21][..], &[0; 33]].concat();
-    assert_eq!(Message::PublicKey.to_json(&key).unwrap_err().reason, Reason::NoTable);
-    assert_eq!(Message::PublicKey.from_json("{}").unwrap_err(), JsonError::NoTable);
+    let reply = b"\x6f\x1b\x30\x19\xa0\x03\x02\x01\x05\xa1\x03\x02\x01\x0f\xa2\x0d\x30\x0b\xa0\x03\x02\x01\x11\xa2\x04\x04\x02\x01\x02";
+    assert_eq!(Message::Krb.to_json(reply).unwrap_err().reason, Reason::NoTable);
+    assert_eq!(Message::Krb.from_json("{}").unwrap_err(), JsonError::NoTable);
     assert_eq!(Message::Certificate.from_json(&json).unwrap(), der);
     let refusal = Message::Certificate.from_json(&json.replacen("\"issuer\"", "\"other\"", 1)).unwrap_err();
     assert!(matches!(&refusal, JsonError::Refused(reason) if reason.contains("tbsCertificate")), "{refusal}");
