@@ -141,9 +141,8 @@ class Tests(unittest.TestCase):
             picky_der.to_json("certificate", der[:-1])
         self.assertEqual(caught.exception.code, self.refused("certificate", der[:-1]).code)
         self.assertRaises(KeyError, picky_der.to_json, "passport", der)
-        # an error of Kerberos (RFC 4120, 5.9.1)
-        krb = "7e3e303ca003020105a10302011ea411180f32303236303130313030303030305aa503020100a603020100a9031b0141aa0e300c"
-        self.assertRaises(KeyError, picky_der.to_json, "krb", bytes.fromhex(krb + "a003020101a10530031b016b"))
+        reply = bytes.fromhex("6f1b3019a003020105a10302010fa20d300ba003020111a20404020102")
+        self.assertRaises(KeyError, picky_der.to_json, "krb", reply)
 
     def test_from_json(self) -> None:
         """Certificates are the same bytes after they were JSON. JSON of no message is refused with a place."""

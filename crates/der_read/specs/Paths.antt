@@ -1,13 +1,10 @@
 -- Where in a message an error is, as it is printed.
-use Rattle.std.specs.Prelude.{◌≡◌, ◌≢◌, ℕ, ◌+◌, ◌-◌, ◌^◌, ◌⊎◌, Option, Some, None, List, [], ◌++◌, min, codes}
-use Rattle.picky_der_core.specs.declared.asn1.wrapper.Wrapper.TheVariants as wrapper
+use Rattle.std.specs.Prelude.{◌≡◌, ◌≢◌, ℕ, ◌+◌, ◌-◌, ◌^◌, ◌⊎◌, Some, None, List, [], ◌++◌, min, codes}
 use Rattle.picky_der_de.specs.declared.whole_input.DecodeError.{DecodeError}
 use Rattle.der_error_path.specs.Awaited.{Awaited}
 use Rattle.der_error_path.specs.declared.path.ErrorPath.{ErrorPath}
 use Rattle.der_error_path.specs.Names.{names_of}
 use Rattle.der_error_path.specs.Steps.{AreSteps}
-use Rattle.der_kerberos.specs.contracts.errors.KrbErrorMembersNotated.TheImpl as krb_error
-use Rattle.der_kerberos.specs.contracts.tickets.TicketMembersNotated.TheImpl as ticket
 use Rattle.der_path.specs.Paths.{IsPath}
 use Rattle.der_path.specs.Texts.{with_points}
 use Rattle.der_schema.specs.declared.node.Schema.{Schema}
@@ -16,35 +13,21 @@ use Rattle.der_show.specs.declared.outline.Complaint.{Complaint}
 use Rattle.der_show.specs.declared.reason.Reason.{Reason}
 use Rattle.der_show.specs.Outlines.{AreElements, IsComplaint}
 use Rattle.der_show.specs.Reasons.{IsReason}
-use Rattle.der_types.specs.Notation.{Notation}
-use Rattle.der_x509.specs.contracts.certificate_list.CertificateListNotated.TheImpl as crl
-use Rattle.der_x509.specs.contracts.pkix1_explicit88.CertificateNotated.TheImpl as certificate
 use Rattle.der_read.specs.contracts.message_type.MessageTypeDescribed.TheImpl as known
+use Rattle.der_read.specs.contracts.tabled.MessageTypeTabled.TheImpl as tabled
 use Rattle.der_read.specs.declared.message_type.MessageType.{MessageType}
-use Rattle.der_read.specs.declared.message_type.MessageType.TheVariants as named
 use Rattle.der_read.specs.Fitting.{IsMessage}
 use Rattle.der_read.specs.Message.{IsRefusalOf}
 
 -- ---- schemas
 
--- the notation of a type of messages that has a schema
-abbrev pub notation_named : MessageType → Option Notation
-notation_named named.Certificate = Some certificate.ghosts.notation
-notation_named named.Crl = Some crl.ghosts.notation
-notation_named named.Ticket = Some (Notation.wrapped (wrapper.Application 1) ticket.ghosts.notation)
-notation_named named.KrbError = Some (Notation.wrapped (wrapper.Application 30) krb_error.ghosts.notation)
-notation_named _ = None
-
 -- the schema is that of the type
 abbrev pub IsSchemaOf : MessageType → Schema → Type 0
-IsSchemaOf t s = notation_named t ≡ Some (notation_of s.nodes.now s.root)
+IsSchemaOf t s = tabled.ghosts.notation t ≡ Some (notation_of s.nodes.now s.root)
 
--- the type is none of those that have one
-pub record HasNoSchema (t : MessageType) : Type 0 where
-  pub no_certificate : t ≢ named.Certificate
-  pub no_crl : t ≢ named.Crl
-  pub no_ticket : t ≢ named.Ticket
-  pub no_krb_error : t ≢ named.KrbError
+-- the type has none
+abbrev pub HasNoSchema : MessageType → Type 0
+HasNoSchema t = tabled.ghosts.notation t ≡ None
 
 -- ---- paths
 

@@ -16,6 +16,7 @@ mod place;
 mod printed;
 mod schema;
 mod strings;
+mod tabled;
 mod verdict;
 
 pub use certificate::certificate_line;
@@ -31,4 +32,5 @@ pub use outcome::{Outcome, Reading, examine};
 pub use path::{path_by_numbers, path_of};
 pub use place::{block_value, place_name, place_text};
 pub use printed::read_message;
+pub use tabled::Tabled;
 pub use verdict::{Verdict, verdict_of};

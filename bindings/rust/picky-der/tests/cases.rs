@@ -5,15 +5,6 @@ const CERTIFICATE: u32 = 0;
 const READ: u32 = 1;
 const REFUSED: u32 = 2;
 
-// An error of Kerberos (RFC 4120, 5.9.1).
-#[rustfmt::skip]
-const KRB_ERROR: [u8; 64] = [
-    0x7E, 0x3E, 0x30, 0x3C, 0xA0, 0x03, 0x02, 0x01, 0x05, 0xA1, 0x03, 0x02, 0x01, 0x1E, 0xA4, 0x11, 0x18, 0x0F, 0x32, 0x30,
-    0x32, 0x36, 0x30, 0x31, 0x30, 0x31, 0x30, 0x30, 0x30, 0x30, 0x30, 0x30, 0x5A, 0xA5, 0x03, 0x02, 0x01, 0x00, 0xA6, 0x03,
-    0x02, 0x01, 0x00, 0xA9, 0x03, 0x1B, 0x01, 0x41, 0xAA, 0x0E, 0x30, 0x0C, 0xA0, 0x03, 0x02, 0x01, 0x01, 0xA1, 0x05, 0x30,
-    0x03, 0x1B, 0x01, 0x6B,
-];
-
 struct Case {
     verdict: u32,
     offset: usize,
@@ -125,7 +116,8 @@ fn json() {
     assert!(json.starts_with("{\"signatureAlgorithm\":{\"algorithm\":\"") && json.ends_with('}') && !json.contains('\n'));
     let cut = Message::Certificate.to_json(&der[..9]).unwrap_err();
     assert_eq!(cut, Message::Certificate.check(&der[..9]).unwrap_err());
-    assert_eq!(Message::Krb.to_json(&KRB_ERROR).unwrap_err().reason, Reason::NoTable);
+    let reply = b"\x6f\x1b\x30\x19\xa0\x03\x02\x01\x05\xa1\x03\x02\x01\x0f\xa2\x0d\x30\x0b\xa0\x03\x02\x01\x11\xa2\x04\x04\x02\x01\x02";
+    assert_eq!(Message::Krb.to_json(reply).unwrap_err().reason, Reason::NoTable);
     assert_eq!(Message::Krb.from_json("{}").unwrap_err(), JsonError::NoTable);
     assert_eq!(Message::Certificate.from_json(&json).unwrap(), der);
     let refusal = Message::Certificate.from_json(&json.replacen("\"issuer\"", "\"other\"", 1)).unwrap_err();
