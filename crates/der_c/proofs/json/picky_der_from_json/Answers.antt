@@ -13,3 +13,14 @@ returns-in-Message c =
     subst (λ put. IsPut put c.args.out.now c.append.new.out c.args.used.now c.append.new.used c.append.result)
     c.deref.ensures.value c.append.ensures in
     rw (sym c.type_of_number.ensures ∙ c.in-Some.is) (IsMessageWritten.appended bytes message put)
+
+pub returns-in-Refused : goal.returns-in-Refused
+returns-in-Refused c =
+    let words = string_bytes c.in-Refused.reason in
+    let put : IsPut words c.args.out.now c.append-in-Refused.new.out c.args.used.now c.append-in-Refused.new.used
+    c.append-in-Refused.result =
+    subst (λ words. IsPut words c.args.out.now c.append-in-Refused.new.out c.args.used.now c.append-in-Refused.new.used
+    c.append-in-Refused.result)
+    c.as_bytes.ensures.value c.append-in-Refused.ensures in
+    rw (sym c.type_of_number.ensures ∙ c.in-Some.is)
+    (IsMessageWritten.refused words c.append-in-Refused.result put c.refused_code.ensures)
