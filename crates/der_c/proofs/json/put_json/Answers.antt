@@ -13,7 +13,8 @@ returns-in-Ok-json_line c =
     let json : IsJsonOf c.args.named c.args.bytes.now value =
     subst (IsMessageJson c.args.named c.args.bytes.now) c.in-Value.is c.in-Ok.ensures in
     let text = c.in-Ok-json_line.ensures.text (json_no_float _ _ _ _ _ json.json) in
-    let put : IsPut (json_line value) c.args.out.now c.append.new.out c.args.used.now c.append.new.used c.append.result =
+    let put : IsPut (json_line value) c.args.out.now c.append.new.out c.args.used.now c.append.new.used
+    c.append.result =
     subst (λ bytes. IsPut bytes c.args.out.now c.append.new.out c.args.used.now c.append.new.used c.append.result)
     (c.as_bytes.ensures.value ∙ text) c.append.ensures in
     IsJsonWritten.appended value json put
