@@ -1,5 +1,5 @@
 -- What `write` is asked for, and what it writes.
-use Rattle.std.specs.Prelude.{◌≡◌, ◌≢◌, ℕ, ◌⊎◌, List, [], ◌∷◌, Option, codes}
+use Rattle.std.specs.Prelude.{◌≡◌, ◌≢◌, ℕ, List, [], ◌∷◌, Option, codes}
 use Rattle.std.specs.Io.KnownBytes.{Appends}
 use Rattle.der_read.specs.declared.message_type.MessageType.{MessageType}
 use Rattle.der_read.specs.JsonMessages.{IsMessageOfJson}
@@ -13,14 +13,16 @@ use Rattle.der.specs.declared.write.Written.TheVariants as written
 
 -- a type and a file, or a type alone, with standard input
 abbrev pub IsWriteRequest : List (List ℕ) → WriteRequest → Type 0
-IsWriteRequest words r = (words ≡ word_of r.named ∷ r.file.now ∷ [])
-    ⊎ ((words ≡ word_of r.named ∷ []) × (r.file.now ≡ codes "-"))
+IsWriteRequest [] r = ⊥
+IsWriteRequest (word ∷ []) r = (word_of r.named ≡ word) × (r.file.now ≡ codes "-")
+IsWriteRequest (word ∷ (file ∷ [])) r = (word_of r.named ≡ word) × (r.file.now ≡ file)
+IsWriteRequest (word ∷ (file ∷ (more ∷ others))) r = ⊥
 
 -- a word that names no type, or another number of words than one or two
 abbrev pub IsNoWriteRequest : List (List ℕ) → Type 0
 IsNoWriteRequest [] = Unit {0}
 IsNoWriteRequest (word ∷ []) = (t : MessageType) → word_of t ≢ word
-IsNoWriteRequest (word ∷ file ∷ []) = (t : MessageType) → word_of t ≢ word
+IsNoWriteRequest (word ∷ (file ∷ [])) = (t : MessageType) → word_of t ≢ word
 IsNoWriteRequest (word ∷ (file ∷ (more ∷ others))) = Unit {0}
 
 -- ---- the output
