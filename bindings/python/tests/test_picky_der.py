@@ -122,8 +122,8 @@ class Tests(unittest.TestCase):
         error = self.refused("certificate", der[:algorithm] + b"\x04" + der[algorithm + 1 :])
         self.assertEqual(error.path, "tbsCertificate.signature.algorithm")
         self.assertIn(f"at {error.position}, tbsCertificate.signature.algorithm: ", str(error))
-        padded = self.refused("enveloped-data", bytes.fromhex("30083006020200000500"))
-        self.assertEqual((padded.rule, padded.path), ("padded_integer", "0.0.0"))
+        padded = self.refused("enveloped-data", bytes.fromhex("3006020200000500"))
+        self.assertEqual((padded.rule, padded.path), ("padded_integer", "0.0"))
         self.assertEqual([self.refused("enveloped-data", it).path for it in (b"", b"\x30", b"\x05\x00")], ["", "", ""])
 
     def test_json(self) -> None:

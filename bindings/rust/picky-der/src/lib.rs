@@ -35,8 +35,8 @@ impl Message {
         Error::of(code, position).map_err(|error| error.with_path(self as u32, bytes))
     }
 
-    /// The JSON of a message of the type (X.697), on one line. It is made by a table of the type, which all have but `Krb`, `EnvelopedData`,
-    /// `AuthenticatedData` and `AuthEnvelopedData`.
+    /// The JSON of a message of the type (X.697), on one line. It is made by a table of the type, which all types have
+    /// but `Krb`, `EnvelopedData`, `AuthenticatedData` and `AuthEnvelopedData`.
     ///
     /// # Errors
     /// Those of `check` if the bytes aren't such a message. `Reason::NoTable` if the type has no table, and `Reason::Unsupported` if a number
