@@ -1,6 +1,6 @@
 use Rattle.std.proofs.Common.{◌++◌, List, ℕ, length}
-use Rattle.der_ber_types.specs.Content.{AreParts}
-use Rattle.der_ber_types.proofs.content.joined.Given as goal
+use Rattle.der_ber_types.specs.Contents.{AreParts}
+use Rattle.der_ber_types.proofs.contents.joined.Given as goal
 
 -- what is made of the rest completes it
 abbrev pub invariant-loop-rest : goal.invariant-loop-rest

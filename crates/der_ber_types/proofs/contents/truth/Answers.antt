@@ -1,7 +1,7 @@
-use Rattle.std.proofs.Common.{◌≡◌, ◌≢◌, ◌≤◌, ◌<◌, ◌++◌, ◌∷◌, ℕ, List, [], length, get_or, ap, sym, refl, ◌∙◌, arith}
-use Rattle.der_ber_types.specs.Content.{IsTruth}
-use Rattle.der_ber_types.proofs.content.truth.Goals as goal
-use Rattle.der_ber_types.proofs.content.truth.Goals.{then-value-eq0, else-value-eq0}
+use Rattle.std.proofs.Common.{◌≡◌, ◌≤◌, ◌<◌, ◌++◌, ◌∷◌, ℕ, List, [], length, get_or, ap, refl, ◌∙◌, arith}
+use Rattle.der_ber_types.specs.Contents.{IsTruth}
+use Rattle.der_ber_types.proofs.contents.truth.Goals as goal
+use Rattle.der_ber_types.proofs.contents.truth.Goals.{then-value-eq0, else-value-eq0}
 
 one_byte : (s : List ℕ) → 1 ≤ length s → length s < 2 → s ≡ get_or s 0 0 ∷ []
 one_byte [] least most = absurd (omega (arith, least))

@@ -2,7 +2,7 @@ use Rattle.std.proofs.Common.{◌≡◌, ◌++◌, subst, arith}
 use Rattle.picky_der_core.specs.Element.{tlv}
 use Rattle.der_ber_types.proofs.Cutting.{smaller_after}
 use Rattle.der_ber_types.proofs.Writing.{nothing_left, part-more, parts-end}
-use Rattle.der_ber_types.proofs.content.joined.Goals as goal
+use Rattle.der_ber_types.proofs.contents.joined.Goals as goal
 
 pub loop-rest-smaller : goal.loop-rest-smaller
 loop-rest-smaller c =
