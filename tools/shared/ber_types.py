@@ -69,7 +69,6 @@ NAMES, CRITICAL, LISTED = paths("30303031"), paths("3030A3303001"), paths("3030A
 EXTENSIONS, OF_LISTS = paths("3030A33030"), paths("3030A03030", "303030303030")
 ATTRIBUTES = paths("30A03031", "30A030A0", "30A030A1", "30A0303130A0", "30A0303130A1", "30A0303130A03031", "30A0303130A13031", "30A030A13031",
                    "30A0303130303031")
-MESSAGE_SETS = ATTRIBUTES | below("30A030A0", NAMES) | below("30A030A1", NAMES)
 NOTHING: set[Path] = set()
 SETS: dict[str, set[Path]] = {
     "BasicOCSPResponse": paths("3030A13031") | below("30A030", NAMES),
@@ -78,8 +77,7 @@ SETS: dict[str, set[Path]] = {
     "CertificationRequest": NAMES | paths("3030A0", "3030A03031"),
     "GeneralNames": paths("30A4303031"),
     "PrivateKeyInfo": paths("30A0", "30A03031"),
-    "TimeStampResp": below("30", MESSAGE_SETS),
-    "message": MESSAGE_SETS,
+    "message": ATTRIBUTES | below("30A030A0", NAMES) | below("30A030A1", NAMES),
 }
 TRUTHS: dict[str, set[Path]] = {
     "Certificate": CRITICAL,
@@ -92,17 +90,13 @@ DEFAULTS: dict[str, set[Path]] = {
     "CertificateList": OF_LISTS,
     "message": below("30A030A0", EXTENSIONS) | below("30A030A1", OF_LISTS),
 }
-VERSIONS: dict[str, set[Path]] = {
-    "BasicOCSPResponse": paths("3030"),
-    "Certificate": paths("3030"),
-    "OCSPRequest": paths("3030"),
-}
 PARTS: dict[str, set[Path]] = {
     "GeneralNames": paths("3081", "3082", "3086", "3087"),
     "message": paths("30A0303080", "30A030313080"),
 }
-# the tag of such a version, and the version
-VERSION, FIRST_VERSION = 0xA0, bytes.fromhex("A003020100")
+# such a version, where the sequence is, and the tags of the member after it
+FIRST_VERSION, VERSIONED = bytes.fromhex("A003020100"), (0x30, 0x30)
+AFTER_VERSION = {"BasicOCSPResponse": b"\xA1\xA2", "Certificate": b"\x02", "OCSPRequest": b"\xA1\x30"}
 
 
 # ---- forms of a message
@@ -139,7 +133,7 @@ def changed(name: str, data: bytes, path: Path, chance: random.Random | None) ->
                 content = b"".join(members)
             elif chance and here in DEFAULTS.get(name, NOTHING) and chance.randint(1, 2) == 1:
                 content = with_default(content)
-            elif chance and here in VERSIONS.get(name, NOTHING) and content[0] != VERSION and chance.randint(1, 2) == 1:
+            elif chance and here == VERSIONED and content[0] in AFTER_VERSION.get(name, b"") and chance.randint(1, 2) == 1:
                 content = FIRST_VERSION + content
         elif here in TRUTHS.get(name, NOTHING) and content != b"\0":
             content = bytes([chance.randint(1, TRUE) if chance else TRUE])
