@@ -240,7 +240,7 @@ static void json(const struct input *it) {
     uint8_t *out = malloc(used);
     code = picky_der_to_json(PICKY_DER_TYPE_CERTIFICATE, it->bytes, it->len, &position, out, used, &again);
     need(code == PICKY_DER_OK && again == used && position == it->len, "JSON");
-    const char *front = "{\"signatureAlgorithm\":{\"algorithm\":\"";
+    const char *front = "{\"signature\":{\"length\":";
     need(memcmp(out, front, strlen(front)) == 0 && out[used - 1] == '}' && memchr(out, '\n', used) == NULL, "an object on one line");
     again = 0;
     need(picky_der_to_json(PICKY_DER_TYPE_CERTIFICATE, it->bytes, it->len - 1, &position, out, used, &again) == PICKY_DER_TRUNCATED, "JSON of a part");

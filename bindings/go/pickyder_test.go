@@ -133,7 +133,7 @@ func TestPaths(t *testing.T) {
 func TestJSON(t *testing.T) {
 	der := inputs(t)[0].der
 	json, err := ToJSON(Certificate, der)
-	if err != nil || !strings.HasPrefix(json, `{"signatureAlgorithm":{"algorithm":"`) || strings.Contains(json, "\n") {
+	if err != nil || !strings.HasPrefix(json, `{"signature":{"length":`) || strings.Contains(json, "\n") {
 		t.Error("a certificate", json, err)
 	}
 	var why *Error

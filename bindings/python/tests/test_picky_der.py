@@ -133,7 +133,7 @@ class Tests(unittest.TestCase):
         self.assertEqual(text, picky_der.to_json("certificate", der))
         self.assertNotIn("\n", text)
         value = json.loads(text)
-        self.assertEqual(sorted(value), ["signatureAlgorithm", "signatureValue", "tbsCertificate"])
+        self.assertEqual(sorted(value), ["signature", "signatureAlgorithm", "tbsCertificate"])
         oid = next(it for it in picky_der.elements(der) if it.tag == 0x06)
         arcs = value["tbsCertificate"]["signature"]["algorithm"].split(".")
         self.assertEqual(bytes([40 * int(arcs[0]) + int(arcs[1])]), bytes(oid.content[:1]))
