@@ -3,7 +3,7 @@ import random
 from collections.abc import Iterator
 
 from . import messages
-from .ber import OCTET_STRING, by_chance, grouped, in_parts, parts_of, shortened, whole
+from .ber import OCTET_STRING, by_chance, content_of, grouped, in_parts, parts_of, shortened, whole
 from .der import element, encoded
 
 FOLDERS = ("bouncycastle", "cms", "kerberos", "keys", "pkix", "rfc")
@@ -46,6 +46,8 @@ TYPES = {
     "der_x509::CertificateList": "CertificateList",
     "der_x509::SubjectPublicKeyInfo": "SubjectPublicKeyInfo",
 }
+# what isn't of its type: without a set, and with a curve in full
+OTHER_TYPES = ("bouncycastle/request-no-attributes.der", "keys/ec-explicit.der")
 BOOLEAN, CONSTRUCTED, TRUE = 0x01, 0x20, 0xFF
 # id-signedData, id-digestedData and id-encryptedData
 CONTENTS = tuple(bytes.fromhex("06092A864886F70D0107") + bytes([it]) for it in (2, 5, 6))
@@ -94,6 +96,8 @@ PARTS: dict[str, set[Path]] = {
     "GeneralNames": paths("3081", "3082", "3086", "3087"),
     "message": paths("30A0303080", "30A030313080"),
 }
+# such a string in parts, as hxtool writes it
+KEY_IDENTIFIERS: dict[str, set[Path]] = {"message": paths("30A0303130A0")}
 # such a version, where the sequence is, and the tags of the member after it
 FIRST_VERSION, VERSIONED = bytes.fromhex("A003020100"), (0x30, 0x30)
 AFTER_VERSION = {"BasicOCSPResponse": b"\xA1\xA2", "Certificate": b"\x02", "OCSPRequest": b"\xA1\x30"}
@@ -124,7 +128,9 @@ def changed(name: str, data: bytes, path: Path, chance: random.Random | None) ->
     while at < len(data):
         tag, content, at = element(data, at)
         here = (*path, tag)
-        if tag & CONSTRUCTED:
+        if here in KEY_IDENTIFIERS.get(name, NOTHING) and content[:1] == bytes([OCTET_STRING]):
+            tag, content = tag - CONSTRUCTED, content_of(OCTET_STRING, content)
+        elif tag & CONSTRUCTED:
             content = changed(name, content, here, chance)
             if here in SETS.get(name, NOTHING):
                 members = sorted(elements(content))
@@ -174,9 +180,9 @@ def typed(name: str, data: bytes) -> str:
 
 
 def all_messages() -> Iterator[tuple[str, str, bytes]]:
-    """The place, the type and the bytes of each certificate, list and message of CMS of `data`."""
+    """The place, the type and the bytes of each message of `data` whose type the program knows."""
     for kind, place in messages.listed(FOLDERS):
-        if ":" not in place and kind in TYPES:
+        if ":" not in place and kind in TYPES and place not in OTHER_TYPES:
             data = messages.file_of(place).read_bytes()
             yield place, typed(TYPES[kind], data), data
 
