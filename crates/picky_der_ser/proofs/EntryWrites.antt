@@ -66,13 +66,13 @@ module _ {V W : Type 0} (h : Ghosts V) (g : Ghosts W) (now : V → W) (told : (v
       }
 
   -- a serializer that began with nothing open, and hadn't failed
-  pub refused-fresh : (t : Tree) (old new : State V) (e : Asn1DerError) → old.failed ≡ None → old.inside ≡ []
+  pub refused-fresh : (t : Tree) (old new : State V) (e : Asn1DerError) → old.failed ≡ None → old.inside ≡ None
       → old.around ≡ [] → RefusesWrite h t old e new → SinkRefuses g t (now old.sink) e (now new.sink)
   refused-fresh t old new e f i a k =
       let first : RefusesIn h old.inside (under old.around t) old.sink e new.sink =
       subst (λ o. IfNone o (RefusesIn h old.inside (under old.around t) old.sink e new.sink)) f k.reason in
       let outside : SinkRefuses h (under old.around t) old.sink e new.sink =
-      subst (λ ls. RefusesIn h ls (under old.around t) old.sink e new.sink) i first in
+      subst (λ k. RefusesIn h k (under old.around t) old.sink e new.sink) i first in
       refused-references t old.sink new.sink e (subst (λ ws. SinkRefuses h (under ws t) old.sink e new.sink) a outside)
 
 -- ---- a vector

@@ -1,9 +1,9 @@
 pub mod Alike
 pub mod HeaderBytes
 pub mod LevelMarks
+pub mod Rooms
 pub mod StateWrites
 pub mod WrapWrites
-pub mod Brought
 pub mod EntryWrites
 pub mod ListBytes
 pub mod MemberWrites

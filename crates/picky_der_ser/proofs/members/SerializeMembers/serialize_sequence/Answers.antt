@@ -11,8 +11,8 @@ returns-in_err-serialize_members g c =
     let a = list_opened g.W.WriteExt ListKind.sequence all _ _ c.serialize_lazy-sequence.ensures.opened in
     let p = err_from_is_err_and c.from_residual.result c.from_residual.ensures.1 in
     let refused =
-    members_refused g.W.WriteExt ListKind.sequence all all _ _ _ _ _ c.in_err-serialize_members.ensures.err refl
-    a in
+    members_refused g.W.WriteExt ListKind.sequence all all _ _ _ c.serialize_members.new.sequence.ser.now _ _
+    c.in_err-serialize_members.ensures.err refl refl refl a in
     let same = members_untouched g.W.WriteExt ListKind.sequence all all _ _ _ _ c.in_err-serialize_members.ensures.err
     a in
     record {

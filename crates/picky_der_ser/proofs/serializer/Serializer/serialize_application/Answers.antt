@@ -1,9 +1,14 @@
-use Rattle.std.proofs.Common.{rules}
-use Rattle.picky_der_ser.proofs.WrapWrites.{application_wrote}
+use Rattle.std.proofs.Common.{rules, refl}
+use Rattle.picky_der_core.specs.declared.asn1.wrapper.Wrapper.TheVariants as wrapper
+use Rattle.picky_der_core.specs.Tree.{Tree}
+use Rattle.picky_der_ser.specs.declared.header.Header.TheVariants.{Application}
+use Rattle.picky_der_ser.proofs.WrapWrites.{one_wrote, alike_application}
 use Rattle.picky_der_ser.proofs.serializer.Serializer.serialize_application.Goals as goal
 
 pub returns-clause-wrote : goal.returns-clause-wrote
 returns-clause-wrote g c =
-    application_wrote g.W.WriteExt c.args.number (g.T.Serialize.meaning c.args.value.now) c.args.self.now
-    c.open.new.self c.open.ensures c.write_member.new.self c.close.new.self c.close.result
-    c.in_ok-write_member.ensures.added c.close.ensures
+    let t = g.T.Serialize.meaning c.args.value.now in
+    let a = c.in_ok-write_member.ensures.added in
+    one_wrote g.W.WriteExt (Application c.args.number) refl t _ _ c.open.ensures.opened
+    (Tree.wrapped (wrapper.Application c.args.number) t) _ _ _ (alike_application c.args.number t a.writable.numbers) a
+    c.close.ensures
