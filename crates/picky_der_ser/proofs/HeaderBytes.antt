@@ -1,6 +1,6 @@
 -- The encoding of a content under its header, in the wrapper around it.
 use Rattle.std.proofs.Common.{◌≡◌, ℕ, ◌+◌, Bool, true, false, List, [], ◌∷◌, ◌++◌, length, Option, None, Some}
-use Rattle.std.proofs.Common.{refl, ◌∙◌, ap, append_assoc, length-append, ◌≤◌, ◌<◌, arith}
+use Rattle.std.proofs.Common.{refl, ◌∙◌, ap, append_assoc, length-append, ◌≤◌, ◌<◌, arith, zero-add}
 use Rattle.picky_der_core.specs.ElementLaws.{length_octets-short}
 use mir.Val.{bool_byte}
 use Rattle.picky_der_core.specs.Primitive.{Primitive}
@@ -25,13 +25,15 @@ use Rattle.picky_der_ser.specs.Headers.{wrapped_in, front}
 pub opened : (tag : ℕ) (has_front : Bool) (n : ℕ) (c : List ℕ) → n ≡ length c
     → (tag ∷ (length_octets (bool_byte has_front + n) ++ front has_front)) ++ c ≡ tlv tag (front has_front ++ c)
 unfolding tlv
-opened tag true n c e = ap (λ x. tag ∷ x) (append_assoc (length_octets (1 + n)) (0 ∷ []) c
-    ∙ ap (λ m. length_octets (1 + m) ++ (0 ∷ c)) e)
-opened tag false n c e = ap (λ x. tag ∷ x) (append_assoc (length_octets n) [] c ∙ ap (λ m. length_octets m ++ c) e)
+opened tag true n c e =
+    let size : 1 + n ≡ length (0 ∷ c) = omega (arith, e) in
+    ap (λ x. tag ∷ x) (append_assoc (length_octets (1 + n)) (0 ∷ []) c ∙ ap (λ m. length_octets m ++ (0 ∷ c)) size)
+opened tag false n c e = ap (λ x. tag ∷ x) (append_assoc (length_octets (0 + n)) [] c
+    ∙ ap (λ m. length_octets m ++ c) (zero-add n ∙ e))
 
 pub length-opened : (tag : ℕ) (c : List ℕ) → length (tlv tag c) ≡ 1 + (length (length_octets (length c)) + length c)
 unfolding tlv
-length-opened tag c = ap (λ n. 1 + n) (length-append (length_octets (length c)) c)
+length-opened tag c = omega (arith, length-append (length_octets (length c)) c)
 
 pub tlv-short : (tag : ℕ) (c : List ℕ) → length c < 0x80 → tlv tag c ≡ tag ∷ length c ∷ c
 unfolding tlv

@@ -58,11 +58,13 @@ pub(crate) fn own_tag(around: Option<Wrapper>, header: Header) -> Option<Tag>
     requires { HasNumber header }
     ensures { result ≡ own_tag (keeps_headers around) header }
 {
-    match (header, around) {
-        (Header::Tagged(_), Some(wrapper)) if !wrapper.keeps_header() => None,
-        (Header::Tagged(tag), _) => Some(tag),
-        (Header::Application(number), _) => Some(Tag::application_constructed(number)),
-        (Header::Raw, _) => None,
+    match header {
+        Header::Tagged(tag) => match around {
+            Some(wrapper) if !wrapper.keeps_header() => None,
+            _ => Some(tag),
+        },
+        Header::Application(number) => Some(Tag::application_constructed(number)),
+        Header::Raw => None,
     }
 }
 
