@@ -1,6 +1,6 @@
 -- A level while more bytes come.
 use Rattle.std.proofs.Common.{◌≡◌, ◌≢◌, ℕ, ◌≤◌, ◌<◌, ◌+◌, ◌-◌, Bool, true, false, List, [], ◌∷◌, ◌++◌, length, take}
-use Rattle.std.proofs.Common.{drop, Option, None, Some, refl, sym, ap, ap₂, ◌∙◌, arith, subst, length-append}
+use Rattle.std.proofs.Common.{drop, Option, None, Some, refl, sym, ap, ap₂, ◌∙◌, arith, subst, length-append, ◌⊎◌, inl, inr}
 use Rattle.std.proofs.Math.Seq.{take-append_seam}
 use Rattle.std.proofs.lemmas.List.{take-append-le, drop-append-le, take_all, drop_all, length-drop}
 use Rattle.picky_der_core.specs.declared.asn1.wrapper.Wrapper.{Wrapper}
@@ -15,8 +15,8 @@ use Rattle.picky_der_ser.specs.Headers.{wrappers, is_set, HasNumber, CanAllBeOpe
 use Rattle.picky_der_ser.specs.Seams.{AreSeams, last_seam, next_seams}
 use Rattle.picky_der_ser.specs.State.{Level, Held, Stack, State, extended, stack, with_bytes, with_member}
 use Rattle.picky_der_ser.specs.State.{at_next_member}
-use Rattle.picky_der_ser.specs.Marks.{level_at, level_in, held_of, first, inside_at, is_open, outside, HasTag, IsMark}
-use Rattle.picky_der_ser.specs.Marks.{IsOpen, writing}
+use Rattle.picky_der_ser.specs.Marks.{level_at, level_in, held_of, first, inside_at, pending_at, around_at, is_open}
+use Rattle.picky_der_ser.specs.Marks.{outside, HasTag, IsMark, IsOpen, Opens, writing}
 use Rattle.picky_der_ser.specs.Calls.{Writes, AddsIn, AddsMember, EntersLevel}
 use Rattle.picky_der_ser.proofs.ListBytes.{seams-next, last_seam-next, drop-next_seams, take-next_seams}
 use Rattle.picky_der_ser.proofs.ListBytes.{length-next_seams}
@@ -30,7 +30,7 @@ within {m} {h} k = omega (arith, k.within)
 tag-more : {m : Mark} {h : Held} (bs : List ℕ) → m.start ≤ length h.bytes → HasTag m h → HasTag m (extended h bs)
 tag-more {m} {h} bs fits k =
     let before : m.at ≤ length h.bytes = omega (arith, fits, k.room) in
-    let two : 1 ≤ length (drop m.at h.bytes) = omega (arith, fits, k.room) in
+    let two : 1 ≤ length (drop m.at h.bytes) = omega (arith, fits, k.room, length-drop m.at h.bytes) in
     record {
       inside = k.inside;
       bare = k.bare;
@@ -160,6 +160,62 @@ module _ (m : Mark) (b q pad : List ℕ) (at : m.at ≡ length b) (start : m.sta
     has_tag = tag;
   }
 
+inside-whole : (p : Place) (n f : ℕ) (h : Held) → pending_at p h ≡ None
+    → (inside_at p n f h ≡ None) ⊎ (inside_at p n f h ≡ Some h)
+inside-whole place.Member n f h e = inr refl
+inside-whole place.WrappedMember n f h e = inr refl
+inside-whole place.OpenMember n f h e = cc
+inside-whole place.Sink n f h e = inl refl
+inside-whole place.WrappedSink n f h e = inl refl
+inside-whole place.OpenSink n f h e = inl refl
+
+-- in place of none
+module _ (m : Mark) (old : Stack) (p : Place) (n f : ℕ) (w : Wrapper) (b q pad bytes : List ℕ)
+    (more : bytes ≡ b ++ pad) (at : m.at ≡ length b) (start : m.start ≡ length bytes) (seams : m.first_seam ≡ length q)
+    (none : pending_at p (held_of b q) ≡ None) (was : old.inside ≡ inside_at p n f (held_of b q))
+    (around : wrappers m.around ≡ old.around) (numbers : CanAllBeOpen (wrappers m.around)) (number : HasNumber m.header)
+    (ready : m.is_ready ≡ true → is_set m.header ≡ false) (untagged : m.has_tag ≡ false) where
+  wide : m.start ≡ length b + length pad
+  wide = omega (arith, start, ap length more, length-append b pad)
+
+  abbrev opened_held : Held
+  opened_held = held_of bytes q
+
+  abbrev opened_stack : Stack
+  opened_stack = record {
+    inside = outside m opened_held;
+    pending = pending_at m.place opened_held;
+    around = around_at m.place w;
+  }
+
+  opens_by : is_open m.place ≡ true → opened_stack ≡ record { inside = old.inside; pending = Some opened_held; around = [] }
+      → old.inside ≡ outside m opened_held → Opens m.header old m opened_stack
+  opens_by is stacked outer = record {
+    held = opened_held;
+    is = stacked;
+    outer = outer;
+    mark = subst (λ x. IsMark m (held_of x q)) (sym more) (fresh_mark m b q pad at wide seams is numbers number ready
+        (λ e. cc));
+    level = ap (λ x. level_at m (held_of x q)) more ∙ fresh_level m b q pad at wide seams
+        ∙ ap (λ ws. record { header = m.header; around = ws; content = []; seams = [] }) around;
+  }
+
+  pub opens_member : old.inside ≢ None → m.place ≡ place.OpenMember → Opens m.header old m opened_stack
+  opens_member some e =
+      let front : first m.at m.first_seam opened_held ≡ held_of b q =
+      ap (λ x. first m.at m.first_seam (held_of x q)) more ∙ fresh_front m b q pad at wide seams in
+      let inside : old.inside ≡ Some (held_of b q) =
+      elim (inside-whole p n f (held_of b q) none) [ inl x ↦ absurd (some (was ∙ x)) | inr x ↦ was ∙ x ] in
+      let outer : old.inside ≡ outside m opened_held =
+      inside ∙ sym (ap Some front) ∙ ap (λ k. inside_at k m.at m.first_seam opened_held) (sym e) in
+      opens_by (ap is_open e) (rw (e, front, inside) refl) outer
+
+  pub opens_outside : old.inside ≡ None → m.place ≡ place.OpenSink → Opens m.header old m opened_stack
+  opens_outside no e =
+      let outer : old.inside ≡ outside m opened_held =
+      no ∙ ap (λ k. inside_at k m.at m.first_seam opened_held) (sym e) in
+      opens_by (ap is_open e) (rw (e, no) refl) outer
+
 -- ---- another member
 
 module _ (m : Mark) (start : ℕ) (ready : Bool) (b q pad p : List ℕ) (k : IsMark m (held_of b q))
@@ -169,7 +225,7 @@ module _ (m : Mark) (start : ℕ) (ready : Bool) (b q pad p : List ℕ) (k : IsM
   abbrev now : Mark
   now = record m { start = start; is_ready = ready }
 
-  own : List ℕ
+  abbrev own : List ℕ
   own = drop m.first_seam q
 
   count : length (b ++ pad) - start ≡ length (drop m.start b)
@@ -180,8 +236,8 @@ module _ (m : Mark) (start : ℕ) (ready : Bool) (b q pad p : List ℕ) (k : IsM
       ∙ drop-next_seams m.header m.first_seam q (length (b ++ pad) - start) k.within_seams
       ∙ ap (next_seams m.header own) count
 
-  held : last_seam 0 own ≤ length (drop m.start b)
-  held = omega (arith, k.within, length-drop m.start b)
+  fitting : last_seam 0 own ≤ length (drop m.start b)
+  fitting = omega (arith, k.within, length-drop m.start b)
 
   pub entered_mark : IsMark now (held_of (b ++ pad) p)
   entered_mark = record {
@@ -201,12 +257,12 @@ module _ (m : Mark) (start : ℕ) (ready : Bool) (b q pad p : List ℕ) (k : IsM
           arith,
           fits,
           count,
-          last_seam-next m.header own (length (drop m.start b)) held,
+          last_seam-next m.header own (length (drop m.start b)) fitting,
           ap (last_seam 0) own_next,
         );
     ascending =
         subst (AreSeams 0) (sym own_next)
-        (seams-next m.header own (length (drop m.start b)) held k.ascending);
+        (seams-next m.header own (length (drop m.start b)) fitting k.ascending);
     ready = lists;
     has_tag = λ e. let t = tag-more pad (within k) (k.has_tag e) in record {
       inside = t.inside;
