@@ -1,6 +1,6 @@
 -- The encoding of a content under its header, in the wrapper around it.
 use Rattle.std.proofs.Common.{◌≡◌, ℕ, ◌+◌, Bool, true, false, List, [], ◌∷◌, ◌++◌, length, Option, None, Some}
-use Rattle.std.proofs.Common.{refl, ◌∙◌, ap, append_assoc, length-append, ◌≤◌, ◌<◌, arith, zero-add}
+use Rattle.std.proofs.Common.{refl, ◌∙◌, ap, append_assoc, length-append, ◌≤◌, ◌<◌, arith, zero-add, ap₂}
 use Rattle.picky_der_core.specs.ElementLaws.{length_octets-short}
 use mir.Val.{bool_byte}
 use Rattle.picky_der_core.specs.Primitive.{Primitive}
@@ -64,6 +64,11 @@ pub der-headed : (o : Option Wrapper) (h : Header) (c : List ℕ)
 der-headed None h c = own true h c
 der-headed (Some w) h c = der-wrapped_present w (tree_of h c) (present h c)
     ∙ ap (λ bs. tlv (wrapper_tag w) (wrapper_front w ++ bs)) (own (keeps_header w) h c)
+
+-- the same where it is known what these are
+pub der-known : (o p : Option Wrapper) (h : Header) (tag : Option ℕ) (c : List ℕ) → o ≡ p
+    → own_tag (keeps_headers o) h ≡ tag → der (under (wrappers o) (tree_of h c)) ≡ wrapped_in p (headed tag c)
+der-known o p h tag c e f = der-headed o h c ∙ ap₂ (λ q t. wrapped_in q (headed t c)) e f
 
 -- ---- it holds the content
 

@@ -1,6 +1,6 @@
 -- What was written, seen from the state of a serializer.
 use Rattle.std.proofs.Common.{arith, ◌≡◌, ◌≢◌, ◌<◌, ◌^◌, Option, ℕ, List, [], ◌∷◌, length, None, Some, refl, sym, ap}
-use Rattle.std.proofs.Common.{◌∙◌, subst, Result, Ok, Err, IfOk, OnOk, IfErr, OnErr, ◌+◌, true, ◌++◌, le-leb}
+use Rattle.std.proofs.Common.{◌∙◌, subst, Result, Ok, Err, IfOk, OnOk, IfErr, OnErr, ◌+◌, true, ◌++◌, le-leb, ap₂}
 use Rattle.std.specs.Io.KnownBytes.{Appends}
 use Rattle.picky_der_core.specs.OpenWrappers.{under}
 use Rattle.picky_der_core.specs.Failure.{failure_of}
@@ -14,9 +14,10 @@ use Rattle.picky_der_core.specs.Tree.{Tree}
 use Rattle.picky_der_core.specs.Encoding.{der}
 use Rattle.picky_der_core.specs.Readable.{IsWritable, has_tag_numbers}
 use Rattle.picky_der_ser.specs.Headers.{tree_of, HasNumber, CanAllBeOpen}
-use Rattle.picky_der_ser.specs.State.{State, Held, Writing, extended, beneath, final_content}
+use Rattle.picky_der_ser.specs.State.{State, Stack, stack, Held, Writing, extended, beneath, final_content}
+use Rattle.picky_der_ser.specs.Marks.{Gains}
 use Rattle.picky_der_ser.specs.Calls.{AddsIn, UntouchedUnlessFailed, SinkWrites, SinkRefuses, RefusesIn, no_memory}
-use Rattle.picky_der_ser.specs.Calls.{no_room, Writes, RefusesWrite, WritesPlain, WritesContent, no_sink}
+use Rattle.picky_der_ser.specs.Calls.{no_room, Writes, RefusesWrite, OnlySinkFails, WritesPlain, WritesContent, no_sink}
 use Rattle.std.specs.Prelude.{IsTrue}
 use Rattle.picky_der_core.specs.Tag.{number_of, is_tag_number}
 use Rattle.picky_der_core.specs.Wrapper.{has_tag_number}
@@ -181,20 +182,39 @@ module _ {W : Type 0} (g : Ghosts W) where
     continues = l;
   }
 
-  pub plain_refused : (t : Tree) (old new : State W) (e : Asn1DerError) → IsWritable t → old.inside ≢ None
+  pub plain_refused : (t : Tree) (old new : State W) (e : Asn1DerError) → IsWritable t → OnlySinkFails g t old e new
       → RefusesWrite g t old e new → new.sink ≡ old.sink → IsOnceAtMost (g.faults old.sink) (g.faults new.sink)
       → g.later old.sink new.sink → WritesPlain g t old (Err e) new
-  plain_refused t old new e w some h same c l =
+  plain_refused t old new e w outside h same c l =
       record {
         wrote = tt;
         failed = h;
-        outside = λ x y inside around. absurd (some inside);
+        outside = outside;
         untouched =
             record { same = λ well. same };
         refuses_unwritable = λ no. absurd (no w);
         counted = c;
         continues = l;
       }
+
+  -- a level gained these bytes
+  pub plain_gained : (t : Tree) (bs : List ℕ) (old new : State W) (n : ℕ) → IsWritable t → bs ≡ der t → n ≡ length bs
+      → old.failed ≡ None → Gains bs (stack old) (stack new) → new.sink ≡ old.sink → new.failed ≡ old.failed
+      → g.later old.sink new.sink → WritesPlain g t old (Ok n) new
+  plain_gained t bs old new n w is count f k same still later =
+      let inside : old.inside ≡ Some k.held = ap (λ (s : Stack). s.inside) k.was in
+      let bare : old.around ≡ [] = ap (λ (s : Stack). s.around) k.was in
+      let whole : bs ≡ der (under old.around t) = is ∙ ap (λ ws. der (under ws t)) (sym bare) in
+      let some : old.inside ≢ None = λ e. let q : Some k.held ≡ None = sym inside ∙ e in cc in
+      let gained : (h : Held) → old.inside ≡ Some h → new.inside ≡ Some (extended h (der (under old.around t))) =
+      λ h e. let same_held : k.held ≡ h = cc in
+      ap (λ (s : Stack). s.inside) k.is ∙ ap₂ (λ x y. Some (extended x y)) same_held whole in
+      let writable : IsWritable (under old.around t) = subst (λ ws. IsWritable (under ws t)) (sym bare) w in
+      let faults = ap g.faults same in
+      plain_inside t old new n w
+      (writes_inside t old new n f some gained same (ap (λ (s : Stack). s.around) k.is) (still ∙ f) writable
+      (count ∙ ap length whole))
+      (omega (arith, faults), omega (arith, faults)) later
 
   -- without wrappers, the sink accepted an element
   pub bare_wrote : (t : Tree) (ws : List Wrapper) (bs : List ℕ) (old new : W) (r : Result ℕ Asn1DerError) → ws ≡ []
