@@ -1,8 +1,10 @@
 -- A level while more bytes come.
-use Rattle.std.proofs.Common.{◌≡◌, ◌≢◌, ℕ, ◌≤◌, ◌<◌, ◌+◌, ◌-◌, Bool, true, false, List, [], ◌∷◌, ◌++◌, length, take}
+use Rattle.std.proofs.Common.{not, ◌≡◌, ◌≢◌, ℕ, ◌≤◌, ◌<◌, ◌+◌, ◌-◌, Bool, true, false, List, [], ◌∷◌, ◌++◌, length, take}
 use Rattle.std.proofs.Common.{drop, Option, None, Some, refl, sym, ap, ap₂, ◌∙◌, arith, subst, length-append, ◌⊎◌, inl, inr}
 use Rattle.std.proofs.Math.Seq.{take-append_seam}
-use Rattle.std.proofs.lemmas.List.{take-append-le, drop-append-le, take_all, drop_all, length-drop}
+use Rattle.std.specs.Prelude.{if◌then◌else◌}
+use Rattle.std.proofs.lemmas.List.{take-append-le, drop-append-le, take_all, drop_all, length-drop, append-nil}
+use Rattle.std.proofs.lemmas.List.{length-take-le}
 use Rattle.picky_der_core.specs.declared.asn1.wrapper.Wrapper.{Wrapper}
 use Rattle.picky_der_core.specs.Tree.{Tree}
 use Rattle.picky_der_core.specs.Encoding.{der}
@@ -16,7 +18,7 @@ use Rattle.picky_der_ser.specs.Seams.{AreSeams, last_seam, next_seams}
 use Rattle.picky_der_ser.specs.State.{Level, Held, Stack, State, extended, stack, with_bytes, with_member}
 use Rattle.picky_der_ser.specs.State.{at_next_member}
 use Rattle.picky_der_ser.specs.Marks.{level_at, level_in, held_of, first, inside_at, pending_at, around_at, is_open}
-use Rattle.picky_der_ser.specs.Marks.{outside, HasTag, IsMark, IsOpen, Opens, writing}
+use Rattle.picky_der_ser.specs.Marks.{outside, HasTag, IsMark, IsOpen, Opens, Enters, writing}
 use Rattle.picky_der_ser.specs.Calls.{Writes, AddsIn, AddsMember, EntersLevel}
 use Rattle.picky_der_ser.proofs.ListBytes.{seams-next, last_seam-next, drop-next_seams, take-next_seams}
 use Rattle.picky_der_ser.proofs.ListBytes.{length-next_seams}
@@ -124,6 +126,11 @@ module _ {W : Type 0} (g : Ghosts W) where
 
 -- ---- a level that is opened
 
+-- nothing or these bytes were added
+pub grown : (ok : Bool) (s t pad : List ℕ) → t ≡ (if ok then s ++ pad else s) → (x : List ℕ) × (t ≡ s ++ x)
+grown true s t pad e = (pad, e)
+grown false s t pad e = ([], e ∙ sym (append-nil s))
+
 module _ (m : Mark) (b q pad : List ℕ) (at : m.at ≡ length b) (start : m.start ≡ length b + length pad)
     (seams : m.first_seam ≡ length q) where
   no_seams : drop m.first_seam q ≡ []
@@ -169,6 +176,21 @@ inside-whole place.Sink n f h e = inl refl
 inside-whole place.WrappedSink n f h e = inl refl
 inside-whole place.OpenSink n f h e = inl refl
 
+-- there is nothing around what is there, whatever it is
+pub inside-none : (p r : Place) (n f n' f' : ℕ) (h h' : Held) → r ≡ p → inside_at p n f h ≡ None
+    → inside_at r n' f' h' ≡ None
+inside-none place.Member r n f n' f' h h' e x = cc
+inside-none place.WrappedMember r n f n' f' h h' e x = cc
+inside-none place.OpenMember r n f n' f' h h' e x = cc
+inside-none place.Sink r n f n' f' h h' e x = ap (λ s. inside_at s n' f' h') e
+inside-none place.WrappedSink r n f n' f' h h' e x = ap (λ s. inside_at s n' f' h') e
+inside-none place.OpenSink r n f n' f' h h' e x = ap (λ s. inside_at s n' f' h') e
+
+-- what is ready isn't a set
+pub unset : (b s r : Bool) → b ≡ s → r ≡ not b → r ≡ true → s ≡ false
+unset true s r e is ready = cc
+unset false s r e is ready = sym e
+
 -- in place of none
 module _ (m : Mark) (old : Stack) (p : Place) (n f : ℕ) (w : Wrapper) (b q pad bytes : List ℕ)
     (more : bytes ≡ b ++ pad) (at : m.at ≡ length b) (start : m.start ≡ length bytes) (seams : m.first_seam ≡ length q)
@@ -211,10 +233,10 @@ module _ (m : Mark) (old : Stack) (p : Place) (n f : ℕ) (w : Wrapper) (b q pad
       opens_by (ap is_open e) (rw (e, front, inside) refl) outer
 
   pub opens_outside : old.inside ≡ None → m.place ≡ place.OpenSink → Opens m.header old m opened_stack
-  opens_outside no e =
+  opens_outside empty e =
       let outer : old.inside ≡ outside m opened_held =
-      no ∙ ap (λ k. inside_at k m.at m.first_seam opened_held) (sym e) in
-      opens_by (ap is_open e) (rw (e, no) refl) outer
+      empty ∙ ap (λ k. inside_at k m.at m.first_seam opened_held) (sym e) in
+      opens_by (ap is_open e) (rw (e, empty) refl) outer
 
 -- ---- another member
 
@@ -291,3 +313,83 @@ module _ (m : Mark) (start : ℕ) (ready : Bool) (b q pad p : List ℕ) (k : IsM
       outside_next place.Sink n f x y o = cc
       outside_next place.WrappedSink n f x y o = cc
       outside_next place.OpenSink n f x y o = refl
+
+  pub enters : (old : Stack) → old.pending ≡ Some (held_of b q) → old.inside ≡ outside m (held_of b q)
+      → Enters m old now (record { inside = Some (held_of (b ++ pad) p); pending = None; around = [] })
+  enters old was outer = record {
+    before = held_of b q;
+    was = was;
+    held = held_of (b ++ pad) p;
+    is = refl;
+    outer = outer ∙ sym entered_outside;
+    mark = entered_mark;
+    level = entered_level;
+  }
+
+pub enters_by : (m n : Mark) (b q pad bytes p : List ℕ) (old : Stack) → IsMark m (held_of b q)
+    → n ≡ record m { start = n.start; is_ready = n.is_ready } → bytes ≡ b ++ pad → m.at ≤ n.start
+    → n.start ≤ length bytes → drop n.start bytes ≡ drop m.start b → (n.is_ready ≡ true → is_set m.header ≡ false)
+    → (m.has_tag ≡ true → n.start ≡ m.start) → p ≡ next_seams m.header q (length bytes - n.start)
+    → old.pending ≡ Some (held_of b q) → old.inside ≡ outside m (held_of b q)
+    → Enters m old n (record { inside = Some (held_of bytes p); pending = None; around = [] })
+enters_by m n b q pad bytes p old k is more room fits same lists tagged next was outer =
+    let wide : n.start ≤ length (b ++ pad) = omega (arith, fits, ap length more) in
+    let whole = enters m n.start n.is_ready b q pad p k room wide (ap (drop n.start) (sym more) ∙ same) lists tagged
+    (next ∙ ap (λ x. next_seams m.header q (length x - n.start)) more) old was outer in
+    subst (λ r. Enters m old r (record { inside = Some (held_of bytes p); pending = None; around = [] })) (sym is)
+    (subst (λ x. Enters m old (record m { start = n.start; is_ready = n.is_ready })
+    (record { inside = Some (held_of x p); pending = None; around = [] })) (sym more) whole)
+
+-- ---- the level that was opened last
+
+-- where it is open, all that is held is with it
+pub opened-by : (m : Mark) (p : Place) (h : Held) (inside pending : Option Held) → pending_at p h ≡ pending
+    → IsOpen m inside pending → (pending ≡ Some h) × (IsMark m h × (inside ≡ outside m h))
+opened-by m place.Member h inside pending e k = absurd (subst (IsOpen m inside) (sym e) k)
+opened-by m place.WrappedMember h inside pending e k = absurd (subst (IsOpen m inside) (sym e) k)
+opened-by m place.OpenMember h inside pending e k =
+    let j : IsOpen m inside (Some h) = subst (IsOpen m inside) (sym e) k in (sym e, j)
+opened-by m place.Sink h inside pending e k = absurd (subst (IsOpen m inside) (sym e) k)
+opened-by m place.WrappedSink h inside pending e k = absurd (subst (IsOpen m inside) (sym e) k)
+opened-by m place.OpenSink h inside pending e k =
+    let j : IsOpen m inside (Some h) = subst (IsOpen m inside) (sym e) k in (sym e, j)
+
+-- an open place in which something is held
+open_member : (p : Place) (n f : ℕ) (h i : Held) → is_open p ≡ true → Some i ≡ inside_at p n f h
+    → inside_at p n f h ≡ Some (first n f h)
+open_member place.Member n f h i o e = cc
+open_member place.WrappedMember n f h i o e = cc
+open_member place.OpenMember n f h i o e = refl
+open_member place.Sink n f h i o e = cc
+open_member place.WrappedSink n f h i o e = cc
+open_member place.OpenSink n f h i o e = cc
+
+-- with other bytes from its room on, the same is around it
+module _ (m : Mark) (h : Held) (k : IsMark m h) (bs : List ℕ) where
+  abbrev changed : Held
+  changed = held_of (take m.at h.bytes ++ bs) (take m.first_seam h.seams)
+
+  same_front : first m.at m.first_seam changed ≡ first m.at m.first_seam h
+  same_front =
+      let size : length (take m.at h.bytes) ≡ m.at = length-take-le m.at h.bytes (omega (arith, k.room, within k)) in
+      ap₂ held_of (take-append-le m.at (take m.at h.bytes) bs (omega (arith, size))
+      ∙ take_all m.at (take m.at h.bytes) (omega (arith, size)))
+      (take_all m.first_seam (take m.first_seam h.seams) (omega (arith,
+      length-take-le m.first_seam h.seams k.within_seams)))
+
+  -- where the mark says what stays
+  pub changed_stack : (p : Place) (n f : ℕ) (w : Wrapper) (inside : Option Held) → inside_at p n f h ≡ inside
+      → inside ≡ outside m h → pending_at p h ≡ Some h
+      → ◌≡◌ {A = Stack}
+      (record { inside = inside_at p m.at m.first_seam changed; pending = pending_at p changed; around = around_at p w })
+      (record { inside = inside; pending = Some changed; around = [] })
+  changed_stack place.Member n f w inside e o is = cc
+  changed_stack place.WrappedMember n f w inside e o is = cc
+  changed_stack place.OpenMember n f w inside e o is =
+      let outer : inside_at m.place m.at m.first_seam h ≡ Some (first m.at m.first_seam h) =
+      open_member m.place m.at m.first_seam h (first n f h) k.opened (e ∙ o) in
+      ap (λ i. record { inside = i; pending = Some changed; around = [] }) (ap Some same_front ∙ sym outer ∙ sym o)
+  changed_stack place.Sink n f w inside e o is = cc
+  changed_stack place.WrappedSink n f w inside e o is = cc
+  changed_stack place.OpenSink n f w inside e o is =
+      ap (λ i. record { inside = i; pending = Some changed; around = [] }) e

@@ -1,5 +1,6 @@
 pub mod Alike
 pub mod HeaderBytes
+pub mod LevelEnds
 pub mod LevelMarks
 pub mod Rooms
 pub mod StateWrites

@@ -431,6 +431,8 @@ impl Levels {
             arrange(&mut self.bytes, mark.start, seams, alloc)?;
             self.seams.truncate(mark.first_seam);
         }
+        self.kept = mark.at;
+        self.kept_seams = mark.first_seam;
         put_headers(
             &mut self.bytes,
             mark.at,
