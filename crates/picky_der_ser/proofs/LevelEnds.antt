@@ -1,19 +1,23 @@
 -- A level that ends: its headers come before its content.
 use Rattle.std.proofs.Common.{◌≡◌, ℕ, ◌≤◌, ◌<◌, ◌+◌, ◌-◌, true, false, List, [], ◌∷◌, ◌++◌, length, take, drop, Option}
-use Rattle.std.proofs.Common.{None, Some, refl, sym, ap, ap₂, ◌∙◌, arith, length-append, append_assoc}
+use Rattle.std.proofs.Common.{None, Some, refl, sym, ap, ap₂, ◌∙◌, arith, length-append, append_assoc, Result, Ok, Err}
+use Rattle.std.proofs.Common.{OnOk}
 use Rattle.std.proofs.Math.ListN.{set}
-use Rattle.std.proofs.Math.Seq.{take-add}
+use Rattle.std.proofs.Math.Seq.{take-add, drop-append_seam}
 use Rattle.std.specs.Option.{is_some}
+use Rattle.std.proofs.lemmas.List.{take-take, take-append-le}
 use Rattle.std.proofs.lemmas.List.{take_all, drop_all, length-drop, length-take-le, take-append-drop, take-set, drop-set}
 use Rattle.picky_der_core.specs.declared.asn1.wrapper.Wrapper.{Wrapper}
 use Rattle.picky_der_core.specs.Encoding.{der}
 use Rattle.picky_der_core.specs.OpenWrappers.{under}
 use Rattle.picky_der_ser.specs.declared.levels.Mark.{Mark}
+use Rattle.picky_der_ser.specs.declared.levels.Place.{Place}
 use Rattle.picky_der_ser.specs.Headers.{tree_of, wrappers, keeps_headers, own_tag, headed, wrapped_in}
-use Rattle.picky_der_ser.specs.State.{Held, final_content}
-use Rattle.picky_der_ser.specs.Marks.{level_at, held_of, tags, HasTag, IsMark, enclosed}
+use Rattle.picky_der_ser.specs.State.{Held, Stack, final_content}
+use Rattle.picky_der_ser.specs.Marks.{level_at, held_of, inside_at, pending_at, around_at, outside, tags, HasTag, IsMark}
+use Rattle.picky_der_ser.specs.Marks.{enclosed}
 use Rattle.picky_der_ser.proofs.HeaderBytes.{der-headed, tlv-short}
-use Rattle.picky_der_ser.proofs.LevelMarks.{within}
+use Rattle.picky_der_ser.proofs.LevelMarks.{within, changed_stack}
 use Rattle.picky_der_ser.proofs.ListBytes.{final_content-uncut}
 
 headed_short : (o : Option ℕ) (c s : List ℕ) → tags o ≡ take 1 s → 1 ≤ length s → length c < 0x80
@@ -85,3 +89,40 @@ module _ (m : Mark) (b q : List ℕ) (k : IsMark m (held_of b q)) (tagged : m.ha
       ∙ append_assoc (take m.at b) (take 1 (drop m.at b)) (length content ∷ content)
       ∙ ap (λ x. take m.at b ++ x) (sym whole_is) in
       ap₂ held_of bytes (sym (take_all m.first_seam q uncut))
+
+-- Any level, whose content is in order.
+pub ok_then : {A E P Q : Type 0} (r : Result A E) → (P → Q) → OnOk r P → OnOk r Q
+ok_then (Ok v) f h = f h
+ok_then (Err e) f h = tt
+
+-- with its content in place of what is there
+pub arranged_bytes : (m : Mark) (h : Held) (a c : List ℕ) → IsMark m h → a ≡ take m.start h.bytes ++ c
+    → (take m.at a ≡ take m.at h.bytes) × (drop m.start a ≡ c)
+arranged_bytes m h a c k e =
+    let size : length (take m.start h.bytes) ≡ m.start = length-take-le m.start h.bytes (within k) in (
+      ap (take m.at) e ∙ take-append-le m.at (take m.start h.bytes) c (omega (arith, size, k.room))
+      ∙ take-take m.at m.start h.bytes k.room,
+      ap (drop m.start) e ∙ ap (λ n. drop n (take m.start h.bytes ++ c)) (sym size)
+      ∙ drop-append_seam (take m.start h.bytes) c,
+    )
+
+pub enclosed_stack : (m : Mark) (h : Held) (a u s : List ℕ) (p r : Place) (n f : ℕ) (w : Wrapper) (inside : Option Held)
+    → IsMark m h → (take m.at a ≡ take m.at h.bytes) × (drop m.start a ≡ final_content (level_at m h))
+    → u ≡ take m.at a ++ der (under (wrappers m.around) (tree_of m.header (drop m.start a)))
+    → s ≡ take m.first_seam h.seams → r ≡ p → inside_at p n f h ≡ inside → inside ≡ outside m h
+    → pending_at p h ≡ Some h
+    → ◌≡◌ {A = Stack}
+    (record {
+      inside = inside_at r m.at m.first_seam (held_of u s);
+      pending = pending_at r (held_of u s);
+      around = around_at r w;
+    })
+    (record { inside = inside; pending = Some (enclosed m h); around = [] })
+enclosed_stack m h a u s p r n f w inside k parts bytes seams place was outer open =
+    let whole : u ≡ (enclosed m h).bytes =
+    bytes ∙ ap₂ (λ x y. x ++ der (under (wrappers m.around) (tree_of m.header y))) parts.0 parts.1 in
+    let same : held_of u s ≡ enclosed m h = ap₂ held_of whole seams in
+    ap₂ (λ v x. record { inside = inside_at v m.at m.first_seam x; pending = pending_at v x; around = around_at v w })
+    place same
+    ∙ changed_stack m h k (der (under (wrappers m.around) (tree_of m.header (final_content (level_at m h))))) p n f w
+    inside was outer open

@@ -26,7 +26,7 @@ use Rattle.picky_der_ser.proofs.ListBytes.{length-next_seams}
 -- ---- more bytes after those that are held
 
 -- where the content begins
-within : {m : Mark} {h : Held} → IsMark m h → m.start ≤ length h.bytes
+pub within : {m : Mark} {h : Held} → IsMark m h → m.start ≤ length h.bytes
 within {m} {h} k = omega (arith, k.within)
 
 tag-more : {m : Mark} {h : Held} (bs : List ℕ) → m.start ≤ length h.bytes → HasTag m h → HasTag m (extended h bs)
@@ -354,8 +354,11 @@ opened-by m place.WrappedSink h inside pending e k = absurd (subst (IsOpen m ins
 opened-by m place.OpenSink h inside pending e k =
     let j : IsOpen m inside (Some h) = subst (IsOpen m inside) (sym e) k in (sym e, j)
 
+pub held_is : {h i : Held} → Some h ≡ Some i → h ≡ i
+held_is e = cc
+
 -- an open place in which something is held
-open_member : (p : Place) (n f : ℕ) (h i : Held) → is_open p ≡ true → Some i ≡ inside_at p n f h
+pub open_member : (p : Place) (n f : ℕ) (h i : Held) → is_open p ≡ true → Some i ≡ inside_at p n f h
     → inside_at p n f h ≡ Some (first n f h)
 open_member place.Member n f h i o e = cc
 open_member place.WrappedMember n f h i o e = cc
