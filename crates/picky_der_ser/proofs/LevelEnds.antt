@@ -17,13 +17,13 @@ use Rattle.picky_der_ser.specs.State.{Held, Stack, final_content}
 use Rattle.picky_der_ser.specs.Marks.{level_at, held_of, inside_at, pending_at, around_at, outside, tags, HasTag, IsMark}
 use Rattle.picky_der_ser.specs.Marks.{enclosed}
 use Rattle.picky_der_ser.proofs.HeaderBytes.{der-headed, tlv-short}
-use Rattle.picky_der_ser.proofs.LevelMarks.{within, changed_stack}
+use Rattle.picky_der_ser.proofs.LevelMarks.{within, changed_stack, stack_of}
 use Rattle.picky_der_ser.proofs.ListBytes.{final_content-uncut}
 
 headed_short : (o : Option ℕ) (c s : List ℕ) → tags o ≡ take 1 s → 1 ≤ length s → length c < 0x80
     → headed o c ≡ take 1 s ++ (length c ∷ c)
 headed_short None c [] e some short = absurd (omega arith)
-headed_short None c (x ∷ s) e some short = cc
+headed_short None c (x ∷ s) e some short = absurd (cc)
 headed_short (Some tag) c [] e some short = absurd (omega arith)
 headed_short (Some tag) c (x ∷ s) e some short =
     let same : tag ∷ [] ≡ x ∷ [] = e in
@@ -31,11 +31,11 @@ headed_short (Some tag) c (x ∷ s) e some short =
 
 bare_short : (o : Option Wrapper) (bs : List ℕ) → is_some o ≡ false → wrapped_in o bs ≡ bs
 bare_short None bs e = refl
-bare_short (Some w) bs e = cc
+bare_short (Some w) bs e = absurd (cc)
 
 bare_keeps : (o : Option Wrapper) → is_some o ≡ false → keeps_headers o ≡ true
 bare_keeps None e = refl
-bare_keeps (Some w) e = cc
+bare_keeps (Some w) e = absurd (cc)
 
 -- A short level without seams whose tag is already there.
 module _ (m : Mark) (b q : List ℕ) (k : IsMark m (held_of b q)) (tagged : m.has_tag ≡ true)
@@ -82,8 +82,8 @@ module _ (m : Mark) (b q : List ℕ) (k : IsMark m (held_of b q)) (tagged : m.ha
       let set_is : set b i n ≡ take i b ++ (n ∷ drop (i + 1) b) =
       sym (take-append-drop i (set b i n)) ∙ ap₂ (λ x y. x ++ y) (take-set b i n)
       (drop-set b i n (omega (arith, room, fits))) in
-      let back : n ∷ drop (i + 1) b ≡ length content ∷ content =
-      ap₂ (λ x y. x ∷ drop y b) (sym size) (omega (arith, room)) in
+      let next : i + 1 ≡ m.start = omega (arith, room) in
+      let back : n ∷ drop (i + 1) b ≡ length content ∷ content = ap₂ (λ x y. x ∷ drop y b) (sym size) next in
       let bytes : set b i n ≡ take m.at b ++ whole =
       set_is ∙ ap₂ (λ x y. x ++ y) front back
       ∙ append_assoc (take m.at b) (take 1 (drop m.at b)) (length content ∷ content)
@@ -101,9 +101,9 @@ pub arranged_bytes : (m : Mark) (h : Held) (a c : List ℕ) → IsMark m h → a
 arranged_bytes m h a c k e =
     let size : length (take m.start h.bytes) ≡ m.start = length-take-le m.start h.bytes (within k) in (
       ap (take m.at) e ∙ take-append-le m.at (take m.start h.bytes) c (omega (arith, size, k.room))
-      ∙ take-take m.at m.start h.bytes k.room,
+          ∙ take-take m.at m.start h.bytes k.room,
       ap (drop m.start) e ∙ ap (λ n. drop n (take m.start h.bytes ++ c)) (sym size)
-      ∙ drop-append_seam (take m.start h.bytes) c,
+          ∙ drop-append_seam (take m.start h.bytes) c,
     )
 
 pub enclosed_stack : (m : Mark) (h : Held) (a u s : List ℕ) (p r : Place) (n f : ℕ) (w : Wrapper) (inside : Option Held)
@@ -118,11 +118,10 @@ pub enclosed_stack : (m : Mark) (h : Held) (a u s : List ℕ) (p r : Place) (n f
       around = around_at r w;
     })
     (record { inside = inside; pending = Some (enclosed m h); around = [] })
-enclosed_stack m h a u s p r n f w inside k parts bytes seams place was outer open =
+enclosed_stack m h a u s p r n f w inside k parts bytes seams place was outer opened =
     let whole : u ≡ (enclosed m h).bytes =
     bytes ∙ ap₂ (λ x y. x ++ der (under (wrappers m.around) (tree_of m.header y))) parts.0 parts.1 in
     let same : held_of u s ≡ enclosed m h = ap₂ held_of whole seams in
-    ap₂ (λ v x. record { inside = inside_at v m.at m.first_seam x; pending = pending_at v x; around = around_at v w })
-    place same
+    ap₂ (λ v x. stack_of (inside_at v m.at m.first_seam x) (pending_at v x) (around_at v w)) place same
     ∙ changed_stack m h k (der (under (wrappers m.around) (tree_of m.header (final_content (level_at m h))))) p n f w
-    inside was outer open
+    inside was outer opened

@@ -2,6 +2,7 @@
 use Rattle.std.proofs.Common.{not, ◌≡◌, ◌≢◌, ℕ, ◌≤◌, ◌<◌, ◌+◌, ◌-◌, Bool, true, false, List, [], ◌∷◌, ◌++◌, length, take}
 use Rattle.std.proofs.Common.{drop, Option, None, Some, refl, sym, ap, ap₂, ◌∙◌, arith, subst, length-append, ◌⊎◌, inl, inr}
 use Rattle.std.proofs.Math.Seq.{take-append_seam}
+use Rattle.std.proofs.lemmas.Bool.{false≢true}
 use Rattle.std.specs.Prelude.{if◌then◌else◌}
 use Rattle.std.proofs.lemmas.List.{take-append-le, drop-append-le, take_all, drop_all, length-drop, append-nil}
 use Rattle.std.proofs.lemmas.List.{length-take-le}
@@ -10,6 +11,7 @@ use Rattle.picky_der_core.specs.Tree.{Tree}
 use Rattle.picky_der_core.specs.Encoding.{der}
 use Rattle.picky_der_core.specs.OpenWrappers.{under}
 use Rattle.picky_der_core.specs.declared.misc.writer.WriteExt.{Ghosts}
+use Rattle.picky_der_ser.specs.declared.header.Header.{Header}
 use Rattle.picky_der_ser.specs.declared.levels.Mark.{Mark}
 use Rattle.picky_der_ser.specs.declared.levels.Place.{Place}
 use Rattle.picky_der_ser.specs.declared.levels.Place.TheVariants as place
@@ -124,6 +126,12 @@ module _ {W : Type 0} (g : Ghosts W) where
       left (extended h bs) adds.0 in
       subst (λ (k : Stack). IsOpen n k.inside k.pending) (sym last) (mark-more bs e.entered.mark, refl)
 
+abbrev empty_level : Header → List Wrapper → Level
+empty_level header around = record { header = header; around = around; content = []; seams = [] }
+
+abbrev pub stack_of : Option Held → Option Held → List Wrapper → Stack
+stack_of inside pending around = record { inside = inside; pending = pending; around = around }
+
 -- ---- a level that is opened
 
 -- nothing or these bytes were added
@@ -171,7 +179,7 @@ inside-whole : (p : Place) (n f : ℕ) (h : Held) → pending_at p h ≡ None
     → (inside_at p n f h ≡ None) ⊎ (inside_at p n f h ≡ Some h)
 inside-whole place.Member n f h e = inr refl
 inside-whole place.WrappedMember n f h e = inr refl
-inside-whole place.OpenMember n f h e = cc
+inside-whole place.OpenMember n f h e = absurd (cc)
 inside-whole place.Sink n f h e = inl refl
 inside-whole place.WrappedSink n f h e = inl refl
 inside-whole place.OpenSink n f h e = inl refl
@@ -179,16 +187,16 @@ inside-whole place.OpenSink n f h e = inl refl
 -- there is nothing around what is there, whatever it is
 pub inside-none : (p r : Place) (n f n' f' : ℕ) (h h' : Held) → r ≡ p → inside_at p n f h ≡ None
     → inside_at r n' f' h' ≡ None
-inside-none place.Member r n f n' f' h h' e x = cc
-inside-none place.WrappedMember r n f n' f' h h' e x = cc
-inside-none place.OpenMember r n f n' f' h h' e x = cc
+inside-none place.Member r n f n' f' h h' e x = absurd (cc)
+inside-none place.WrappedMember r n f n' f' h h' e x = absurd (cc)
+inside-none place.OpenMember r n f n' f' h h' e x = absurd (cc)
 inside-none place.Sink r n f n' f' h h' e x = ap (λ s. inside_at s n' f' h') e
 inside-none place.WrappedSink r n f n' f' h h' e x = ap (λ s. inside_at s n' f' h') e
 inside-none place.OpenSink r n f n' f' h h' e x = ap (λ s. inside_at s n' f' h') e
 
 -- what is ready isn't a set
 pub unset : (b s r : Bool) → b ≡ s → r ≡ not b → r ≡ true → s ≡ false
-unset true s r e is ready = cc
+unset true s r e is ready = absurd (false≢true (sym is ∙ ready))
 unset false s r e is ready = sym e
 
 -- in place of none
@@ -210,16 +218,16 @@ module _ (m : Mark) (old : Stack) (p : Place) (n f : ℕ) (w : Wrapper) (b q pad
     around = around_at m.place w;
   }
 
-  opens_by : is_open m.place ≡ true → opened_stack ≡ record { inside = old.inside; pending = Some opened_held; around = [] }
+  opens_by : is_open m.place ≡ true → opened_stack ≡ stack_of old.inside (Some opened_held) []
       → old.inside ≡ outside m opened_held → Opens m.header old m opened_stack
   opens_by is stacked outer = record {
     held = opened_held;
     is = stacked;
     outer = outer;
     mark = subst (λ x. IsMark m (held_of x q)) (sym more) (fresh_mark m b q pad at wide seams is numbers number ready
-        (λ e. cc));
+        (λ e. absurd (false≢true (sym untagged ∙ e))));
     level = ap (λ x. level_at m (held_of x q)) more ∙ fresh_level m b q pad at wide seams
-        ∙ ap (λ ws. record { header = m.header; around = ws; content = []; seams = [] }) around;
+        ∙ ap (empty_level m.header) around;
   }
 
   pub opens_member : old.inside ≢ None → m.place ≡ place.OpenMember → Opens m.header old m opened_stack
@@ -230,13 +238,19 @@ module _ (m : Mark) (old : Stack) (p : Place) (n f : ℕ) (w : Wrapper) (b q pad
       elim (inside-whole p n f (held_of b q) none) [ inl x ↦ absurd (some (was ∙ x)) | inr x ↦ was ∙ x ] in
       let outer : old.inside ≡ outside m opened_held =
       inside ∙ sym (ap Some front) ∙ ap (λ k. inside_at k m.at m.first_seam opened_held) (sym e) in
-      opens_by (ap is_open e) (rw (e, front, inside) refl) outer
+      let stacked : opened_stack ≡ stack_of old.inside (Some opened_held) [] =
+      ap (λ v. stack_of (inside_at v m.at m.first_seam opened_held) (pending_at v opened_held) (around_at v w)) e
+      ∙ ap (λ i. stack_of i (Some opened_held) []) (ap Some front ∙ sym inside) in
+      opens_by (ap is_open e) stacked outer
 
   pub opens_outside : old.inside ≡ None → m.place ≡ place.OpenSink → Opens m.header old m opened_stack
   opens_outside empty e =
       let outer : old.inside ≡ outside m opened_held =
       empty ∙ ap (λ k. inside_at k m.at m.first_seam opened_held) (sym e) in
-      opens_by (ap is_open e) (rw (e, empty) refl) outer
+      let stacked : opened_stack ≡ stack_of old.inside (Some opened_held) [] =
+      ap (λ v. stack_of (inside_at v m.at m.first_seam opened_held) (pending_at v opened_held) (around_at v w)) e
+      ∙ ap (λ i. stack_of i (Some opened_held) []) (sym empty) in
+      opens_by (ap is_open e) stacked outer
 
 -- ---- another member
 
@@ -360,12 +374,12 @@ held_is e = cc
 -- an open place in which something is held
 pub open_member : (p : Place) (n f : ℕ) (h i : Held) → is_open p ≡ true → Some i ≡ inside_at p n f h
     → inside_at p n f h ≡ Some (first n f h)
-open_member place.Member n f h i o e = cc
-open_member place.WrappedMember n f h i o e = cc
+open_member place.Member n f h i o e = absurd (cc)
+open_member place.WrappedMember n f h i o e = absurd (cc)
 open_member place.OpenMember n f h i o e = refl
-open_member place.Sink n f h i o e = cc
-open_member place.WrappedSink n f h i o e = cc
-open_member place.OpenSink n f h i o e = cc
+open_member place.Sink n f h i o e = absurd (cc)
+open_member place.WrappedSink n f h i o e = absurd (cc)
+open_member place.OpenSink n f h i o e = absurd (cc)
 
 -- with other bytes from its room on, the same is around it
 module _ (m : Mark) (h : Held) (k : IsMark m h) (bs : List ℕ) where
@@ -377,8 +391,10 @@ module _ (m : Mark) (h : Held) (k : IsMark m h) (bs : List ℕ) where
       let size : length (take m.at h.bytes) ≡ m.at = length-take-le m.at h.bytes (omega (arith, k.room, within k)) in
       ap₂ held_of (take-append-le m.at (take m.at h.bytes) bs (omega (arith, size))
       ∙ take_all m.at (take m.at h.bytes) (omega (arith, size)))
-      (take_all m.first_seam (take m.first_seam h.seams) (omega (arith,
-      length-take-le m.first_seam h.seams k.within_seams)))
+      (take_all m.first_seam (take m.first_seam h.seams) (omega (
+        arith,
+        length-take-le m.first_seam h.seams k.within_seams,
+      )))
 
   -- where the mark says what stays
   pub changed_stack : (p : Place) (n f : ℕ) (w : Wrapper) (inside : Option Held) → inside_at p n f h ≡ inside
@@ -386,13 +402,13 @@ module _ (m : Mark) (h : Held) (k : IsMark m h) (bs : List ℕ) where
       → ◌≡◌ {A = Stack}
       (record { inside = inside_at p m.at m.first_seam changed; pending = pending_at p changed; around = around_at p w })
       (record { inside = inside; pending = Some changed; around = [] })
-  changed_stack place.Member n f w inside e o is = cc
-  changed_stack place.WrappedMember n f w inside e o is = cc
+  changed_stack place.Member n f w inside e o is = absurd (cc)
+  changed_stack place.WrappedMember n f w inside e o is = absurd (cc)
   changed_stack place.OpenMember n f w inside e o is =
       let outer : inside_at m.place m.at m.first_seam h ≡ Some (first m.at m.first_seam h) =
       open_member m.place m.at m.first_seam h (first n f h) k.opened (e ∙ o) in
-      ap (λ i. record { inside = i; pending = Some changed; around = [] }) (ap Some same_front ∙ sym outer ∙ sym o)
-  changed_stack place.Sink n f w inside e o is = cc
-  changed_stack place.WrappedSink n f w inside e o is = cc
+      ap (λ i. stack_of i (Some changed) []) (ap Some same_front ∙ sym outer ∙ sym o)
+  changed_stack place.Sink n f w inside e o is = absurd (cc)
+  changed_stack place.WrappedSink n f w inside e o is = absurd (cc)
   changed_stack place.OpenSink n f w inside e o is =
-      ap (λ i. record { inside = i; pending = Some changed; around = [] }) e
+      ap (λ i. stack_of i (Some changed) []) e

@@ -45,11 +45,11 @@ enclosed_rest m h k =
 
 -- what an open place outside levels has around it
 in_sink : (p : Place) (n f : ℕ) (h : Held) → is_open p ≡ true → (p ≡ place.OpenMember → ⊥) → inside_at p n f h ≡ None
-in_sink place.Member n f h o away = cc
-in_sink place.WrappedMember n f h o away = cc
+in_sink place.Member n f h o away = absurd (cc)
+in_sink place.WrappedMember n f h o away = absurd (cc)
 in_sink place.OpenMember n f h o away = absurd (away refl)
-in_sink place.Sink n f h o away = cc
-in_sink place.WrappedSink n f h o away = cc
+in_sink place.Sink n f h o away = absurd (cc)
+in_sink place.WrappedSink n f h o away = absurd (cc)
 in_sink place.OpenSink n f h o away = refl
 
 -- and one in a level
@@ -80,7 +80,9 @@ module _ {W : Type 0} (g : Ghosts W) where
       → new.sink ≡ old.sink → new.failed ≡ old.failed → OpensLevel g header old (writing m new)
   level_opened header m old new o same still =
       let inside : new.inside ≡ old.inside = ap (λ (s : Stack). s.inside) o.is in
-      let level = ap (level_in m) (ap (λ (s : Stack). s.pending) o.is) ∙ o.level in
+      let level : level_in m new.pending
+      ≡ record { header = header; around = old.around; content = []; seams = [] } =
+      ap (level_in m) (ap (λ (s : Stack). s.pending) o.is) ∙ o.level in
       record { opened = rw (same, still, inside, level) refl }
 
   pub level_open : (header : Header) (m : Mark) (old new : State W) → Opens header (stack old) m (stack new)
@@ -114,8 +116,8 @@ module _ {W : Type 0} (g : Ghosts W) where
       → old.pending ≡ Some h → IsOpen m old.inside old.pending → old.inside ≢ None → n ≡ length (encoding_at m h)
       → stack new ≡ record { inside = Some (enclosed m h); pending = None; around = [] } → new.sink ≡ old.sink
       → new.failed ≡ old.failed → g.later old.sink old.sink → EndsLevel g (writing m old) (Ok n) new
-  ended_inside m h old new n small f was open some count is same still later =
-      let k : IsMark m h × (old.inside ≡ outside m h) = subst (IsOpen m old.inside) was open in
+  ended_inside m h old new n small f was opened some count is same still later =
+      let k : IsMark m h × (old.inside ≡ outside m h) = subst (IsOpen m old.inside) was opened in
       let w = level_writing m old h in
       let added : (i : Held) → old.inside ≡ Some i → new.inside ≡ Some (extended i (encoding_at m h)) =
       λ i e. added_to i (sym (sym e ∙ k.1 ∙ open_member m.place m.at m.first_seam h i k.0.opened (sym e ∙ k.1))) in
@@ -137,9 +139,9 @@ module _ {W : Type 0} (g : Ghosts W) where
       → IfOk r (λ n. n ≡ length bs) → OnOk r (Appends (g.written old.sink) (g.written mid) bs)
       → OnErr r (AppendsTooFew (g.written old.sink) (g.written mid) bs) → IfErr r (λ e. WriterFails g old.sink e mid)
       → OnOk r (g.faults mid ≡ g.faults old.sink) → g.later old.sink mid → EndsLevel g (writing m old) s new
-  ended_outside m h old new mid bs r s f was open away is fits same sink inside done failed count appends begins fault
+  ended_outside m h old new mid bs r s f was opened away is fits same sink inside done failed count appends begins fault
   no_fault later =
-      let k : IsMark m h × (old.inside ≡ outside m h) = subst (IsOpen m old.inside) was open in
+      let k : IsMark m h × (old.inside ≡ outside m h) = subst (IsOpen m old.inside) was opened in
       let w = level_writing m old h in
       let c = final_content (level_at m h) in
       let u = under (wrappers m.around) (tree_of m.header c) in

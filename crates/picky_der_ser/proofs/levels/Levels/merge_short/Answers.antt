@@ -5,7 +5,7 @@ use Rattle.picky_der_core.specs.OpenWrappers.{under}
 use Rattle.picky_der_ser.specs.Headers.{tree_of, wrappers}
 use Rattle.picky_der_ser.specs.State.{Stack, Held, final_content}
 use Rattle.picky_der_ser.specs.Marks.{level_at, held_of, enclosed}
-use Rattle.picky_der_ser.proofs.LevelMarks.{held_is, opened-by}
+use Rattle.picky_der_ser.proofs.LevelMarks.{held_is, opened-by, stack_of}
 use Rattle.picky_der_ser.proofs.LevelEnds.{short_count, short_enclosed}
 use Rattle.picky_der_ser.proofs.levels.Levels.merge_short.Goals as goal
 
@@ -36,6 +36,6 @@ returns-clause-some c = λ h e.
     let uncut : length q ≤ m.first_seam = omega arith in
     let short : length b - m.start < 0x80 = omega arith in
     let len : c.len.result ≡ length b = omega arith in
-    ap (λ x. record { inside = Some x; pending = None; around = [] })
+    ap (λ x. stack_of (Some x) None [])
     (ap (λ n. held_of (set b (m.at + 1) (n - m.start)) q) len ∙ short_enclosed m b q k.1.0 tagged uncut short
     ∙ ap (enclosed m) is)
