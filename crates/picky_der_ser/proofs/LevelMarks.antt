@@ -20,7 +20,8 @@ use Rattle.picky_der_ser.specs.Seams.{AreSeams, last_seam, next_seams}
 use Rattle.picky_der_ser.specs.State.{Level, Held, Stack, State, extended, stack, with_bytes, with_member}
 use Rattle.picky_der_ser.specs.State.{at_next_member}
 use Rattle.picky_der_ser.specs.Marks.{level_at, level_in, held_of, first, inside_at, pending_at, around_at, is_open}
-use Rattle.picky_der_ser.specs.Marks.{outside, HasTag, IsMark, IsOpen, Opens, Enters, writing}
+use Rattle.picky_der_ser.specs.Marks.{outside, HasTag, IsMark, IsOpen, IsEntered, Opens, Enters}
+use Rattle.picky_der_ser.specs.Marks.{writing}
 use Rattle.picky_der_ser.specs.Calls.{Writes, AddsIn, AddsMember, EntersLevel}
 use Rattle.picky_der_ser.proofs.ListBytes.{seams-next, last_seam-next, drop-next_seams, take-next_seams}
 use Rattle.picky_der_ser.proofs.ListBytes.{length-next_seams}
@@ -107,6 +108,17 @@ module _ {W : Type 0} (g : Ghosts W) where
         writable = w.writable;
         added = rw (same, not, outer, level) refl;
       }
+
+  -- before it is left, its mark says what is held
+  pub member_entered : (m n : Mark) (t : Tree) (old s v : State W) (ws : List Wrapper) (count : ℕ)
+      → EntersLevel g m old n s → Writes g t (record s { around = ws; pending = None }) count v → IsEntered n v.inside
+  member_entered m n t old s v ws count e w =
+      let h = e.entered.held in
+      let bs = der (under ws t) in
+      let inside : s.inside ≡ Some h = ap (λ (k : Stack). k.inside) e.entered.is in
+      let adds : AddsIn g (Some h) v.inside s.sink v.sink bs =
+      subst (λ k. AddsIn g k v.inside s.sink v.sink bs) inside w.adds in
+      subst (IsEntered n) (sym adds.0) (mark-more bs e.entered.mark)
 
   -- so the level of the mark is open
   pub member_open : (m n : Mark) (t : Tree) (old s v new : State W) (ws : List Wrapper) (count : ℕ)
