@@ -1,5 +1,6 @@
 -- What a serializer does with a level, seen from its state.
-use Rattle.std.proofs.Common.{◌≡◌, ◌≢◌, ℕ, ◌<◌, ◌^◌, ◌≤◌, ◌+◌, true, List, [], ◌++◌, length, take, drop, Option, None, Some}
+use Rattle.std.proofs.Common.{◌≡◌, ◌≢◌, ℕ, ◌<◌, ◌^◌, ◌≤◌, ◌+◌, true, List, [], ◌++◌, length, take, drop, Option, None}
+use Rattle.std.proofs.Common.{Some}
 use Rattle.std.proofs.Common.{refl, sym, ap, ◌∙◌, arith, subst, Result, Ok, Err, IfOk, OnOk, IfErr, OnErr}
 use Rattle.std.specs.Prelude.{IfSome, IfNone}
 use Rattle.std.specs.Io.KnownBytes.{Appends}
@@ -74,6 +75,15 @@ pub open_unless : (m : Mark) (failed : Option Failure) (inside pending : Option 
     → HasOpenLevel m failed inside pending
 open_unless m None inside pending k = k
 open_unless m (Some f) inside pending k = tt
+
+pub open_if : (m : Mark) (failed : Option Failure) (inside pending : Option Held) → failed ≡ None
+    → HasOpenLevel m failed inside pending → IsOpen m inside pending
+open_if m failed inside pending f k = subst (λ o. HasOpenLevel m o inside pending) f k
+
+-- something is held with it
+pub open_held : (m : Mark) (inside pending : Option Held) → IsOpen m inside pending → (h : Held) × (pending ≡ Some h)
+open_held m inside None k = absurd k
+open_held m inside (Some h) k = (h, refl)
 
 module _ {W : Type 0} (g : Ghosts W) where
   pub level_opened : (header : Header) (m : Mark) (old new : State W) → Opens header (stack old) m (stack new)
