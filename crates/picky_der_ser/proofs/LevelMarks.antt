@@ -1,13 +1,17 @@
 -- A level while more bytes come.
-use Rattle.std.proofs.Common.{◌≡◌, ◌≢◌, ℕ, ◌≤◌, ◌<◌, ◌+◌, ◌-◌, Bool, true, false, List, [], ◌∷◌, ◌++◌, length, take}
-use Rattle.std.proofs.Common.{drop, Option, None, Some, refl, sym, ap, ap₂, ◌∙◌, arith, subst, length-append}
+use Rattle.std.proofs.Common.{not, ◌≡◌, ◌≢◌, ℕ, ◌≤◌, ◌<◌, ◌+◌, ◌-◌, Bool, true, false, List, [], ◌∷◌, ◌++◌, length, take}
+use Rattle.std.proofs.Common.{drop, Option, None, Some, refl, sym, ap, ap₂, ◌∙◌, arith, subst, length-append, ◌⊎◌, inl, inr}
 use Rattle.std.proofs.Math.Seq.{take-append_seam}
-use Rattle.std.proofs.lemmas.List.{take-append-le, drop-append-le, take_all, drop_all, length-drop}
+use Rattle.std.proofs.lemmas.Bool.{false≢true}
+use Rattle.std.specs.Prelude.{if◌then◌else◌}
+use Rattle.std.proofs.lemmas.List.{take-append-le, drop-append-le, take_all, drop_all, length-drop, append-nil}
+use Rattle.std.proofs.lemmas.List.{length-take-le}
 use Rattle.picky_der_core.specs.declared.asn1.wrapper.Wrapper.{Wrapper}
 use Rattle.picky_der_core.specs.Tree.{Tree}
 use Rattle.picky_der_core.specs.Encoding.{der}
 use Rattle.picky_der_core.specs.OpenWrappers.{under}
 use Rattle.picky_der_core.specs.declared.misc.writer.WriteExt.{Ghosts}
+use Rattle.picky_der_ser.specs.declared.header.Header.{Header}
 use Rattle.picky_der_ser.specs.declared.levels.Mark.{Mark}
 use Rattle.picky_der_ser.specs.declared.levels.Place.{Place}
 use Rattle.picky_der_ser.specs.declared.levels.Place.TheVariants as place
@@ -15,8 +19,9 @@ use Rattle.picky_der_ser.specs.Headers.{wrappers, is_set, HasNumber, CanAllBeOpe
 use Rattle.picky_der_ser.specs.Seams.{AreSeams, last_seam, next_seams}
 use Rattle.picky_der_ser.specs.State.{Level, Held, Stack, State, extended, stack, with_bytes, with_member}
 use Rattle.picky_der_ser.specs.State.{at_next_member}
-use Rattle.picky_der_ser.specs.Marks.{level_at, level_in, held_of, first, inside_at, is_open, outside, HasTag, IsMark}
-use Rattle.picky_der_ser.specs.Marks.{IsOpen, writing}
+use Rattle.picky_der_ser.specs.Marks.{level_at, level_in, held_of, first, inside_at, pending_at, around_at, is_open}
+use Rattle.picky_der_ser.specs.Marks.{outside, HasTag, IsMark, IsOpen, IsEntered, Opens, Enters}
+use Rattle.picky_der_ser.specs.Marks.{writing}
 use Rattle.picky_der_ser.specs.Calls.{Writes, AddsIn, AddsMember, EntersLevel}
 use Rattle.picky_der_ser.proofs.ListBytes.{seams-next, last_seam-next, drop-next_seams, take-next_seams}
 use Rattle.picky_der_ser.proofs.ListBytes.{length-next_seams}
@@ -24,13 +29,13 @@ use Rattle.picky_der_ser.proofs.ListBytes.{length-next_seams}
 -- ---- more bytes after those that are held
 
 -- where the content begins
-within : {m : Mark} {h : Held} → IsMark m h → m.start ≤ length h.bytes
+pub within : {m : Mark} {h : Held} → IsMark m h → m.start ≤ length h.bytes
 within {m} {h} k = omega (arith, k.within)
 
 tag-more : {m : Mark} {h : Held} (bs : List ℕ) → m.start ≤ length h.bytes → HasTag m h → HasTag m (extended h bs)
 tag-more {m} {h} bs fits k =
     let before : m.at ≤ length h.bytes = omega (arith, fits, k.room) in
-    let two : 1 ≤ length (drop m.at h.bytes) = omega (arith, fits, k.room) in
+    let two : 1 ≤ length (drop m.at h.bytes) = omega (arith, fits, k.room, length-drop m.at h.bytes) in
     record {
       inside = k.inside;
       bare = k.bare;
@@ -104,6 +109,17 @@ module _ {W : Type 0} (g : Ghosts W) where
         added = rw (same, not, outer, level) refl;
       }
 
+  -- before it is left, its mark says what is held
+  pub member_entered : (m n : Mark) (t : Tree) (old s v : State W) (ws : List Wrapper) (count : ℕ)
+      → EntersLevel g m old n s → Writes g t (record s { around = ws; pending = None }) count v → IsEntered n v.inside
+  member_entered m n t old s v ws count e w =
+      let h = e.entered.held in
+      let bs = der (under ws t) in
+      let inside : s.inside ≡ Some h = ap (λ (k : Stack). k.inside) e.entered.is in
+      let adds : AddsIn g (Some h) v.inside s.sink v.sink bs =
+      subst (λ k. AddsIn g k v.inside s.sink v.sink bs) inside w.adds in
+      subst (IsEntered n) (sym adds.0) (mark-more bs e.entered.mark)
+
   -- so the level of the mark is open
   pub member_open : (m n : Mark) (t : Tree) (old s v new : State W) (ws : List Wrapper) (count : ℕ)
       → EntersLevel g m old n s
@@ -122,7 +138,18 @@ module _ {W : Type 0} (g : Ghosts W) where
       left (extended h bs) adds.0 in
       subst (λ (k : Stack). IsOpen n k.inside k.pending) (sym last) (mark-more bs e.entered.mark, refl)
 
+abbrev empty_level : Header → List Wrapper → Level
+empty_level header around = record { header = header; around = around; content = []; seams = [] }
+
+abbrev pub stack_of : Option Held → Option Held → List Wrapper → Stack
+stack_of inside pending around = record { inside = inside; pending = pending; around = around }
+
 -- ---- a level that is opened
+
+-- nothing or these bytes were added
+pub grown : (ok : Bool) (s t pad : List ℕ) → t ≡ (if ok then s ++ pad else s) → (x : List ℕ) × (t ≡ s ++ x)
+grown true s t pad e = (pad, e)
+grown false s t pad e = ([], e ∙ sym (append-nil s))
 
 module _ (m : Mark) (b q pad : List ℕ) (at : m.at ≡ length b) (start : m.start ≡ length b + length pad)
     (seams : m.first_seam ≡ length q) where
@@ -160,6 +187,83 @@ module _ (m : Mark) (b q pad : List ℕ) (at : m.at ≡ length b) (start : m.sta
     has_tag = tag;
   }
 
+inside-whole : (p : Place) (n f : ℕ) (h : Held) → pending_at p h ≡ None
+    → (inside_at p n f h ≡ None) ⊎ (inside_at p n f h ≡ Some h)
+inside-whole place.Member n f h e = inr refl
+inside-whole place.WrappedMember n f h e = inr refl
+inside-whole place.OpenMember n f h e = absurd (cc)
+inside-whole place.Sink n f h e = inl refl
+inside-whole place.WrappedSink n f h e = inl refl
+inside-whole place.OpenSink n f h e = inl refl
+
+-- there is nothing around what is there, whatever it is
+pub inside-none : (p r : Place) (n f n' f' : ℕ) (h h' : Held) → r ≡ p → inside_at p n f h ≡ None
+    → inside_at r n' f' h' ≡ None
+inside-none place.Member r n f n' f' h h' e x = absurd (cc)
+inside-none place.WrappedMember r n f n' f' h h' e x = absurd (cc)
+inside-none place.OpenMember r n f n' f' h h' e x = absurd (cc)
+inside-none place.Sink r n f n' f' h h' e x = ap (λ s. inside_at s n' f' h') e
+inside-none place.WrappedSink r n f n' f' h h' e x = ap (λ s. inside_at s n' f' h') e
+inside-none place.OpenSink r n f n' f' h h' e x = ap (λ s. inside_at s n' f' h') e
+
+-- what is ready isn't a set
+pub unset : (b s r : Bool) → b ≡ s → r ≡ not b → r ≡ true → s ≡ false
+unset true s r e is ready = absurd (false≢true (sym is ∙ ready))
+unset false s r e is ready = sym e
+
+-- in place of none
+module _ (m : Mark) (old : Stack) (p : Place) (n f : ℕ) (w : Wrapper) (b q pad bytes : List ℕ)
+    (more : bytes ≡ b ++ pad) (at : m.at ≡ length b) (start : m.start ≡ length bytes) (seams : m.first_seam ≡ length q)
+    (none : pending_at p (held_of b q) ≡ None) (was : old.inside ≡ inside_at p n f (held_of b q))
+    (around : wrappers m.around ≡ old.around) (numbers : CanAllBeOpen (wrappers m.around)) (number : HasNumber m.header)
+    (ready : m.is_ready ≡ true → is_set m.header ≡ false) (untagged : m.has_tag ≡ false) where
+  wide : m.start ≡ length b + length pad
+  wide = omega (arith, start, ap length more, length-append b pad)
+
+  abbrev opened_held : Held
+  opened_held = held_of bytes q
+
+  abbrev opened_stack : Stack
+  opened_stack = record {
+    inside = outside m opened_held;
+    pending = pending_at m.place opened_held;
+    around = around_at m.place w;
+  }
+
+  opens_by : is_open m.place ≡ true → opened_stack ≡ stack_of old.inside (Some opened_held) []
+      → old.inside ≡ outside m opened_held → Opens m.header old m opened_stack
+  opens_by is stacked outer = record {
+    held = opened_held;
+    is = stacked;
+    outer = outer;
+    mark = subst (λ x. IsMark m (held_of x q)) (sym more) (fresh_mark m b q pad at wide seams is numbers number ready
+        (λ e. absurd (false≢true (sym untagged ∙ e))));
+    level = ap (λ x. level_at m (held_of x q)) more ∙ fresh_level m b q pad at wide seams
+        ∙ ap (empty_level m.header) around;
+  }
+
+  pub opens_member : old.inside ≢ None → m.place ≡ place.OpenMember → Opens m.header old m opened_stack
+  opens_member some e =
+      let front : first m.at m.first_seam opened_held ≡ held_of b q =
+      ap (λ x. first m.at m.first_seam (held_of x q)) more ∙ fresh_front m b q pad at wide seams in
+      let inside : old.inside ≡ Some (held_of b q) =
+      elim (inside-whole p n f (held_of b q) none) [ inl x ↦ absurd (some (was ∙ x)) | inr x ↦ was ∙ x ] in
+      let outer : old.inside ≡ outside m opened_held =
+      inside ∙ sym (ap Some front) ∙ ap (λ k. inside_at k m.at m.first_seam opened_held) (sym e) in
+      let stacked : opened_stack ≡ stack_of old.inside (Some opened_held) [] =
+      ap (λ v. stack_of (inside_at v m.at m.first_seam opened_held) (pending_at v opened_held) (around_at v w)) e
+      ∙ ap (λ i. stack_of i (Some opened_held) []) (ap Some front ∙ sym inside) in
+      opens_by (ap is_open e) stacked outer
+
+  pub opens_outside : old.inside ≡ None → m.place ≡ place.OpenSink → Opens m.header old m opened_stack
+  opens_outside empty e =
+      let outer : old.inside ≡ outside m opened_held =
+      empty ∙ ap (λ k. inside_at k m.at m.first_seam opened_held) (sym e) in
+      let stacked : opened_stack ≡ stack_of old.inside (Some opened_held) [] =
+      ap (λ v. stack_of (inside_at v m.at m.first_seam opened_held) (pending_at v opened_held) (around_at v w)) e
+      ∙ ap (λ i. stack_of i (Some opened_held) []) (sym empty) in
+      opens_by (ap is_open e) stacked outer
+
 -- ---- another member
 
 module _ (m : Mark) (start : ℕ) (ready : Bool) (b q pad p : List ℕ) (k : IsMark m (held_of b q))
@@ -169,7 +273,7 @@ module _ (m : Mark) (start : ℕ) (ready : Bool) (b q pad p : List ℕ) (k : IsM
   abbrev now : Mark
   now = record m { start = start; is_ready = ready }
 
-  own : List ℕ
+  abbrev own : List ℕ
   own = drop m.first_seam q
 
   count : length (b ++ pad) - start ≡ length (drop m.start b)
@@ -180,8 +284,8 @@ module _ (m : Mark) (start : ℕ) (ready : Bool) (b q pad p : List ℕ) (k : IsM
       ∙ drop-next_seams m.header m.first_seam q (length (b ++ pad) - start) k.within_seams
       ∙ ap (next_seams m.header own) count
 
-  held : last_seam 0 own ≤ length (drop m.start b)
-  held = omega (arith, k.within, length-drop m.start b)
+  fitting : last_seam 0 own ≤ length (drop m.start b)
+  fitting = omega (arith, k.within, length-drop m.start b)
 
   pub entered_mark : IsMark now (held_of (b ++ pad) p)
   entered_mark = record {
@@ -201,12 +305,12 @@ module _ (m : Mark) (start : ℕ) (ready : Bool) (b q pad p : List ℕ) (k : IsM
           arith,
           fits,
           count,
-          last_seam-next m.header own (length (drop m.start b)) held,
+          last_seam-next m.header own (length (drop m.start b)) fitting,
           ap (last_seam 0) own_next,
         );
     ascending =
         subst (AreSeams 0) (sym own_next)
-        (seams-next m.header own (length (drop m.start b)) held k.ascending);
+        (seams-next m.header own (length (drop m.start b)) fitting k.ascending);
     ready = lists;
     has_tag = λ e. let t = tag-more pad (within k) (k.has_tag e) in record {
       inside = t.inside;
@@ -235,3 +339,88 @@ module _ (m : Mark) (start : ℕ) (ready : Bool) (b q pad p : List ℕ) (k : IsM
       outside_next place.Sink n f x y o = cc
       outside_next place.WrappedSink n f x y o = cc
       outside_next place.OpenSink n f x y o = refl
+
+  pub enters : (old : Stack) → old.pending ≡ Some (held_of b q) → old.inside ≡ outside m (held_of b q)
+      → Enters m old now (record { inside = Some (held_of (b ++ pad) p); pending = None; around = [] })
+  enters old was outer = record {
+    before = held_of b q;
+    was = was;
+    held = held_of (b ++ pad) p;
+    is = refl;
+    outer = outer ∙ sym entered_outside;
+    mark = entered_mark;
+    level = entered_level;
+  }
+
+pub enters_by : (m n : Mark) (b q pad bytes p : List ℕ) (old : Stack) → IsMark m (held_of b q)
+    → n ≡ record m { start = n.start; is_ready = n.is_ready } → bytes ≡ b ++ pad → m.at ≤ n.start
+    → n.start ≤ length bytes → drop n.start bytes ≡ drop m.start b → (n.is_ready ≡ true → is_set m.header ≡ false)
+    → (m.has_tag ≡ true → n.start ≡ m.start) → p ≡ next_seams m.header q (length bytes - n.start)
+    → old.pending ≡ Some (held_of b q) → old.inside ≡ outside m (held_of b q)
+    → Enters m old n (record { inside = Some (held_of bytes p); pending = None; around = [] })
+enters_by m n b q pad bytes p old k is more room fits same lists tagged next was outer =
+    let wide : n.start ≤ length (b ++ pad) = omega (arith, fits, ap length more) in
+    let whole = enters m n.start n.is_ready b q pad p k room wide (ap (drop n.start) (sym more) ∙ same) lists tagged
+    (next ∙ ap (λ x. next_seams m.header q (length x - n.start)) more) old was outer in
+    subst (λ r. Enters m old r (record { inside = Some (held_of bytes p); pending = None; around = [] })) (sym is)
+    (subst (λ x. Enters m old (record m { start = n.start; is_ready = n.is_ready })
+    (record { inside = Some (held_of x p); pending = None; around = [] })) (sym more) whole)
+
+-- ---- the level that was opened last
+
+-- where it is open, all that is held is with it
+pub opened-by : (m : Mark) (p : Place) (h : Held) (inside pending : Option Held) → pending_at p h ≡ pending
+    → IsOpen m inside pending → (pending ≡ Some h) × (IsMark m h × (inside ≡ outside m h))
+opened-by m place.Member h inside pending e k = absurd (subst (IsOpen m inside) (sym e) k)
+opened-by m place.WrappedMember h inside pending e k = absurd (subst (IsOpen m inside) (sym e) k)
+opened-by m place.OpenMember h inside pending e k =
+    let j : IsOpen m inside (Some h) = subst (IsOpen m inside) (sym e) k in (sym e, j)
+opened-by m place.Sink h inside pending e k = absurd (subst (IsOpen m inside) (sym e) k)
+opened-by m place.WrappedSink h inside pending e k = absurd (subst (IsOpen m inside) (sym e) k)
+opened-by m place.OpenSink h inside pending e k =
+    let j : IsOpen m inside (Some h) = subst (IsOpen m inside) (sym e) k in (sym e, j)
+
+pub held_is : {h i : Held} → Some h ≡ Some i → h ≡ i
+held_is e = cc
+
+-- an open place in which something is held
+pub open_member : (p : Place) (n f : ℕ) (h i : Held) → is_open p ≡ true → Some i ≡ inside_at p n f h
+    → inside_at p n f h ≡ Some (first n f h)
+open_member place.Member n f h i o e = absurd (cc)
+open_member place.WrappedMember n f h i o e = absurd (cc)
+open_member place.OpenMember n f h i o e = refl
+open_member place.Sink n f h i o e = absurd (cc)
+open_member place.WrappedSink n f h i o e = absurd (cc)
+open_member place.OpenSink n f h i o e = absurd (cc)
+
+-- with other bytes from its room on, the same is around it
+module _ (m : Mark) (h : Held) (k : IsMark m h) (bs : List ℕ) where
+  abbrev changed : Held
+  changed = held_of (take m.at h.bytes ++ bs) (take m.first_seam h.seams)
+
+  same_front : first m.at m.first_seam changed ≡ first m.at m.first_seam h
+  same_front =
+      let size : length (take m.at h.bytes) ≡ m.at = length-take-le m.at h.bytes (omega (arith, k.room, within k)) in
+      ap₂ held_of (take-append-le m.at (take m.at h.bytes) bs (omega (arith, size))
+      ∙ take_all m.at (take m.at h.bytes) (omega (arith, size)))
+      (take_all m.first_seam (take m.first_seam h.seams) (omega (
+        arith,
+        length-take-le m.first_seam h.seams k.within_seams,
+      )))
+
+  -- where the mark says what stays
+  pub changed_stack : (p : Place) (n f : ℕ) (w : Wrapper) (inside : Option Held) → inside_at p n f h ≡ inside
+      → inside ≡ outside m h → pending_at p h ≡ Some h
+      → ◌≡◌ {A = Stack}
+      (record { inside = inside_at p m.at m.first_seam changed; pending = pending_at p changed; around = around_at p w })
+      (record { inside = inside; pending = Some changed; around = [] })
+  changed_stack place.Member n f w inside e o is = absurd (cc)
+  changed_stack place.WrappedMember n f w inside e o is = absurd (cc)
+  changed_stack place.OpenMember n f w inside e o is =
+      let outer : inside_at m.place m.at m.first_seam h ≡ Some (first m.at m.first_seam h) =
+      open_member m.place m.at m.first_seam h (first n f h) k.opened (e ∙ o) in
+      ap (λ i. stack_of i (Some changed) []) (ap Some same_front ∙ sym outer ∙ sym o)
+  changed_stack place.Sink n f w inside e o is = absurd (cc)
+  changed_stack place.WrappedSink n f w inside e o is = absurd (cc)
+  changed_stack place.OpenSink n f w inside e o is =
+      ap (λ i. stack_of i (Some changed) []) e

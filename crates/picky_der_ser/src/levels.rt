@@ -204,11 +204,12 @@ impl Levels {
         requires { HasNumber header }
         ensures { Opens header self.old result self.new }
     {
-        let room = self.bytes.capacity() - self.bytes.len();
-        match own_tag(None, header) {
-            Some(tag) if self.place == Place::Member && room >= 2 => self.open_short(header, tag),
-            _ => self.open_any(header),
+        if self.place == Place::Member && self.bytes.capacity() - self.bytes.len() >= 2 {
+            if let Some(tag) = own_tag(None, header) {
+                return self.open_short(header, tag);
+            }
         }
+        self.open_any(header)
     }
 
     // The same in another level and in no wrapper, where there is room for a short header with this tag.
@@ -430,6 +431,8 @@ impl Levels {
             arrange(&mut self.bytes, mark.start, seams, alloc)?;
             self.seams.truncate(mark.first_seam);
         }
+        self.kept = mark.at;
+        self.kept_seams = mark.first_seam;
         put_headers(
             &mut self.bytes,
             mark.at,

@@ -58,13 +58,13 @@ returns c =
           w.in-Some-own-2.tag (omega arith) (omega arith) (omega arith) w.in_ok-put_header.ensures in (
             ap (λ (o : Vec ℕ Global). take at o.items) w.out-is ∙ k.0,
             ap₂ (λ (n : ℕ) (o : Vec ℕ Global). drop n o.items) w.own_at-is w.out-is ∙ k.1
-            ∙ ap (λ t. headed t b) (sym w.in-Some-own-2.is),
+                ∙ ap (λ t. headed t b) (sym w.in-Some-own-2.is),
           )
       | in_default-own w ↦ (
-            ap (λ (o : Vec ℕ Global). take at o.items) w.out-is,
-            ap₂ (λ (n : ℕ) (o : Vec ℕ Global). drop n o.items) w.own_at-is w.out-is
+        ap (λ (o : Vec ℕ Global). take at o.items) w.out-is,
+        ap₂ (λ (n : ℕ) (o : Vec ℕ Global). drop n o.items) w.own_at-is w.out-is
             ∙ ap (λ t. headed t b) (sym w.in_default-own.is),
-          )
+      )
     ] in
     rw (der-known c.args.around (Some c.in-Some.wrapper) c.args.header own b c.in-Some.is (sym c.own_tag-own.ensures))
     (rw (put.0, put.1, c.tag.ensures, c.counts_unused_bits.ensures) at c.put_header-2.ensures)
