@@ -12,6 +12,7 @@ use Rattle.picky_der_core.specs.Failure.{failure_of}
 use Rattle.picky_der_core.specs.declared.failure.Failure.{Failure}
 use Rattle.picky_der_core.specs.declared.asn1.wrapper.Wrapper.{Wrapper}
 use Rattle.picky_der_core.specs.declared.misc.writer.WriteExt.{Ghosts}
+use Rattle.picky_der_core.specs.WriterFaults.{IsOnceAtMost}
 use Rattle.picky_der_core.specs.declared.error.Asn1DerError.{Asn1DerError}
 use Rattle.picky_der_core.specs.Tree.{Tree, is_absent}
 use Rattle.picky_der_core.specs.Encoding.{der, tree_bytes, with_header, implicit_content}
@@ -153,6 +154,18 @@ module _ {W : Type 0} (g : Ghosts W) (header : Header) (plain : is_set header �
   pub one_untouched : (d : Writing W) (new : State W) (r : Result ℕ Asn1DerError) → AddsMember g t now d
       → EndsLevel g d r new → IfErr r (λ e. UntouchedUnlessFailed g old.sink e new.sink)
   one_untouched d new r h f = (ended d new r h f).untouched
+
+  pub one_counted : (d : Writing W) (new : State W) (r : Result ℕ Asn1DerError) → AddsMember g t now d
+      → EndsLevel g d r new → IsOnceAtMost (g.faults old.sink) (g.faults new.sink)
+  one_counted d new r h f = (ended d new r h f).counted
+
+  pub one_continues : (d : Writing W) (new : State W) (r : Result ℕ Asn1DerError) → AddsMember g t now d
+      → EndsLevel g d r new → g.later old.sink new.sink
+  one_continues d new r h f = (ended d new r h f).continues
+
+  -- the member was refused, so nothing reached the sink
+  pub one_kept : (last : Writing W) (e : Asn1DerError) → RefusesToAdd g t now e last → last.sink ≡ old.sink
+  one_kept last e h = h.same ∙ ap (λ (s : Writing W). s.sink) o.opened
 
   -- the member was refused
   pub one_refused : (u : Tree) (last : Writing W) (new : State W) (d e : Asn1DerError)
