@@ -127,6 +127,20 @@ module _ {W : Type 0} (g : Ghosts W) where
       subst (λ k. AddsIn g k v.inside s.sink v.sink bs) inside w.adds in
       subst (IsEntered n) (sym adds.0) (mark-more bs e.entered.mark)
 
+  -- and no wrapper is open once it is left
+  pub member_bare : (m n : Mark) (t : Tree) (old s v new : State W) (ws : List Wrapper) (count : ℕ)
+      → EntersLevel g m old n s
+      → Writes g t (record s { around = ws; pending = None }) count v
+      → ((h : Held) → v.inside ≡ Some h
+      → stack new ≡ record { inside = outside n h; pending = Some h; around = [] })
+      → new.around ≡ []
+  member_bare m n t old s v new ws count e w left =
+      let h = e.entered.held in
+      let inside : s.inside ≡ Some h = ap (λ (k : Stack). k.inside) e.entered.is in
+      let adds : AddsIn g (Some h) v.inside s.sink v.sink (der (under ws t)) =
+      subst (λ k. AddsIn g k v.inside s.sink v.sink (der (under ws t))) inside w.adds in
+      ap (λ (k : Stack). k.around) (left (extended h (der (under ws t))) adds.0)
+
   -- so the level of the mark is open
   pub member_open : (m n : Mark) (t : Tree) (old s v new : State W) (ws : List Wrapper) (count : ℕ)
       → EntersLevel g m old n s

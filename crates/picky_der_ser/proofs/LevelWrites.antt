@@ -21,8 +21,8 @@ use Rattle.picky_der_ser.specs.declared.header.Header.{Header}
 use Rattle.picky_der_ser.specs.declared.levels.Mark.{Mark}
 use Rattle.picky_der_ser.specs.declared.levels.Place.{Place}
 use Rattle.picky_der_ser.specs.declared.levels.Place.TheVariants as place
-use Rattle.picky_der_ser.specs.Headers.{tree_of, wrappers}
-use Rattle.picky_der_ser.specs.State.{Held, Stack, State, Writing, extended, stack, beneath, final_content}
+use Rattle.picky_der_ser.specs.Headers.{tree_of, wrappers, CanAllBeOpen}
+use Rattle.picky_der_ser.specs.State.{Level, Held, Stack, State, Writing, extended, stack, beneath, final_content}
 use Rattle.picky_der_ser.specs.Marks.{level_at, level_in, first, inside_at, is_open, outside, enclosed, writing, IsMark}
 use Rattle.picky_der_ser.specs.Marks.{IsOpen, Opens}
 use Rattle.picky_der_ser.specs.Sequences.{HasOpenLevel}
@@ -98,6 +98,19 @@ module _ {W : Type 0} (g : Ghosts W) where
   pub level_open : (header : Header) (m : Mark) (old new : State W) → Opens header (stack old) m (stack new)
       → IsOpen m new.inside new.pending
   level_open header m old new o = subst (λ (s : Stack). IsOpen m s.inside s.pending) (sym o.is) (o.mark, o.outer)
+
+  -- its wrapper has a number
+  pub opened_numbers : (header : Header) (m : Mark) (old new : State W) → OpensLevel g header old (writing m new)
+      → HasOpenLevel m new.failed new.inside new.pending → new.failed ≡ None → CanAllBeOpen old.around
+  opened_numbers header m old new o k f =
+      let opened = open_if m new.failed new.inside new.pending f k in
+      let h = open_held m new.inside new.pending opened in
+      let mark : IsMark m h.0 = (subst (IsOpen m new.inside) h.1 opened).0 in
+      let level : level_in m new.pending
+      ≡ record { header = header; around = old.around; content = []; seams = [] } =
+      ap (λ (w : Writing W). w.level) o.opened in
+      let same : level_in m new.pending ≡ level_at m h.0 = ap (level_in m) h.1 in
+      subst CanAllBeOpen (ap (λ (l : Level). l.around) (sym same ∙ level)) mark.numbers
 
   -- ---- a member was refused
 

@@ -36,8 +36,8 @@ returns c =
     elim c.if-mark-len.branch [
       | then-mark-len+in_ok-arrange w ↦
           arranged_bytes m h i.bytes.items (final_content l) mark (rw w.self-inside-is (w.in_ok-arrange.ensures.ok
-        ∙ ap (λ s. take m.start b ++ concat (in_ascending_order (cut_at_seams (drop m.first_seam s) (drop m.start b))))
-        w.deref.ensures.value))
+          ∙ ap (λ s. take m.start b ++ concat (in_ascending_order (cut_at_seams (drop m.first_seam s) (drop m.start b))))
+          w.deref.ensures.value))
       | else-mark-len w ↦
           let same : i.bytes.items ≡ b = rw w.self-inside-is refl in (
             ap (take m.at) same,
