@@ -163,7 +163,7 @@ module _ {W : Type 0} (g : Ghosts W) where
       → OnErr r (AppendsTooFew (g.written old.sink) (g.written mid) bs) → IfErr r (λ e. WriterFails g old.sink e mid)
       → OnOk r (g.faults mid ≡ g.faults old.sink) → g.later old.sink mid → EndsLevel g (writing m old) s new
   ended_outside m h old new mid bs r s f was opened away is fits same sink inside done failed count appends begins fault
-  no_fault later =
+      no_fault later =
       let k : IsMark m h × (old.inside ≡ outside m h) = subst (IsOpen m old.inside) was opened in
       let w = level_writing m old h in
       let c = final_content (level_at m h) in
