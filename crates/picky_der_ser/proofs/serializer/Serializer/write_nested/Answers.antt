@@ -3,6 +3,7 @@ use Rattle.std.proofs.lemmas.Result.{err_from_is_err_and}
 use Rattle.picky_der_core.specs.Encoding.{der}
 use Rattle.picky_der_core.specs.Tree.{Tree}
 use Rattle.picky_der_ser.specs.declared.header.Header.TheVariants.{Raw}
+use Rattle.picky_der_ser.specs.State.{State, Stack, Writing}
 use Rattle.picky_der_ser.proofs.WrapWrites.{one_wrote, one_failed, one_counted, one_continues, one_kept, one_refused}
 use Rattle.picky_der_ser.proofs.WrapWrites.{alike_wrapped, there_by, wrapped_part, nested_absent}
 use Rattle.picky_der_ser.proofs.LevelWrites.{opened_numbers}
@@ -28,7 +29,30 @@ returns-in_err-count g c =
     }
 
 pub returns-then-count-eq0-clause-wrote : goal.returns-then-count-eq0-clause-wrote
-returns-then-count-eq0-clause-wrote g c = ?
+returns-then-count-eq0-clause-wrote g c =
+    let w = g.W.WriteExt in
+    let t = g.T.Serialize.meaning c.args.value.now in
+    let i = c.self.inside in
+    let k = c.give_up.new.self in
+    let new : State g.row.W.Denot = record {
+      sink = i.sink;
+      around = k.around;
+      failed = i.failed;
+      inside = k.inside;
+      pending = k.pending;
+    } in
+    let o = c.open-mark.ensures.opened in
+    let f = ap (λ (s : Writing g.row.W.Denot). s.failed) o.opened ∙ c.requires.had_not_failed in
+    let all =
+    opened_numbers w Raw c.open-mark.result c.args.self.now c.open-mark.new.self o c.open-mark.ensures.still_open f in
+    let zero : 0 ≡ length (der (Tree.wrapped c.args.wrapper t)) =
+    sym c.if-count-eq0.true ∙ c.in_ok-count.ensures.count in
+    let same = c.self.view_is in
+    nested_absent w c.args.wrapper t c.args.self.now new _ _ o all c.in_ok-count.ensures.added zero
+    (ap (λ (s : Stack). s.inside) c.give_up.ensures ∙ ap (λ (s : State g.row.W.Denot). s.inside) same)
+    (ap (λ (s : State g.row.W.Denot). s.sink) same) (ap (λ (s : State g.row.W.Denot). s.failed) same)
+    (ap (λ (s : Stack). s.around) c.give_up.ensures ∙ ap (λ (s : State g.row.W.Denot). s.around) same
+    ∙ c.in_ok-count.ensures.bare)
 
 pub returns : goal.returns
 returns g c =
