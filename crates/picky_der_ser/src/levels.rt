@@ -206,8 +206,9 @@ impl Levels {
     {
         let own = own_tag(None, header);
         if let Some(tag) = own {
+            let identifier = tag.inner();
             if self.place == Place::Member && self.bytes.capacity() - self.bytes.len() >= 2 {
-                return self.open_short(header, tag);
+                return self.open_short(header, identifier);
             }
         }
         self.open_any(header)
@@ -215,9 +216,9 @@ impl Levels {
 
     // The same in another level and in no wrapper, where there is room for a short header with this tag.
     #[inline(always)]
-    fn open_short(&mut self, header: Header, tag: Tag) -> Mark
+    fn open_short(&mut self, header: Header, identifier: u8) -> Mark
         requires number { HasNumber header }
-        requires tag { own_tag true header ≡ Some tag }
+        requires tag { own_tag true header ≡ Some identifier }
         requires inside { self.old.inside ≢ None }
         requires bare { (self.old.pending ≡ None) × (self.old.around ≡ []) }
         ensures { Opens header self.old result self.new }
@@ -225,7 +226,7 @@ impl Levels {
         let at = self.bytes.len();
         let first_seam = self.seams.len();
         // Where there is room this doesn't fail.
-        let has_room = self.bytes.extend_from_slice(&[tag.inner(), 0]).is_ok();
+        let has_room = self.bytes.extend_from_slice(&[identifier, 0]).is_ok();
         self.place = Place::OpenMember;
         self.kept = at;
         self.kept_seams = first_seam;

@@ -1,5 +1,5 @@
-use Rattle.std.proofs.Common.{◌≡◌, ℕ, ◌≤◌, ◌<◌, ◌++◌, [], length, take, drop, None, Some, arith, refl, sym, ap, ◌∙◌}
-use Rattle.std.proofs.lemmas.List.{take_all, drop_all}
+use Rattle.std.proofs.Common.{◌≡◌, ℕ, ◌≤◌, ◌<◌, ◌-◌, ◌++◌, [], length, take, drop, None, Some, arith, refl, sym, ap, ◌∙◌}
+use Rattle.std.proofs.lemmas.List.{take_all, drop_all, length-drop}
 use Rattle.std.specs.List.{concat}
 use Rattle.picky_der_core.specs.Order.{in_ascending_order}
 use Rattle.picky_der_ser.specs.Seams.{cut_at_seams}
@@ -35,9 +35,12 @@ returns c =
     let parts : (take m.at i.bytes.items ≡ take m.at b) × (drop m.start i.bytes.items ≡ final_content l) =
     elim c.if-mark-len.branch [
       | then-mark-len+in_ok-arrange w ↦
+          let d = w.deref.result.now in
+          let own : take (length d - m.first_seam) (drop m.first_seam d) ≡ drop m.first_seam q =
+          take_all (length d - m.first_seam) (drop m.first_seam d) (omega (arith, length-drop m.first_seam d))
+          ∙ ap (drop m.first_seam) w.deref.ensures.value in
           arranged_bytes m h i.bytes.items (final_content l) mark (rw w.self-inside-is (w.in_ok-arrange.ensures.ok
-          ∙ ap (λ s. take m.start b ++ concat (in_ascending_order (cut_at_seams (drop m.first_seam s) (drop m.start b))))
-          w.deref.ensures.value))
+          ∙ ap (λ s. take m.start b ++ concat (in_ascending_order (cut_at_seams s (drop m.start b)))) own))
       | else-mark-len w ↦
           let same : i.bytes.items ≡ b = rw w.self-inside-is refl in (
             ap (take m.at) same,

@@ -35,7 +35,7 @@ returns c =
       | then-has_room-2 w ↦ unset w.is_set.result _ _ w.is_set.ensures w.result-is
       | else-has_room-2 w ↦ λ e. let test = sym w.result-is ∙ e in absurd (grind (arith, nat_tests))
     ] in
-    let around = c.around-around.ensures.around ∙ ap (λ (s : Stack). s.around) v in
+    let around = c.around-around.ensures.around ∙ ap (λ (s : Stack). s.around) c.give_up.ensures in
     let was : old.inside ≡ inside_at o.place o.kept o.kept_seams (held_of b q) = sym (ap (λ (s : Stack). s.inside) v) in
     let none = ap (λ (s : Stack). s.pending) v in
     let at : c.len-at.result ≡ length b = omega arith in

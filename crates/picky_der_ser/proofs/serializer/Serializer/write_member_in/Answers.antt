@@ -35,7 +35,7 @@ returns-clause-added g c =
       | in-Some w ↦ rw (w.self-is, w.in-Some.is, w.wrap.ensures, ← c.self.view_is) refl
       | in_default w ↦
           let none : c.args.around ≡ None = search rules in
-          rw none (w.self-is ∙ c.self.view_is ∙ bare)
+          rw none (w.self-is ∙ bare)
     ] in
     let wrote : Writes g.W.WriteExt t
     (record { sink = s.sink; around = ws; failed = s.failed; inside = s.inside; pending = None }) c.in_ok-count.count v =
@@ -72,7 +72,7 @@ returns-clause-still_open g c =
       | in-Some w ↦ rw (w.self-is, w.in-Some.is, w.wrap.ensures, ← c.self.view_is) refl
       | in_default w ↦
           let none : c.args.around ≡ None = search rules in
-          rw none (w.self-is ∙ c.self.view_is ∙ bare)
+          rw none (w.self-is ∙ bare)
     ] in
     let wrote : Writes g.W.WriteExt t
     (record { sink = s.sink; around = ws; failed = s.failed; inside = s.inside; pending = None }) c.in_ok-count.count v =
@@ -109,7 +109,7 @@ returns-clause-bare g c =
       | in-Some w ↦ rw (w.self-is, w.in-Some.is, w.wrap.ensures, ← c.self.view_is) refl
       | in_default w ↦
           let none : c.args.around ≡ None = search rules in
-          rw none (w.self-is ∙ c.self.view_is ∙ bare)
+          rw none (w.self-is ∙ bare)
     ] in
     let wrote : Writes g.W.WriteExt t
     (record { sink = s.sink; around = ws; failed = s.failed; inside = s.inside; pending = None }) c.in_ok-count.count v =
