@@ -1,0 +1,62 @@
+use Rattle.std.proofs.Common.{◌≡◌, refl, ap, sym, ◌∙◌, rules, arith}
+use Rattle.std.proofs.lemmas.Result.{err_from_is_err_and}
+use Rattle.picky_der_core.specs.Tree.{Tree}
+use Rattle.picky_der_ser.specs.State.{State, Stack}
+use Rattle.picky_der_ser.specs.declared.header.Header.TheVariants.{Raw}
+use Rattle.picky_der_ser.proofs.WrapWrites.{one_wrote, one_failed, one_counted, one_continues, one_kept, one_refused}
+use Rattle.picky_der_ser.proofs.WrapWrites.{alike_wrapped, there_by, wrapped_part, nested_absent, open_numbers}
+use Rattle.picky_der_ser.proofs.serializer.Serializer.write_nested.Goals as goal
+
+pub returns-in_err-count : goal.returns-in_err-count
+returns-in_err-count g c =
+    let w = g.W.WriteExt in
+    let u = Tree.wrapped c.args.wrapper (g.T.Serialize.meaning c.args.value.now) in
+    let o = c.open-mark.ensures.opened in
+    let h = c.in_err-count.ensures.err in
+    let p = err_from_is_err_and c.from_residual.result c.from_residual.ensures.1 in
+    let kept = one_kept w Raw refl u _ _ o _ _ h in
+    let refused =
+    one_refused w Raw refl u _ _ o u _ c.write_member_in-count.new.self c.in_err-count.field-0.0
+    c.in_err-count.field-0.0 (wrapped_part _ c.args.wrapper (g.T.Serialize.meaning c.args.value.now)) h refl refl refl
+    in
+    record {
+      wrote = search rules;
+      failed = rw (p.1, p.2) (search (rules, refused));
+      counted = search (rules, kept);
+      continues = search (rules, kept);
+    }
+
+pub returns-then-count-eq0 : goal.returns-then-count-eq0
+returns-then-count-eq0 g c =
+    let w = g.W.WriteExt in
+    let t = g.T.Serialize.meaning c.args.value.now in
+    let o = c.open-mark.ensures.opened in
+    let e = c.in_ok-count.ensures in
+    let numbers = open_numbers w Raw c.open-mark.result _ _ c.requires.had_not_failed o c.open-mark.ensures.still_open in
+    let none = sym c.if-count-eq0.true ∙ e.count in
+    let wrote = nested_absent w c.args.wrapper t _ _ _ _ o numbers e.added none
+    (ap (λ (s : Stack). s.inside) c.give_up.ensures) refl refl (ap (λ (s : Stack). s.around) c.give_up.ensures ∙ e.bare)
+    in
+    record {
+      wrote = wrote;
+      failed = tt;
+      counted = grind (arith, wrote.no_fault);
+      continues = search (rules, e);
+    }
+
+pub returns : goal.returns
+returns g c =
+    let w = g.W.WriteExt in
+    let t = g.T.Serialize.meaning c.args.value.now in
+    let u = Tree.wrapped c.args.wrapper t in
+    let o = c.open-mark.ensures.opened in
+    let a = c.in_ok-count.ensures.added in
+    let e = c.close.ensures in
+    let there = there_by c.args.wrapper t c.in_ok-count.count c.in_ok-count.ensures.count c.if-count-eq0.false in
+    let same = alike_wrapped c.args.wrapper t there a.writable.numbers in
+    record {
+      wrote = one_wrote w Raw refl u _ _ o u _ _ _ same a e;
+      failed = one_failed w Raw refl u _ _ o u _ _ _ same a e;
+      counted = one_counted w Raw refl u _ _ o _ _ _ a e;
+      continues = one_continues w Raw refl u _ _ o _ _ _ a e;
+    }
