@@ -1,7 +1,7 @@
-use Rattle.std.proofs.Common.{◌≡◌, refl, ap, sym, ◌∙◌, rules, arith}
+use Rattle.std.proofs.Common.{◌≡◌, refl, ap, sym, ◌∙◌, subst, rules, arith}
 use Rattle.std.proofs.lemmas.Result.{err_from_is_err_and}
 use Rattle.picky_der_core.specs.Tree.{Tree}
-use Rattle.picky_der_ser.specs.State.{State, Stack}
+use Rattle.picky_der_ser.specs.State.{Stack, Writing}
 use Rattle.picky_der_ser.specs.declared.header.Header.TheVariants.{Raw}
 use Rattle.picky_der_ser.proofs.WrapWrites.{one_wrote, one_failed, one_counted, one_continues, one_kept, one_refused}
 use Rattle.picky_der_ser.proofs.WrapWrites.{alike_wrapped, there_by, wrapped_part, nested_absent, open_numbers}
@@ -32,16 +32,19 @@ returns-then-count-eq0 g c =
     let t = g.T.Serialize.meaning c.args.value.now in
     let o = c.open-mark.ensures.opened in
     let e = c.in_ok-count.ensures in
-    let numbers = open_numbers w Raw c.open-mark.result _ _ c.requires.had_not_failed o c.open-mark.ensures.still_open in
+    let numbers =
+    open_numbers w Raw c.open-mark.result _ _ c.requires.had_not_failed o c.open-mark.ensures.still_open in
     let none = sym c.if-count-eq0.true ∙ e.count in
     let wrote = nested_absent w c.args.wrapper t _ _ _ _ o numbers e.added none
     (ap (λ (s : Stack). s.inside) c.give_up.ensures) refl refl (ap (λ (s : Stack). s.around) c.give_up.ensures ∙ e.bare)
     in
+    let same = ap (λ (s : Writing g.row.W.Denot). s.sink) e.added.added ∙ ap (λ (s : Writing g.row.W.Denot). s.sink)
+    o.opened in
     record {
       wrote = wrote;
       failed = tt;
-      counted = grind (arith, wrote.no_fault);
-      continues = search (rules, e);
+      counted = (omega (arith, wrote.no_fault), omega (arith, wrote.no_fault));
+      continues = subst (w.later _) (sym same) (g.met.W.WriteExt.later_refl _);
     }
 
 pub returns : goal.returns
