@@ -6,7 +6,8 @@ use Rattle.std.proofs.Math.ListN.{set}
 use Rattle.std.proofs.Math.Seq.{take-add, drop-append_seam}
 use Rattle.std.specs.Option.{is_some}
 use Rattle.std.proofs.lemmas.List.{take-take, take-append-le}
-use Rattle.std.proofs.lemmas.List.{take_all, drop_all, length-drop, length-take-le, take-append-drop, take-set, drop-set}
+use Rattle.std.proofs.lemmas.List.{take_all, drop_all, length-drop, length-take-le, take-append-drop, take-set}
+use Rattle.std.proofs.lemmas.List.{drop-set}
 use Rattle.picky_der_core.specs.declared.asn1.wrapper.Wrapper.{Wrapper}
 use Rattle.picky_der_core.specs.Encoding.{der}
 use Rattle.picky_der_core.specs.OpenWrappers.{under}
@@ -14,7 +15,8 @@ use Rattle.picky_der_ser.specs.declared.levels.Mark.{Mark}
 use Rattle.picky_der_ser.specs.declared.levels.Place.{Place}
 use Rattle.picky_der_ser.specs.Headers.{tree_of, wrappers, keeps_headers, own_tag, headed, wrapped_in}
 use Rattle.picky_der_ser.specs.State.{Held, Stack, final_content}
-use Rattle.picky_der_ser.specs.Marks.{level_at, held_of, inside_at, pending_at, around_at, outside, tags, HasTag, IsMark}
+use Rattle.picky_der_ser.specs.Marks.{level_at, held_of, inside_at, pending_at, around_at, outside, tags, HasTag}
+use Rattle.picky_der_ser.specs.Marks.{IsMark}
 use Rattle.picky_der_ser.specs.Marks.{enclosed}
 use Rattle.picky_der_ser.proofs.HeaderBytes.{der-headed, tlv-short}
 use Rattle.picky_der_ser.proofs.LevelMarks.{within, changed_stack, stack_of}

@@ -1,6 +1,8 @@
 -- A level while more bytes come.
-use Rattle.std.proofs.Common.{not, ◌≡◌, ◌≢◌, ℕ, ◌≤◌, ◌<◌, ◌+◌, ◌-◌, Bool, true, false, List, [], ◌∷◌, ◌++◌, length, take}
-use Rattle.std.proofs.Common.{drop, Option, None, Some, refl, sym, ap, ap₂, ◌∙◌, arith, subst, length-append, ◌⊎◌, inl, inr}
+use Rattle.std.proofs.Common.{not, ◌≡◌, ◌≢◌, ℕ, ◌≤◌, ◌<◌, ◌+◌, ◌-◌, Bool, true, false, List, [], ◌∷◌, ◌++◌, length}
+use Rattle.std.proofs.Common.{take}
+use Rattle.std.proofs.Common.{drop, Option, None, Some, refl, sym, ap, ap₂, ◌∙◌, arith, subst, length-append, ◌⊎◌}
+use Rattle.std.proofs.Common.{inl, inr}
 use Rattle.std.proofs.Math.Seq.{take-append_seam}
 use Rattle.std.proofs.lemmas.Bool.{false≢true}
 use Rattle.std.specs.Prelude.{if◌then◌else◌}
@@ -76,6 +78,11 @@ outside-more {m} {h} bs k = outside-at m.place m.at m.first_seam h bs (omega (ar
 
 -- ---- a member
 
+-- where no wrapper and no level is open
+pub bare_state : {W : Type 0} (s : State W) → s.around ≡ [] → s.pending ≡ None
+    → s ≡ record s { around = []; pending = None }
+bare_state s a p = ap₂ (λ x y. record s { around = x; pending = y }) a p
+
 module _ {W : Type 0} (g : Ghosts W) where
   -- the level was entered, the member was written, and the level is open again
   pub member_added : (m n : Mark) (t : Tree) (old s v new : State W) (ws : List Wrapper) (count : ℕ)
@@ -119,6 +126,20 @@ module _ {W : Type 0} (g : Ghosts W) where
       let adds : AddsIn g (Some h) v.inside s.sink v.sink bs =
       subst (λ k. AddsIn g k v.inside s.sink v.sink bs) inside w.adds in
       subst (IsEntered n) (sym adds.0) (mark-more bs e.entered.mark)
+
+  -- and no wrapper is open once it is left
+  pub member_bare : (m n : Mark) (t : Tree) (old s v new : State W) (ws : List Wrapper) (count : ℕ)
+      → EntersLevel g m old n s
+      → Writes g t (record s { around = ws; pending = None }) count v
+      → ((h : Held) → v.inside ≡ Some h
+      → stack new ≡ record { inside = outside n h; pending = Some h; around = [] })
+      → new.around ≡ []
+  member_bare m n t old s v new ws count e w left =
+      let h = e.entered.held in
+      let inside : s.inside ≡ Some h = ap (λ (k : Stack). k.inside) e.entered.is in
+      let adds : AddsIn g (Some h) v.inside s.sink v.sink (der (under ws t)) =
+      subst (λ k. AddsIn g k v.inside s.sink v.sink (der (under ws t))) inside w.adds in
+      ap (λ (k : Stack). k.around) (left (extended h (der (under ws t))) adds.0)
 
   -- so the level of the mark is open
   pub member_open : (m n : Mark) (t : Tree) (old s v new : State W) (ws : List Wrapper) (count : ℕ)
@@ -412,8 +433,8 @@ module _ (m : Mark) (h : Held) (k : IsMark m h) (bs : List ℕ) where
   pub changed_stack : (p : Place) (n f : ℕ) (w : Wrapper) (inside : Option Held) → inside_at p n f h ≡ inside
       → inside ≡ outside m h → pending_at p h ≡ Some h
       → ◌≡◌ {A = Stack}
-      (record { inside = inside_at p m.at m.first_seam changed; pending = pending_at p changed; around = around_at p w })
-      (record { inside = inside; pending = Some changed; around = [] })
+      (stack_of (inside_at p m.at m.first_seam changed) (pending_at p changed) (around_at p w))
+      (stack_of inside (Some changed) [])
   changed_stack place.Member n f w inside e o is = absurd (cc)
   changed_stack place.WrappedMember n f w inside e o is = absurd (cc)
   changed_stack place.OpenMember n f w inside e o is =

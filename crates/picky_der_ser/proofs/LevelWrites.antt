@@ -1,5 +1,6 @@
 -- What a serializer does with a level, seen from its state.
-use Rattle.std.proofs.Common.{◌≡◌, ◌≢◌, ℕ, ◌<◌, ◌^◌, ◌≤◌, ◌+◌, true, List, [], ◌++◌, length, take, drop, Option, None, Some}
+use Rattle.std.proofs.Common.{◌≡◌, ◌≢◌, ℕ, ◌<◌, ◌^◌, ◌≤◌, ◌+◌, true, List, [], ◌++◌, length, take, drop, Option, None}
+use Rattle.std.proofs.Common.{Some}
 use Rattle.std.proofs.Common.{refl, sym, ap, ◌∙◌, arith, subst, Result, Ok, Err, IfOk, OnOk, IfErr, OnErr}
 use Rattle.std.specs.Prelude.{IfSome, IfNone}
 use Rattle.std.specs.Io.KnownBytes.{Appends}
@@ -20,8 +21,8 @@ use Rattle.picky_der_ser.specs.declared.header.Header.{Header}
 use Rattle.picky_der_ser.specs.declared.levels.Mark.{Mark}
 use Rattle.picky_der_ser.specs.declared.levels.Place.{Place}
 use Rattle.picky_der_ser.specs.declared.levels.Place.TheVariants as place
-use Rattle.picky_der_ser.specs.Headers.{tree_of, wrappers}
-use Rattle.picky_der_ser.specs.State.{Held, Stack, State, Writing, extended, stack, beneath, final_content}
+use Rattle.picky_der_ser.specs.Headers.{tree_of, wrappers, CanAllBeOpen}
+use Rattle.picky_der_ser.specs.State.{Level, Held, Stack, State, Writing, extended, stack, beneath, final_content}
 use Rattle.picky_der_ser.specs.Marks.{level_at, level_in, first, inside_at, is_open, outside, enclosed, writing, IsMark}
 use Rattle.picky_der_ser.specs.Marks.{IsOpen, Opens}
 use Rattle.picky_der_ser.specs.Sequences.{HasOpenLevel}
@@ -75,6 +76,15 @@ pub open_unless : (m : Mark) (failed : Option Failure) (inside pending : Option 
 open_unless m None inside pending k = k
 open_unless m (Some f) inside pending k = tt
 
+pub open_if : (m : Mark) (failed : Option Failure) (inside pending : Option Held) → failed ≡ None
+    → HasOpenLevel m failed inside pending → IsOpen m inside pending
+open_if m failed inside pending f k = subst (λ o. HasOpenLevel m o inside pending) f k
+
+-- something is held with it
+pub open_held : (m : Mark) (inside pending : Option Held) → IsOpen m inside pending → (h : Held) × (pending ≡ Some h)
+open_held m inside None k = absurd k
+open_held m inside (Some h) k = (h, refl)
+
 module _ {W : Type 0} (g : Ghosts W) where
   pub level_opened : (header : Header) (m : Mark) (old new : State W) → Opens header (stack old) m (stack new)
       → new.sink ≡ old.sink → new.failed ≡ old.failed → OpensLevel g header old (writing m new)
@@ -88,6 +98,19 @@ module _ {W : Type 0} (g : Ghosts W) where
   pub level_open : (header : Header) (m : Mark) (old new : State W) → Opens header (stack old) m (stack new)
       → IsOpen m new.inside new.pending
   level_open header m old new o = subst (λ (s : Stack). IsOpen m s.inside s.pending) (sym o.is) (o.mark, o.outer)
+
+  -- its wrapper has a number
+  pub opened_numbers : (header : Header) (m : Mark) (old new : State W) → OpensLevel g header old (writing m new)
+      → HasOpenLevel m new.failed new.inside new.pending → new.failed ≡ None → CanAllBeOpen old.around
+  opened_numbers header m old new o k f =
+      let opened = open_if m new.failed new.inside new.pending f k in
+      let h = open_held m new.inside new.pending opened in
+      let mark : IsMark m h.0 = (subst (IsOpen m new.inside) h.1 opened).0 in
+      let level : level_in m new.pending
+      ≡ record { header = header; around = old.around; content = []; seams = [] } =
+      ap (λ (w : Writing W). w.level) o.opened in
+      let same : level_in m new.pending ≡ level_at m h.0 = ap (level_in m) h.1 in
+      subst CanAllBeOpen (ap (λ (l : Level). l.around) (sym same ∙ level)) mark.numbers
 
   -- ---- a member was refused
 
@@ -140,7 +163,7 @@ module _ {W : Type 0} (g : Ghosts W) where
       → OnErr r (AppendsTooFew (g.written old.sink) (g.written mid) bs) → IfErr r (λ e. WriterFails g old.sink e mid)
       → OnOk r (g.faults mid ≡ g.faults old.sink) → g.later old.sink mid → EndsLevel g (writing m old) s new
   ended_outside m h old new mid bs r s f was opened away is fits same sink inside done failed count appends begins fault
-  no_fault later =
+      no_fault later =
       let k : IsMark m h × (old.inside ≡ outside m h) = subst (IsOpen m old.inside) was opened in
       let w = level_writing m old h in
       let c = final_content (level_at m h) in

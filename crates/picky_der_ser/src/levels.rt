@@ -204,8 +204,9 @@ impl Levels {
         requires { HasNumber header }
         ensures { Opens header self.old result self.new }
     {
-        if self.place == Place::Member && self.bytes.capacity() - self.bytes.len() >= 2 {
-            if let Some(tag) = own_tag(None, header) {
+        let own = own_tag(None, header);
+        if let Some(tag) = own {
+            if self.place == Place::Member && self.bytes.capacity() - self.bytes.len() >= 2 {
                 return self.open_short(header, tag);
             }
         }

@@ -1,5 +1,5 @@
 //! Levels, as a serializer opens and ends them.
-ghost use Rattle.std.specs.Prelude.{◌≡◌, length, OnOk, IfOk, IfErr};
+ghost use Rattle.std.specs.Prelude.{◌≡◌, [], length, OnOk, IfOk, IfErr};
 ghost use Rattle.picky_der_core.specs.Encoding.{der};
 ghost use Rattle.picky_der_core.specs.OpenWrappers.{under};
 ghost use Rattle.picky_der_ser.specs.Headers.{wrappers, HasNumber, CanAllBeOpen};
@@ -106,6 +106,7 @@ impl<W: WriteExt> Serializer<W> {
             (writing mark.old self.old) (writing mark.new self.new)) }
         ensures count { IfOk result (λ n. n ≡ length (der (under (wrappers around) (T.meaning value.now)))) }
         ensures still_open { HasOpenLevel mark.new self.new.failed self.new.inside self.new.pending }
+        ensures bare { OnOk result (self.new.around ≡ []) }
         ensures err { IfErr result (λ e. RefusesToAdd W.WriteExt.own (under (wrappers around) (T.meaning value.now))
             (writing mark.old self.old) e (writing mark.new self.new)) }
     {

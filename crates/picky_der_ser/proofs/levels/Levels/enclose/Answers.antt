@@ -1,5 +1,8 @@
 use Rattle.std.proofs.Common.{◌≡◌, ℕ, ◌≤◌, ◌<◌, ◌++◌, [], length, take, drop, None, Some, arith, refl, sym, ap, ◌∙◌}
 use Rattle.std.proofs.lemmas.List.{take_all, drop_all}
+use Rattle.std.specs.List.{concat}
+use Rattle.picky_der_core.specs.Order.{in_ascending_order}
+use Rattle.picky_der_ser.specs.Seams.{cut_at_seams}
 use Rattle.picky_der_ser.specs.State.{Stack, Held, final_content}
 use Rattle.picky_der_ser.specs.Marks.{level_at, held_of, enclosed}
 use Rattle.picky_der_ser.proofs.LevelMarks.{held_is, opened-by, stack_of}
@@ -32,7 +35,9 @@ returns c =
     let parts : (take m.at i.bytes.items ≡ take m.at b) × (drop m.start i.bytes.items ≡ final_content l) =
     elim c.if-mark-len.branch [
       | then-mark-len+in_ok-arrange w ↦
-          arranged_bytes m h i.bytes.items (final_content l) mark (rw w.self-inside-is ?)
+          arranged_bytes m h i.bytes.items (final_content l) mark (rw w.self-inside-is (w.in_ok-arrange.ensures.ok
+          ∙ ap (λ s. take m.start b ++ concat (in_ascending_order (cut_at_seams (drop m.first_seam s) (drop m.start b))))
+          w.deref.ensures.value))
       | else-mark-len w ↦
           let same : i.bytes.items ≡ b = rw w.self-inside-is refl in (
             ap (take m.at) same,

@@ -1,4 +1,5 @@
-use Rattle.std.proofs.Common.{◌≡◌, ℕ, ◌≤◌, ◌-◌, Bool, true, false, List, [], ◌++◌, length, drop, None, arith, refl, sym, ap}
+use Rattle.std.proofs.Common.{◌≡◌, ℕ, ◌≤◌, ◌-◌, Bool, true, false, List, [], ◌++◌, length, drop, None, arith, refl}
+use Rattle.std.proofs.Common.{sym, ap}
 use Rattle.std.proofs.Common.{ap₂, ◌∙◌, length-append}
 use Rattle.std.proofs.lemmas.List.{drop_all}
 use Rattle.picky_der_ser.specs.declared.levels.Mark.{Mark}
@@ -58,7 +59,6 @@ returns c =
           let same : i.bytes.items ≡ b = rw w.self-inside-is refl in
           let same_seams : i.seams.items ≡ q = rw w.self-inside-is refl in
           let more = grown false b i.bytes.items [] same in
-          let same_seams : i.seams.items ≡ q = rw w.self-inside-is seams in
           let start : n.start ≡ m.start = ap (λ (x : Mark). x.start) w.mark-is in
           enters_by m n b q more.0 i.bytes.items p old mark
           (w.mark-is ∙ ap (λ (x : Mark). record m { start = x.start; is_ready = x.is_ready }) (sym w.mark-is)) more.1

@@ -1,5 +1,5 @@
 use Rattle.std.proofs.Common.{◌≡◌, ◌≢◌, ℕ, Bool, true, false, List, [], ◌++◌, length, None, arith, refl, sym, ap, ◌∙◌}
-use Rattle.std.proofs.lemmas.Bool.{false≢true}
+use Rattle.std.proofs.lemmas.Bool.Decides.{nat_tests}
 use Rattle.picky_der_ser.specs.State.{Stack}
 use Rattle.picky_der_ser.specs.Marks.{held_of, inside_at}
 use Rattle.picky_der_ser.specs.Headers.{is_set}
@@ -33,7 +33,7 @@ returns c =
     ] in
     let ready : c.if-has_room-2.result ≡ true → is_set c.args.header ≡ false = elim c.if-has_room-2.branch [
       | then-has_room-2 w ↦ unset w.is_set.result _ _ w.is_set.ensures w.result-is
-      | else-has_room-2 w ↦ λ e. absurd (false≢true (sym w.result-is ∙ e))
+      | else-has_room-2 w ↦ λ e. let test = sym w.result-is ∙ e in absurd (grind (arith, nat_tests))
     ] in
     let around = c.around-around.ensures.around ∙ ap (λ (s : Stack). s.around) v in
     let was : old.inside ≡ inside_at o.place o.kept o.kept_seams (held_of b q) = sym (ap (λ (s : Stack). s.inside) v) in

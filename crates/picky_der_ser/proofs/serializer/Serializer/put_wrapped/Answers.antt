@@ -33,7 +33,7 @@ returns g c =
     let wrapped = rw (← c.self.view_is) at c.requires.wrapped in
     let numbers : CanAllBeOpen ws = subst CanAllBeOpen c.around-around.ensures.around c.around-around.ensures.numbers in
     let whole : hs ++ bs ≡ der (under ws t) =
-    c.in-Ok.ensures.ok bs refl ∙ ap (λ x. x ++ der (under _ t)) c.new-headers.ensures
+    c.in-Ok.ensures.ok bs refl ∙ ap (λ x. x ++ der (under _ t)) c.new-headers.ensures.items
     ∙ ap (λ vs. der (under vs t)) c.around-around.ensures.around in
     let is : c.deref.result.now ++ bs ≡ der (under ws t) = ap (λ x. x ++ bs) c.deref.ensures.0 ∙ whole in
     let small : length (c.deref.result.now ++ bs) < 2 ^ 64 = omega (arith, length-append c.deref.result.now bs) in

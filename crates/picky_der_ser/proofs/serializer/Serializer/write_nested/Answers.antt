@@ -1,3 +1,4 @@
+<<<<<<< HEAD
 use Rattle.std.proofs.Common.{◌≡◌, refl, ap, sym, ◌∙◌, subst, rules, arith}
 use Rattle.std.proofs.lemmas.Result.{err_from_is_err_and}
 use Rattle.picky_der_core.specs.Tree.{Tree}
@@ -5,20 +6,41 @@ use Rattle.picky_der_ser.specs.State.{Stack, Writing}
 use Rattle.picky_der_ser.specs.declared.header.Header.TheVariants.{Raw}
 use Rattle.picky_der_ser.proofs.WrapWrites.{one_wrote, one_failed, one_counted, one_continues, one_kept, one_refused}
 use Rattle.picky_der_ser.proofs.WrapWrites.{alike_wrapped, there_by, wrapped_part, nested_absent, open_numbers}
+=======
+use Rattle.std.proofs.Common.{◌≡◌, ◌≢◌, ℕ, length, rules, refl, sym, ap, ◌∙◌, arith}
+use Rattle.std.proofs.lemmas.Result.{err_from_is_err_and}
+use Rattle.picky_der_core.specs.Encoding.{der}
+use Rattle.picky_der_core.specs.Tree.{Tree}
+use Rattle.picky_der_ser.specs.declared.header.Header.TheVariants.{Raw}
+use Rattle.picky_der_ser.specs.State.{State, Stack, Writing}
+use Rattle.picky_der_ser.proofs.WrapWrites.{one_wrote, one_failed, one_counted, one_continues, one_kept, one_refused}
+use Rattle.picky_der_ser.proofs.WrapWrites.{alike_wrapped, there_by, wrapped_part, nested_absent}
+use Rattle.picky_der_ser.proofs.LevelWrites.{opened_numbers}
+>>>>>>> 3a83d6df7f7e19439dfcbf376715fb55d72511ae
 use Rattle.picky_der_ser.proofs.serializer.Serializer.write_nested.Goals as goal
 
 pub returns-in_err-count : goal.returns-in_err-count
 returns-in_err-count g c =
     let w = g.W.WriteExt in
+<<<<<<< HEAD
     let u = Tree.wrapped c.args.wrapper (g.T.Serialize.meaning c.args.value.now) in
+=======
+    let t = g.T.Serialize.meaning c.args.value.now in
+    let u = Tree.wrapped c.args.wrapper t in
+>>>>>>> 3a83d6df7f7e19439dfcbf376715fb55d72511ae
     let o = c.open-mark.ensures.opened in
     let h = c.in_err-count.ensures.err in
     let p = err_from_is_err_and c.from_residual.result c.from_residual.ensures.1 in
     let kept = one_kept w Raw refl u _ _ o _ _ h in
     let refused =
+<<<<<<< HEAD
     one_refused w Raw refl u _ _ o u _ c.write_member_in-count.new.self c.in_err-count.field-0.0
     c.in_err-count.field-0.0 (wrapped_part _ c.args.wrapper (g.T.Serialize.meaning c.args.value.now)) h refl refl refl
     in
+=======
+    one_refused w Raw refl u _ _ o u _ c.write_member_in.new.self c.in_err-count.field-0.0 c.in_err-count.field-0.0
+    (wrapped_part _ c.args.wrapper t) h refl refl refl in
+>>>>>>> 3a83d6df7f7e19439dfcbf376715fb55d72511ae
     record {
       wrote = search rules;
       failed = rw (p.1, p.2) (search (rules, refused));
@@ -26,6 +48,7 @@ returns-in_err-count g c =
       continues = search (rules, kept);
     }
 
+<<<<<<< HEAD
 pub returns-then-count-eq0 : goal.returns-then-count-eq0
 returns-then-count-eq0 g c =
     let w = g.W.WriteExt in
@@ -46,6 +69,33 @@ returns-then-count-eq0 g c =
       counted = (omega (arith, wrote.no_fault), omega (arith, wrote.no_fault));
       continues = subst (w.later _) (sym same) (g.met.W.WriteExt.later_refl _);
     }
+=======
+pub returns-then-count-eq0-clause-wrote : goal.returns-then-count-eq0-clause-wrote
+returns-then-count-eq0-clause-wrote g c =
+    let w = g.W.WriteExt in
+    let t = g.T.Serialize.meaning c.args.value.now in
+    let i = c.self.inside in
+    let k = c.give_up.new.self in
+    let new : State g.row.W.Denot = record {
+      sink = i.sink;
+      around = k.around;
+      failed = i.failed;
+      inside = k.inside;
+      pending = k.pending;
+    } in
+    let o = c.open-mark.ensures.opened in
+    let f = ap (λ (s : Writing g.row.W.Denot). s.failed) o.opened ∙ c.requires.had_not_failed in
+    let all =
+    opened_numbers w Raw c.open-mark.result c.args.self.now c.open-mark.new.self o c.open-mark.ensures.still_open f in
+    let zero : 0 ≡ length (der (Tree.wrapped c.args.wrapper t)) =
+    sym c.if-count-eq0.true ∙ c.in_ok-count.ensures.count in
+    let same = c.self.view_is in
+    nested_absent w c.args.wrapper t c.args.self.now new _ _ o all c.in_ok-count.ensures.added zero
+    (ap (λ (s : Stack). s.inside) c.give_up.ensures ∙ ap (λ (s : State g.row.W.Denot). s.inside) same)
+    (ap (λ (s : State g.row.W.Denot). s.sink) same) (ap (λ (s : State g.row.W.Denot). s.failed) same)
+    (ap (λ (s : Stack). s.around) c.give_up.ensures ∙ ap (λ (s : State g.row.W.Denot). s.around) same
+    ∙ c.in_ok-count.ensures.bare)
+>>>>>>> 3a83d6df7f7e19439dfcbf376715fb55d72511ae
 
 pub returns : goal.returns
 returns g c =
