@@ -21,10 +21,7 @@ use Rattle.picky_der_core.specs.Element.{tlv}
 use Rattle.picky_der_core.specs.Wrapper.{wrapper_tag, wrapper_front, keeps_header, HasTagNumber}
 use Rattle.picky_der_core.specs.Readable.{has_tag_numbers, IsWritable}
 use Rattle.picky_der_ser.specs.Headers.{tree_of, is_set, CanAllBeOpen}
-use Rattle.picky_der_ser.specs.State.{State, Level, Held, Writing, with_member, final_content, beneath}
-use Rattle.picky_der_ser.specs.declared.levels.Mark.{Mark}
-use Rattle.picky_der_ser.specs.Marks.{IsOpen, level_in, writing}
-use Rattle.picky_der_ser.specs.Sequences.{HasOpenLevel}
+use Rattle.picky_der_ser.specs.State.{State, Level, Writing, with_member, final_content, beneath}
 use Rattle.picky_der_ser.specs.Calls.{AddsIn, RefusesIn, Writes, RefusesWrite, UntouchedUnlessFailed}
 use Rattle.picky_der_ser.specs.Calls.{MemoryExcuse, OpensLevel, AddsMember, RefusesToAdd, WritesContent, EndsLevel}
 use Rattle.picky_der_ser.proofs.Alike.{past_under, unwritable-by, refused_unwritable, writes-alike, fails-alike}
@@ -283,20 +280,6 @@ wrapped_part ws w t h =
     by_cases false e = omega (arith, h.fits, holds_wrapped true ws w t e)
 
 module _ {W : Type 0} (g : Ghosts W) where
-  -- the wrappers of a level that was opened can be open
-  pub open_numbers : (header : Header) (m : Mark) (old new : State W) → old.failed ≡ None
-      → OpensLevel g header old (writing m new) → HasOpenLevel m new.failed new.inside new.pending
-      → CanAllBeOpen old.around
-  open_numbers header m old new f o still =
-      let now : new.failed ≡ None = ap (λ (s : Writing W). s.failed) o.opened ∙ f in
-      let k : IsOpen m new.inside new.pending =
-      subst (λ x. IfNone x (IsOpen m new.inside new.pending)) now still in
-      subst CanAllBeOpen (ap (λ (s : Writing W). s.level.around) o.opened) (numbers_at new.inside new.pending k)
-    where
-      numbers_at : (inside p : Option Held) → IsOpen m inside p → CanAllBeOpen (level_in m p).around
-      numbers_at inside None k = absurd k
-      numbers_at inside (Some h) k = k.0.numbers
-
   -- nothing was written in it, so nothing is of it
   pub nested_absent : (w : Wrapper) (t : Tree) (old new : State W) (now d : Writing W) → OpensLevel g Raw old now
       → CanAllBeOpen old.around → AddsMember g (Tree.wrapped w t) now d → 0 ≡ length (der (Tree.wrapped w t))

@@ -1,12 +1,3 @@
-<<<<<<< HEAD
-use Rattle.std.proofs.Common.{◌≡◌, refl, ap, sym, ◌∙◌, subst, rules, arith}
-use Rattle.std.proofs.lemmas.Result.{err_from_is_err_and}
-use Rattle.picky_der_core.specs.Tree.{Tree}
-use Rattle.picky_der_ser.specs.State.{Stack, Writing}
-use Rattle.picky_der_ser.specs.declared.header.Header.TheVariants.{Raw}
-use Rattle.picky_der_ser.proofs.WrapWrites.{one_wrote, one_failed, one_counted, one_continues, one_kept, one_refused}
-use Rattle.picky_der_ser.proofs.WrapWrites.{alike_wrapped, there_by, wrapped_part, nested_absent, open_numbers}
-=======
 use Rattle.std.proofs.Common.{◌≡◌, ◌≢◌, ℕ, length, rules, refl, sym, ap, ◌∙◌, arith}
 use Rattle.std.proofs.lemmas.Result.{err_from_is_err_and}
 use Rattle.picky_der_core.specs.Encoding.{der}
@@ -16,31 +7,20 @@ use Rattle.picky_der_ser.specs.State.{State, Stack, Writing}
 use Rattle.picky_der_ser.proofs.WrapWrites.{one_wrote, one_failed, one_counted, one_continues, one_kept, one_refused}
 use Rattle.picky_der_ser.proofs.WrapWrites.{alike_wrapped, there_by, wrapped_part, nested_absent}
 use Rattle.picky_der_ser.proofs.LevelWrites.{opened_numbers}
->>>>>>> 3a83d6df7f7e19439dfcbf376715fb55d72511ae
 use Rattle.picky_der_ser.proofs.serializer.Serializer.write_nested.Goals as goal
 
 pub returns-in_err-count : goal.returns-in_err-count
 returns-in_err-count g c =
     let w = g.W.WriteExt in
-<<<<<<< HEAD
-    let u = Tree.wrapped c.args.wrapper (g.T.Serialize.meaning c.args.value.now) in
-=======
     let t = g.T.Serialize.meaning c.args.value.now in
     let u = Tree.wrapped c.args.wrapper t in
->>>>>>> 3a83d6df7f7e19439dfcbf376715fb55d72511ae
     let o = c.open-mark.ensures.opened in
     let h = c.in_err-count.ensures.err in
     let p = err_from_is_err_and c.from_residual.result c.from_residual.ensures.1 in
     let kept = one_kept w Raw refl u _ _ o _ _ h in
     let refused =
-<<<<<<< HEAD
-    one_refused w Raw refl u _ _ o u _ c.write_member_in-count.new.self c.in_err-count.field-0.0
-    c.in_err-count.field-0.0 (wrapped_part _ c.args.wrapper (g.T.Serialize.meaning c.args.value.now)) h refl refl refl
-    in
-=======
     one_refused w Raw refl u _ _ o u _ c.write_member_in.new.self c.in_err-count.field-0.0 c.in_err-count.field-0.0
     (wrapped_part _ c.args.wrapper t) h refl refl refl in
->>>>>>> 3a83d6df7f7e19439dfcbf376715fb55d72511ae
     record {
       wrote = search rules;
       failed = rw (p.1, p.2) (search (rules, refused));
@@ -48,28 +28,6 @@ returns-in_err-count g c =
       continues = search (rules, kept);
     }
 
-<<<<<<< HEAD
-pub returns-then-count-eq0 : goal.returns-then-count-eq0
-returns-then-count-eq0 g c =
-    let w = g.W.WriteExt in
-    let t = g.T.Serialize.meaning c.args.value.now in
-    let o = c.open-mark.ensures.opened in
-    let e = c.in_ok-count.ensures in
-    let numbers =
-    open_numbers w Raw c.open-mark.result _ _ c.requires.had_not_failed o c.open-mark.ensures.still_open in
-    let none = sym c.if-count-eq0.true ∙ e.count in
-    let wrote = nested_absent w c.args.wrapper t _ _ _ _ o numbers e.added none
-    (ap (λ (s : Stack). s.inside) c.give_up.ensures) refl refl (ap (λ (s : Stack). s.around) c.give_up.ensures ∙ e.bare)
-    in
-    let same = ap (λ (s : Writing g.row.W.Denot). s.sink) e.added.added ∙ ap (λ (s : Writing g.row.W.Denot). s.sink)
-    o.opened in
-    record {
-      wrote = wrote;
-      failed = tt;
-      counted = (omega (arith, wrote.no_fault), omega (arith, wrote.no_fault));
-      continues = subst (w.later _) (sym same) (g.met.W.WriteExt.later_refl _);
-    }
-=======
 pub returns-then-count-eq0-clause-wrote : goal.returns-then-count-eq0-clause-wrote
 returns-then-count-eq0-clause-wrote g c =
     let w = g.W.WriteExt in
@@ -95,7 +53,6 @@ returns-then-count-eq0-clause-wrote g c =
     (ap (λ (s : State g.row.W.Denot). s.sink) same) (ap (λ (s : State g.row.W.Denot). s.failed) same)
     (ap (λ (s : Stack). s.around) c.give_up.ensures ∙ ap (λ (s : State g.row.W.Denot). s.around) same
     ∙ c.in_ok-count.ensures.bare)
->>>>>>> 3a83d6df7f7e19439dfcbf376715fb55d72511ae
 
 pub returns : goal.returns
 returns g c =
