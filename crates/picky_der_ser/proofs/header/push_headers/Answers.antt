@@ -1,5 +1,5 @@
-use Rattle.std.proofs.Common.{◌≡◌, ℕ, ◌+◌, ◌<◌, ◌^◌, Bool, true, false, cond, List, ◌++◌, length, Option, None, Some, Vec}
-use Rattle.std.proofs.Common.{Global, refl, sym, ap, ap₂, ◌∙◌, arith, append_assoc}
+use Rattle.std.proofs.Common.{◌≡◌, ℕ, ◌+◌, ◌<◌, ◌^◌, Bool, true, false, cond, List, ◌++◌, length, Option, None, Some}
+use Rattle.std.proofs.Common.{Vec, Global, refl, sym, ap, ap₂, ◌∙◌, arith, append_assoc}
 use Rattle.std.specs.Option.{is_some}
 use Rattle.picky_der_core.specs.declared.asn1.wrapper.Wrapper.{Wrapper}
 use Rattle.picky_der_core.specs.Element.{length_octets, tlv}
@@ -91,7 +91,8 @@ returns-in_ok-extend_from_slice-2-clause-ok c = λ d e.
     c.in_ok-extend_from_slice-2.ensures.items ∙ ap (λ x. u ++ x) c.deref-in-Some-own.ensures.0 in
     added u c.opening-in-Some-own.result.items d _ (headed own d) is (c.opening-in-Some-own.ensures d e
     ∙ ap (λ t. headed t d) (sym c.in-Some-own.is)) ∙ first
-    ∙ ap (λ x. s ++ x) (sym (der-known c.args.around c.args.around c.args.header own d refl (sym c.own_tag-own.ensures)))
+    ∙ ap (λ x. s ++ x) (sym (der-known c.args.around c.args.around c.args.header own d refl
+    (sym c.own_tag-own.ensures)))
 
 pub returns-in_default-own-clause-ok : goal.returns-in_default-own-clause-ok
 returns-in_default-own-clause-ok c = λ d e.
@@ -118,4 +119,5 @@ returns-in_default-own-clause-ok c = λ d e.
           ∙ ap (λ o. s ++ wrapped_in o (headed own d)) (sym w.in_default.is)
     ] in
     ap (λ t. u ++ headed t d) (sym c.in_default-own.is) ∙ first
-    ∙ ap (λ x. s ++ x) (sym (der-known c.args.around c.args.around c.args.header own d refl (sym c.own_tag-own.ensures)))
+    ∙ ap (λ x. s ++ x) (sym (der-known c.args.around c.args.around c.args.header own d refl
+    (sym c.own_tag-own.ensures)))

@@ -35,5 +35,6 @@ returns-in-Err g c =
     let failed = rw (← c.self.view_is) at c.requires.had_not_failed in
     let inside = rw (← c.self.view_is) at c.requires.inside in
     rw (← c.self.view_is, c.fail.ensures.same, c.fail.ensures.error)
-    (plain_refused w t _ _ _ fits (λ x y outside z. absurd (inside outside)) (fails_memory w t _ _ _ failed refl refl refl) refl (omega arith)
+    (plain_refused w t _ _ _ fits (λ x y outside z. absurd (inside outside))
+    (fails_memory w t _ _ _ failed refl refl refl) refl (omega arith)
     (g.met.W.WriteExt.later_refl _))

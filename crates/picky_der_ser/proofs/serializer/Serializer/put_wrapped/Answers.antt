@@ -33,11 +33,12 @@ returns g c =
     let wrapped = rw (← c.self.view_is) at c.requires.wrapped in
     let numbers : CanAllBeOpen ws = subst CanAllBeOpen c.around-around.ensures.around c.around-around.ensures.numbers in
     let whole : hs ++ bs ≡ der (under ws t) =
-    c.in-Ok.ensures.ok bs refl ∙ ap (λ x. x ++ der (under _ t)) c.new-headers.ensures
+    c.in-Ok.ensures.ok bs refl ∙ ap (λ x. x ++ der (under _ t)) c.new-headers.ensures.items
     ∙ ap (λ vs. der (under vs t)) c.around-around.ensures.around in
     let is : c.deref.result.now ++ bs ≡ der (under ws t) = ap (λ x. x ++ bs) c.deref.ensures.0 ∙ whole in
     let small : length (c.deref.result.now ++ bs) < 2 ^ 64 = omega (arith, length-append c.deref.result.now bs) in
-    let writable = writable_counted ws c.args.header bs (numbers, c.requires.number) (omega (arith, small, ap length is)) in
+    let writable =
+    writable_counted ws c.args.header bs (numbers, c.requires.number) (omega (arith, small, ap length is)) in
     rw (← c.self.view_is) (plain_outside w t _ c.settle.new.self _ _ r _ c.settle.ensures.same c.settle.ensures.sink.0
     c.settle.ensures.sink.1 fits failed outside (on_ok r outside) c.settle.ensures.ok c.settle.ensures.err
     (wrote_by w (under ws t) _ _ _ r writable is e.count e.appends)
