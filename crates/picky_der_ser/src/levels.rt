@@ -204,33 +204,45 @@ impl Levels {
         requires { HasNumber header }
         ensures { Opens header self.old result self.new }
     {
-        let own = own_tag(None, header);
-        if let Some(tag) = own {
-            let identifier = tag.inner();
-            if self.place == Place::Member && self.bytes.capacity() - self.bytes.len() >= 2 {
-                return self.open_short(header, identifier);
-            }
+        let mut mark = Mark {
+            at: 0,
+            start: 0,
+            first_seam: 0,
+            header,
+            around: None,
+            place: Place::OpenMember,
+            is_ready: false,
+            has_tag: false,
+        };
+        if !self.open_short(&mut mark) {
+            self.open_any(&mut mark);
         }
-        self.open_any(header)
+        mark
     }
 
-    // The same in another level and in no wrapper, where there is room for a short header with this tag.
+    // The same in another level and in no wrapper, where there is room for a short header. Else nothing is done.
     #[inline(always)]
-    fn open_short(&mut self, header: Header, identifier: u8) -> Mark
-        requires number { HasNumber header }
-        requires tag { own_tag true header ≡ Some identifier }
-        requires inside { self.old.inside ≢ None }
-        requires bare { (self.old.pending ≡ None) × (self.old.around ≡ []) }
-        ensures { Opens header self.old result self.new }
+    fn open_short(&mut self, mark: &mut Mark) -> bool
+        requires { HasNumber mark.old.header }
+        ensures yes { result ≡ true → Opens mark.old.header self.old mark.new self.new }
+        ensures no { result ≡ false → (self.new ≡ self.old) × (mark.new ≡ mark.old) }
     {
+        let header = mark.header;
+        let own = own_tag(None, header);
+        let Some(tag) = own else {
+            return false;
+        };
         let at = self.bytes.len();
+        if self.place != Place::Member || self.bytes.capacity() - at < 2 {
+            return false;
+        }
         let first_seam = self.seams.len();
-        // Where there is room this doesn't fail.
-        let has_room = self.bytes.extend_from_slice(&[identifier, 0]).is_ok();
+        // There is room, so this doesn't fail.
+        let has_room = self.bytes.extend_from_slice(&[tag.inner(), 0]).is_ok();
         self.place = Place::OpenMember;
         self.kept = at;
         self.kept_seams = first_seam;
-        Mark {
+        *mark = Mark {
             at,
             start: self.bytes.len(),
             first_seam,
@@ -239,16 +251,18 @@ impl Levels {
             place: Place::OpenMember,
             is_ready: has_room && !header.is_set(),
             has_tag: has_room,
-        }
+        };
+        true
     }
 
     // The same in any place.
     #[inline(never)]
-    fn open_any(&mut self, header: Header) -> Mark
-        requires { HasNumber header }
-        ensures { Opens header self.old result self.new }
+    fn open_any(&mut self, mark: &mut Mark)
+        requires { HasNumber mark.old.header }
+        ensures { Opens mark.old.header self.old mark.new self.new }
     {
         self.give_up();
+        let header = mark.header;
         let around = self.around();
         let at = self.bytes.len();
         let first_seam = self.seams.len();
@@ -266,7 +280,7 @@ impl Levels {
         self.place = place;
         self.kept = at;
         self.kept_seams = first_seam;
-        Mark {
+        *mark = Mark {
             at,
             start: self.bytes.len(),
             first_seam,
@@ -275,7 +289,7 @@ impl Levels {
             place,
             is_ready: has_room && !header.is_set(),
             has_tag: false,
-        }
+        };
     }
 
     // From here on a member of the level that was opened last is written. Returns the level's mark.
