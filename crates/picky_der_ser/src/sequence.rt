@@ -70,7 +70,8 @@ impl<'a, W: WriteExt> Sequence<'a, W> {
     pub fn end(self) -> Result<usize>
         ensures { EndsLevel W.WriteExt.own (state_of self.entry) result self.exit.0.now }
     {
-        let Sequence { ser, mark } = self;
+        let mark = self.mark;
+        let ser: &mut Serializer<W> = self.ser;
         ser.close(&mark)
     }
 }

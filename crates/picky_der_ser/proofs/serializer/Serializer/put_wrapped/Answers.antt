@@ -35,7 +35,7 @@ returns g c =
     let whole : hs ++ bs ≡ der (under ws t) =
     c.in-Ok.ensures.ok bs refl ∙ ap (λ x. x ++ der (under _ t)) c.new-headers.ensures.items
     ∙ ap (λ vs. der (under vs t)) c.around-around.ensures.around in
-    let is : c.deref.result.now ++ bs ≡ der (under ws t) = ap (λ x. x ++ bs) c.deref.ensures.0 ∙ whole in
+    let is : c.deref.result.now ++ bs ≡ der (under ws t) = ap (λ x. x ++ bs) c.deref.ensures.value ∙ whole in
     let small : length (c.deref.result.now ++ bs) < 2 ^ 64 = omega (arith, length-append c.deref.result.now bs) in
     let writable =
     writable_counted ws c.args.header bs (numbers, c.requires.number) (omega (arith, small, ap length is)) in
