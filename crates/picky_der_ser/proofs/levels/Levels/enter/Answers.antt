@@ -43,6 +43,7 @@ returns c =
           let more : i.bytes.items ≡ b ++ g.0 = same_bytes ∙ g.1 ∙ ap (λ x. x ++ g.0) bytes in
           let same_start = ap (λ (x : Mark). x.start) w.mark-is in
           let same_seams : i.seams.items ≡ q = rw w.self-inside-is seams in
+          let same_header = ap (λ (x : Mark). x.header) w.mark-is in
           let start : n.start ≡ length i.bytes.items = omega (arith, same_start, ap length same_bytes) in
           let last : m.start ≡ length b = omega (arith, mark.room, fits) in
           let longer : length b ≤ length i.bytes.items = omega (arith, ap length more, length-append b g.0) in
@@ -52,13 +53,14 @@ returns c =
           (drop_all n.start i.bytes.items (omega (arith, start)) ∙ sym (drop_all m.start b (omega (arith, last))))
           (unset w.is_set.result _ _ w.is_set.ensures (ap (λ (x : Mark). x.is_ready) w.mark-is))
           (λ e. absurd (omega (arith, (mark.has_tag e).room, last)))
-          (next ∙ ap (λ h. next_seams h i.seams.items (c.len-2.result - n.start)) (ap (λ (x : Mark). x.header) w.mark-is)
+          (next ∙ ap (λ h. next_seams h i.seams.items (c.len-2.result - n.start)) same_header
           ∙ ap₂ (λ x l. next_seams m.header x (l - n.start)) same_seams len)
           k.0 k.1.1
       | else-len-mark w ↦
           let same : i.bytes.items ≡ b = rw w.self-inside-is refl in
           let same_seams : i.seams.items ≡ q = rw w.self-inside-is refl in
           let more = grown false b i.bytes.items [] same in
+          let same_header = ap (λ (x : Mark). x.header) w.mark-is in
           let start : n.start ≡ m.start = ap (λ (x : Mark). x.start) w.mark-is in
           enters_by m n b q more.0 i.bytes.items p old mark
           (w.mark-is ∙ ap (λ (x : Mark). record m { start = x.start; is_ready = x.is_ready }) (sym w.mark-is)) more.1
@@ -66,7 +68,7 @@ returns c =
           (ap₂ (λ x y. drop x y) start same)
           (λ e. mark.ready (sym (ap (λ (x : Mark). x.is_ready) w.mark-is) ∙ e))
           (λ e. start)
-          (next ∙ ap (λ h. next_seams h i.seams.items (c.len-2.result - n.start)) (ap (λ (x : Mark). x.header) w.mark-is)
+          (next ∙ ap (λ h. next_seams h i.seams.items (c.len-2.result - n.start)) same_header
           ∙ ap₂ (λ x l. next_seams m.header x (l - n.start)) same_seams len)
           k.0 k.1.1
     ]

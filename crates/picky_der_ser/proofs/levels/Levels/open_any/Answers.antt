@@ -41,11 +41,16 @@ returns c =
     let at : c.len-at.result ≡ length b = omega arith in
     let start : c.len.result ≡ length i.bytes.items = omega arith in
     let no_seams : c.len-first_seam.result ≡ length q = omega arith in
+    let numbers = c.around-around.ensures.numbers in
     elim c.if-is_inside.branch [
-      | then-is_inside w ↦ rw seams (opens_member _ old o.place o.kept o.kept_seams i.wrapper b q more.0 _ more.1 at start
-          no_seams none was around c.around-around.ensures.numbers c.requires ready refl (λ e. c.is_inside.ensures.yes
-          w.if-is_inside.true (inside-none o.place i.place _ _ _ _ _ _ place (sym was ∙ e))) w.place-is)
-      | else-is_inside w ↦ rw seams (opens_outside _ old o.place o.kept o.kept_seams i.wrapper b q more.0 _ more.1 at
-          start no_seams none was around c.around-around.ensures.numbers c.requires ready refl (was ∙ inside-none i.place
-          o.place _ _ _ _ _ _ (sym place) (c.is_inside.ensures.no w.if-is_inside.false)) w.place-is)
+      | then-is_inside w ↦
+          let some : old.inside ≢ None = λ e. c.is_inside.ensures.yes w.if-is_inside.true
+          (inside-none o.place i.place _ _ _ _ _ _ place (sym was ∙ e)) in
+          rw seams (opens_member _ old o.place o.kept o.kept_seams i.wrapper b q more.0 _ more.1 at start no_seams none
+          was around numbers c.requires ready refl some w.place-is)
+      | else-is_inside w ↦
+          let empty : old.inside ≡ None = was ∙ inside-none i.place o.place _ _ _ _ _ _ (sym place)
+          (c.is_inside.ensures.no w.if-is_inside.false) in
+          rw seams (opens_outside _ old o.place o.kept o.kept_seams i.wrapper b q more.0 _ more.1 at start no_seams none
+          was around numbers c.requires ready refl empty w.place-is)
     ]
