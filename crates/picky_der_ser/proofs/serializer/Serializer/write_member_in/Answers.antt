@@ -27,6 +27,7 @@ returns-clause-added g c =
       inside = c.leave.new.self.inside;
       pending = c.leave.new.self.pending;
     } in
+    let count = c.in_ok-count.count in
     let e = c.in_ok-enter.ensures.ok in
     let bare = bare_state s (ap (λ (x : Stack). x.around) e.entered.is) (ap (λ (x : Stack). x.pending) e.entered.is) in
     let same : c.match-around.self
@@ -38,10 +39,10 @@ returns-clause-added g c =
           rw none (w.self-is ∙ bare)
     ] in
     let wrote : Writes g.W.WriteExt t
-    (record { sink = s.sink; around = ws; failed = s.failed; inside = s.inside; pending = None }) c.in_ok-count.count v =
-    subst (λ x. Writes g.W.WriteExt t x c.in_ok-count.count v) same
+    (record { sink = s.sink; around = ws; failed = s.failed; inside = s.inside; pending = None }) count v =
+    subst (λ x. Writes g.W.WriteExt t x count v) same
     (rw (← c.self-2.view_is) at c.in_ok-count.ensures.wrote) in
-    member_added g.W.WriteExt c.args.mark.now c.enter.new.mark t c.args.self.now s v new ws c.in_ok-count.count e wrote
+    member_added g.W.WriteExt c.args.mark.now c.enter.new.mark t c.args.self.now s v new ws count e wrote
     c.leave.ensures refl refl
 
 pub returns-clause-still_open : goal.returns-clause-still_open
@@ -64,6 +65,7 @@ returns-clause-still_open g c =
       inside = c.leave.new.self.inside;
       pending = c.leave.new.self.pending;
     } in
+    let count = c.in_ok-count.count in
     let e = c.in_ok-enter.ensures.ok in
     let bare = bare_state s (ap (λ (x : Stack). x.around) e.entered.is) (ap (λ (x : Stack). x.pending) e.entered.is) in
     let same : c.match-around.self
@@ -75,11 +77,11 @@ returns-clause-still_open g c =
           rw none (w.self-is ∙ bare)
     ] in
     let wrote : Writes g.W.WriteExt t
-    (record { sink = s.sink; around = ws; failed = s.failed; inside = s.inside; pending = None }) c.in_ok-count.count v =
-    subst (λ x. Writes g.W.WriteExt t x c.in_ok-count.count v) same
+    (record { sink = s.sink; around = ws; failed = s.failed; inside = s.inside; pending = None }) count v =
+    subst (λ x. Writes g.W.WriteExt t x count v) same
     (rw (← c.self-2.view_is) at c.in_ok-count.ensures.wrote) in
     open_unless c.enter.new.mark z.failed new.inside new.pending (member_open g.W.WriteExt c.args.mark.now
-    c.enter.new.mark t c.args.self.now s v new ws c.in_ok-count.count e wrote c.leave.ensures)
+    c.enter.new.mark t c.args.self.now s v new ws count e wrote c.leave.ensures)
 
 pub returns-clause-bare : goal.returns-clause-bare
 returns-clause-bare g c =
@@ -101,6 +103,7 @@ returns-clause-bare g c =
       inside = c.leave.new.self.inside;
       pending = c.leave.new.self.pending;
     } in
+    let count = c.in_ok-count.count in
     let e = c.in_ok-enter.ensures.ok in
     let bare = bare_state s (ap (λ (x : Stack). x.around) e.entered.is) (ap (λ (x : Stack). x.pending) e.entered.is) in
     let same : c.match-around.self
@@ -112,8 +115,8 @@ returns-clause-bare g c =
           rw none (w.self-is ∙ bare)
     ] in
     let wrote : Writes g.W.WriteExt t
-    (record { sink = s.sink; around = ws; failed = s.failed; inside = s.inside; pending = None }) c.in_ok-count.count v =
-    subst (λ x. Writes g.W.WriteExt t x c.in_ok-count.count v) same
+    (record { sink = s.sink; around = ws; failed = s.failed; inside = s.inside; pending = None }) count v =
+    subst (λ x. Writes g.W.WriteExt t x count v) same
     (rw (← c.self-2.view_is) at c.in_ok-count.ensures.wrote) in
-    member_bare g.W.WriteExt c.args.mark.now c.enter.new.mark t c.args.self.now s v new ws c.in_ok-count.count e wrote
+    member_bare g.W.WriteExt c.args.mark.now c.enter.new.mark t c.args.self.now s v new ws count e wrote
     c.leave.ensures
