@@ -2,7 +2,7 @@ use Rattle.std.proofs.Common.{◌≡◌, ◌<◌, ◌^◌, ◌++◌, length, ap,
 use Rattle.picky_der_core.specs.Encoding.{der}
 use Rattle.picky_der_core.specs.OpenWrappers.{under}
 use Rattle.picky_der_core.specs.WriterFaults.{once_at_most}
-use Rattle.picky_der_ser.specs.Headers.{tree_of, CanAllBeOpen}
+use Rattle.picky_der_ser.specs.Headers.{tree_of, wrappers, CanAllBeOpen}
 use Rattle.picky_der_ser.proofs.Alike.{writable-content}
 use Rattle.picky_der_ser.proofs.StateWrites.{plain_outside, plain_refused, wrapped_fault, untouched_by_fault, wrote_by}
 use Rattle.picky_der_ser.proofs.StateWrites.{refused_by, fails_memory, writable_counted, on_ok}
@@ -33,7 +33,8 @@ returns g c =
     let wrapped = rw (← c.self.view_is) at c.requires.wrapped in
     let numbers : CanAllBeOpen ws = subst CanAllBeOpen c.around-around.ensures.around c.around-around.ensures.numbers in
     let whole : hs ++ bs ≡ der (under ws t) =
-    c.in-Ok.ensures.ok bs refl ∙ ap (λ x. x ++ der (under _ t)) c.new-headers.ensures.items
+    c.in-Ok.ensures.ok bs refl
+    ∙ ap (λ x. x ++ der (under (wrappers c.around-around.result) t)) c.new-headers.ensures.items
     ∙ ap (λ vs. der (under vs t)) c.around-around.ensures.around in
     let is : c.deref.result.now ++ bs ≡ der (under ws t) = ap (λ x. x ++ bs) c.deref.ensures.value ∙ whole in
     let small : length (c.deref.result.now ++ bs) < 2 ^ 64 = omega (arith, length-append c.deref.result.now bs) in
