@@ -3,9 +3,10 @@ use Rattle.std.proofs.Common.{not, ◌≡◌, ◌≢◌, ℕ, ◌≤◌, ◌<◌
 use Rattle.std.proofs.Common.{take}
 use Rattle.std.proofs.Common.{drop, Option, None, Some, refl, sym, ap, ap₂, ◌∙◌, arith, subst, length-append, ◌⊎◌}
 use Rattle.std.proofs.Common.{inl, inr}
-use Rattle.std.proofs.Math.Seq.{take-append_seam}
+use Rattle.std.proofs.Math.Seq.{take-append_seam, drop-append_seam}
 use Rattle.std.proofs.lemmas.Bool.{false≢true}
 use Rattle.std.specs.Prelude.{if◌then◌else◌}
+use Rattle.std.specs.Option.{is_some}
 use Rattle.std.proofs.lemmas.List.{take-append-le, drop-append-le, take_all, drop_all, length-drop, append-nil}
 use Rattle.std.proofs.lemmas.List.{length-take-le}
 use Rattle.picky_der_core.specs.declared.asn1.wrapper.Wrapper.{Wrapper}
@@ -17,11 +18,12 @@ use Rattle.picky_der_ser.specs.declared.header.Header.{Header}
 use Rattle.picky_der_ser.specs.declared.levels.Mark.{Mark}
 use Rattle.picky_der_ser.specs.declared.levels.Place.{Place}
 use Rattle.picky_der_ser.specs.declared.levels.Place.TheVariants as place
-use Rattle.picky_der_ser.specs.Headers.{wrappers, is_set, HasNumber, CanAllBeOpen}
+use Rattle.picky_der_ser.specs.Headers.{wrappers, is_set, own_tag, HasNumber, CanAllBeOpen}
 use Rattle.picky_der_ser.specs.Seams.{AreSeams, last_seam, next_seams}
 use Rattle.picky_der_ser.specs.State.{Level, Held, Stack, State, extended, stack, with_bytes, with_member}
 use Rattle.picky_der_ser.specs.State.{at_next_member}
 use Rattle.picky_der_ser.specs.Marks.{level_at, level_in, held_of, first, inside_at, pending_at, around_at, is_open}
+use Rattle.picky_der_ser.specs.Marks.{is_inside, tags}
 use Rattle.picky_der_ser.specs.Marks.{outside, HasTag, IsMark, IsOpen, IsEntered, Opens, Enters}
 use Rattle.picky_der_ser.specs.Marks.{writing}
 use Rattle.picky_der_ser.specs.Calls.{Writes, AddsIn, AddsMember, EntersLevel}
@@ -232,12 +234,37 @@ pub unset : (b s r : Bool) → b ≡ s → r ≡ not b → r ≡ true → s ≡ 
 unset true s r e is ready = absurd (false≢true (sym is ∙ ready))
 unset false s r e is ready = sym e
 
+-- there is something around a member
+pub inside-some : (p : Place) (n f : ℕ) (h : Held) (inside : Option Held) → p ≡ place.Member
+    → inside ≡ inside_at p n f h → inside ≢ None
+inside-some p n f h inside e was x =
+    let some : Some h ≡ None = sym (ap (λ r. inside_at r n f h) e) ∙ sym was ∙ x in
+    cc
+
+-- where there was room, these bytes were added
+pub grown_all : (ok : Bool) (s t pad : List ℕ) → ok ≡ true → t ≡ (if ok then s ++ pad else s) → t ≡ s ++ pad
+grown_all ok s t pad e is = is ∙ ap (λ b. if b then s ++ pad else s) e
+
+-- a tag, before a byte for the length
+pub tag_there : (m : Mark) (b q : List ℕ) (tag : ℕ) → m.at ≡ length b → is_inside m.place ≡ true
+    → is_some m.around ≡ false → m.start ≡ m.at + 2 → own_tag true m.header ≡ Some tag
+    → HasTag m (held_of (b ++ (tag ∷ 0x00 ∷ [])) q)
+tag_there m b q tag at inside bare room own = record {
+  inside = inside;
+  bare = bare;
+  room = room;
+  tag = ap tags own
+      ∙ sym (ap (λ n. take 1 (drop n (b ++ (tag ∷ 0x00 ∷ [])))) at
+      ∙ ap (take 1) (drop-append_seam b (tag ∷ 0x00 ∷ [])));
+}
+
 -- in place of none
 module _ (m : Mark) (old : Stack) (p : Place) (n f : ℕ) (w : Wrapper) (b q pad bytes : List ℕ)
     (more : bytes ≡ b ++ pad) (at : m.at ≡ length b) (start : m.start ≡ length bytes) (seams : m.first_seam ≡ length q)
     (none : pending_at p (held_of b q) ≡ None) (was : old.inside ≡ inside_at p n f (held_of b q))
     (around : wrappers m.around ≡ old.around) (numbers : CanAllBeOpen (wrappers m.around)) (number : HasNumber m.header)
-    (ready : m.is_ready ≡ true → is_set m.header ≡ false) (untagged : m.has_tag ≡ false) where
+    (ready : m.is_ready ≡ true → is_set m.header ≡ false)
+    (tagged : m.has_tag ≡ true → HasTag m (held_of (b ++ pad) q)) where
   wide : m.start ≡ length b + length pad
   wide = omega (arith, start, ap length more, length-append b pad)
 
@@ -258,7 +285,7 @@ module _ (m : Mark) (old : Stack) (p : Place) (n f : ℕ) (w : Wrapper) (b q pad
     is = stacked;
     outer = outer;
     mark = subst (λ x. IsMark m (held_of x q)) (sym more) (fresh_mark m b q pad at wide seams is numbers number ready
-        (λ e. absurd (false≢true (sym untagged ∙ e))));
+        tagged);
     level = ap (λ x. level_at m (held_of x q)) more ∙ fresh_level m b q pad at wide seams
         ∙ ap (empty_level m.header) around;
   }

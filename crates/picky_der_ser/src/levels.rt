@@ -232,8 +232,11 @@ impl Levels {
         let Some(tag) = own else {
             return false;
         };
+        let Place::Member = self.place else {
+            return false;
+        };
         let at = self.bytes.len();
-        if self.place != Place::Member || self.bytes.capacity() - at < 2 {
+        if self.bytes.capacity() - at < 2 {
             return false;
         }
         let first_seam = self.seams.len();

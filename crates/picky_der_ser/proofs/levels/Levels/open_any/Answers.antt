@@ -1,4 +1,5 @@
 use Rattle.std.proofs.Common.{◌≡◌, ◌≢◌, ℕ, Bool, true, false, List, [], ◌++◌, length, None, arith, refl, sym, ap, ◌∙◌}
+use Rattle.std.proofs.lemmas.Bool.{false≢true}
 use Rattle.std.proofs.lemmas.Bool.Decides.{nat_tests}
 use Rattle.picky_der_ser.specs.State.{Stack}
 use Rattle.picky_der_ser.specs.Marks.{held_of, inside_at}
@@ -31,9 +32,9 @@ returns c =
       | then-has_room w ↦ rw w.self-inside-is refl
       | else-has_room w ↦ rw w.self-inside-is refl
     ] in
-    let ready : c.if-has_room-2.result ≡ true → is_set c.args.mark.now.header ≡ false = elim c.if-has_room-2.branch [
-      | then-has_room-2 w ↦ unset w.is_set.result _ _ w.is_set.ensures w.result-is
-      | else-has_room-2 w ↦ λ e. let test = sym w.result-is ∙ e in absurd (grind (arith, nat_tests))
+    let ready : c.if-has_room-2.mark ≡ true → is_set c.args.mark.now.header ≡ false = elim c.if-has_room-2.branch [
+      | then-has_room-2 w ↦ unset w.is_set.result _ _ w.is_set.ensures w.mark-is
+      | else-has_room-2 w ↦ λ e. let test = sym w.mark-is ∙ e in absurd (grind (arith, nat_tests))
     ] in
     let around = c.around-around.ensures.around ∙ ap (λ (s : Stack). s.around) c.give_up.ensures in
     let was : old.inside ≡ inside_at o.place o.kept o.kept_seams (held_of b q) = sym (ap (λ (s : Stack). s.inside) v) in
@@ -47,10 +48,10 @@ returns c =
           let some : old.inside ≢ None = λ e. c.is_inside.ensures.yes w.if-is_inside.true
           (inside-none o.place i.place _ _ _ _ _ _ place (sym was ∙ e)) in
           rw seams (opens_member _ old o.place o.kept o.kept_seams i.wrapper b q more.0 _ more.1 at start no_seams none
-          was around numbers c.requires ready refl some w.place-is)
+          was around numbers c.requires ready (λ e. absurd (false≢true e)) some w.place-is)
       | else-is_inside w ↦
           let empty : old.inside ≡ None = was ∙ inside-none i.place o.place _ _ _ _ _ _ (sym place)
           (c.is_inside.ensures.no w.if-is_inside.false) in
           rw seams (opens_outside _ old o.place o.kept o.kept_seams i.wrapper b q more.0 _ more.1 at start no_seams none
-          was around numbers c.requires ready refl empty w.place-is)
+          was around numbers c.requires ready (λ e. absurd (false≢true e)) empty w.place-is)
     ]
