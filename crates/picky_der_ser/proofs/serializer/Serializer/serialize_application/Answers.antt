@@ -1,10 +1,11 @@
-use Rattle.std.proofs.Common.{rules, refl, arith}
+use Rattle.std.proofs.Common.{◌≡◌, None, rules, refl, arith}
 use Rattle.std.proofs.lemmas.Result.{err_from_is_err_and}
 use Rattle.picky_der_core.specs.declared.asn1.wrapper.Wrapper.TheVariants as wrapper
 use Rattle.picky_der_core.specs.Tree.{Tree}
 use Rattle.picky_der_ser.specs.declared.header.Header.TheVariants.{Application}
 use Rattle.picky_der_ser.proofs.WrapWrites.{one_wrote, one_failed, one_untouched, one_counted, one_continues, one_kept}
 use Rattle.picky_der_ser.proofs.WrapWrites.{one_refused, alike_application, application_part}
+use Rattle.picky_der_ser.proofs.WrapWrites.{application_past}
 use Rattle.picky_der_ser.proofs.serializer.Serializer.serialize_application.Goals as goal
 
 pub returns-in_err-write_member : goal.returns-in_err-write_member
@@ -46,3 +47,10 @@ returns g c =
       counted = one_counted w (Application n) refl t _ _ o _ _ _ a e;
       continues = one_continues w (Application n) refl t _ _ o _ _ _ a e;
     }
+
+pub returns-then-number-gt-MAX_NUMBER-clause-failed :
+    goal.returns-then-number-gt-MAX_NUMBER-clause-failed
+returns-then-number-gt-MAX_NUMBER-clause-failed g c =
+    let f : c.args.self.now.failed ≡ None = search rules in
+    rw (c.fail.ensures.same, c.fail.ensures.error) (application_past g.W.WriteExt c.args.number
+    (g.T.Serialize.meaning c.args.value.now) c.args.self.now (omega (arith, c.if-number-gt-MAX_NUMBER.true)) f)

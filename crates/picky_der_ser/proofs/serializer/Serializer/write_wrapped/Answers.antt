@@ -1,6 +1,6 @@
-use Rattle.std.proofs.Common.{◌≡◌, [], ◌∷◌, None, refl}
+use Rattle.std.proofs.Common.{◌≡◌, [], ◌∷◌, None, refl, rules}
 use Rattle.picky_der_ser.specs.State.{State}
-use Rattle.picky_der_ser.proofs.WrapWrites.{writes-wrapped, fails-wrapped}
+use Rattle.picky_der_ser.proofs.WrapWrites.{writes-wrapped, fails-wrapped, fails-past}
 use Rattle.picky_der_ser.proofs.serializer.Serializer.write_wrapped.Goals as goal
 
 pub returns-clause-wrote : goal.returns-clause-wrote
@@ -48,3 +48,10 @@ returns-clause-failed g c =
     let is : now ≡ record old { around = c.args.wrapper ∷ []; pending = None } = rw c.wrap.ensures refl in
     rw (← c.self.view_is) (fails-wrapped g.W.WriteExt c.args.wrapper (g.T.Serialize.meaning c.args.value.now) old now
     c.serialize.new.ser c.serialize.result bare is c.serialize.ensures.failed)
+
+pub returns-then-not-has_tag_number-clause-failed :
+    goal.returns-then-not-has_tag_number-clause-failed
+returns-then-not-has_tag_number-clause-failed g c =
+    let f : c.self.inside.failed ≡ None = search rules in
+    rw (← c.self.view_is, c.fail.ensures.same, c.fail.ensures.error) (fails-past g.W.WriteExt c.args.wrapper
+    (g.T.Serialize.meaning c.args.value.now) _ (c.if-not-has_tag_number.ensures.no refl) f)
