@@ -21,7 +21,8 @@ returns-clause-yes c = λ yes.
     let place = c.in-Member.is in
     let v = c.self.view_is in
     let more : bytes ≡ b ++ pad =
-    grown_all _ b bytes pad (c.extend_from_slice.ensures.succeeds (omega arith)) c.extend_from_slice.ensures.items in
+    grown_all _ b bytes (c.inner.result ∷ 0x00 ∷ []) (c.extend_from_slice.ensures.succeeds (omega arith))
+    c.extend_from_slice.ensures.items ∙ ap (λ x. b ++ (x ∷ 0x00 ∷ [])) c.inner.ensures in
     let at : c.len-at.result ≡ length b = omega arith in
     let start : c.len.result ≡ length bytes = omega arith in
     let no_seams : c.len-first_seam.result ≡ length q = omega arith in

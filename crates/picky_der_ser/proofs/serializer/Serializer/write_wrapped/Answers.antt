@@ -52,6 +52,6 @@ returns-clause-failed g c =
 pub returns-then-not-has_tag_number-clause-failed :
     goal.returns-then-not-has_tag_number-clause-failed
 returns-then-not-has_tag_number-clause-failed g c =
-    let f : c.self.inside.failed ≡ None = search rules in
-    rw (← c.self.view_is, c.fail.ensures.same, c.fail.ensures.error) (fails-past g.W.WriteExt c.args.wrapper
-    (g.T.Serialize.meaning c.args.value.now) _ (c.if-not-has_tag_number.ensures.no refl) f)
+    let f : c.args.self.now.failed ≡ None = search rules in
+    rw (c.fail.ensures.same, c.fail.ensures.error) (fails-past g.W.WriteExt c.args.wrapper
+    (g.T.Serialize.meaning c.args.value.now) c.args.self.now (c.if-not-has_tag_number.ensures.no refl) f)
