@@ -9,6 +9,7 @@ use crate::{Header, Serialize, Serializer};
 use picky_der_core::Result;
 use picky_der_core::asn1::Tag;
 use picky_der_core::misc::WriteExt;
+use std::marker::PhantomData;
 
 /// A sequence or a set that is being written. If it is dropped without `end`, it writes nothing, and the wrappers that
 /// were open when it began are dropped.
@@ -16,6 +17,8 @@ use picky_der_core::misc::WriteExt;
 pub struct Sequence<'a, W: WriteExt> {
     pub(crate) ser: &'a mut Serializer<W>,
     pub(crate) mark: Mark,
+    // No effect at run time. By this field the proof of `end` knows the type of the header in the mark.
+    pub(crate) header: PhantomData<Header>,
     // Unless the serializer has failed, the level of the mark is the one that was opened last.
     ghost opened: { HasOpenLevel mark ser.now.failed ser.now.inside ser.now.pending } by { HasOpenLevel-prop mark ser.now.failed ser.now.inside ser.now.pending },
 }
@@ -32,7 +35,11 @@ impl<'a, W: WriteExt> Sequence<'a, W> {
         ensures opened { OpensLevel W.WriteExt.own (Header.Tagged tag) ser.old (state_of result) }
     {
         let mark = ser.open(Header::Tagged(tag));
-        Sequence { ser, mark }
+        Sequence {
+            ser,
+            mark,
+            header: PhantomData,
+        }
     }
 
     /// Adds a member, in no wrapper but its own.
