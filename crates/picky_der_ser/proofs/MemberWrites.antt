@@ -177,31 +177,23 @@ module _ {W : Type 0} (g : Ghosts W) where
       (Tree.list kind us)) (sym (a.split ∙ before_none a.done)) (alike_list kind a.done a.numbers)
 
   pub list_wrote : (kind : ListKind) (all : Trees) (old : State W) (now : Writing W) (new : State W)
-      (r : Result ℕ Asn1DerError) (n : ℕ)
-      → EndsLevel g now r new → r ≡ Ok n → Awaits kind Trees.none all old now → Writes g (Tree.list kind all) old n new
-  list_wrote kind all old now new r n h e a =
-      let whole =
+      (r : Result ℕ Asn1DerError) → EndsLevel g now r new → Awaits kind Trees.none all old now
+      → IfOk r (λ n. Writes g (Tree.list kind all) old n new)
+  list_wrote kind all old now new r h a =
       writes-alike g _ _ old new r (same_list kind all old now a)
-      (writes_whatever _ old new _ r (ended kind all old now new r h a).wrote) in
-      subst (λ v. IfOk v (λ m. Writes g (Tree.list kind all) old m new)) e whole
+      (writes_whatever _ old new _ r (ended kind all old now new r h a).wrote)
 
   pub list_failed : (kind : ListKind) (all : Trees) (old : State W) (now : Writing W) (new : State W)
-      (r : Result ℕ Asn1DerError) (e : Asn1DerError) → EndsLevel g now r new → r ≡ Err e
-      → Awaits kind Trees.none all old now
-      → RefusesWrite g (Tree.list kind all) old e new
-  list_failed kind all old now new r e h i a =
-      let whole =
+      (r : Result ℕ Asn1DerError) → EndsLevel g now r new → Awaits kind Trees.none all old now
+      → IfErr r (λ e. RefusesWrite g (Tree.list kind all) old e new)
+  list_failed kind all old now new r h a =
       fails-alike g _ _ old new r (same_list kind all old now a)
-      (fails_whatever _ old new _ r (ended kind all old now new r h a).failed) in
-      subst (λ v. IfErr v (λ m. RefusesWrite g (Tree.list kind all) old m new)) i whole
+      (fails_whatever _ old new _ r (ended kind all old now new r h a).failed)
 
   pub list_untouched : (kind : ListKind) (all : Trees) (old : State W) (now : Writing W) (new : State W)
-      (r : Result ℕ Asn1DerError) (e : Asn1DerError) → EndsLevel g now r new → r ≡ Err e
-      → Awaits kind Trees.none all old now
-      → UntouchedUnlessFailed g old.sink e new.sink
-  list_untouched kind all old now new r e h i a =
-      subst (λ v. IfErr v (λ m. UntouchedUnlessFailed g old.sink m new.sink)) i
-      (ended kind all old now new r h a).untouched
+      (r : Result ℕ Asn1DerError) → EndsLevel g now r new → Awaits kind Trees.none all old now
+      → IfErr r (λ e. UntouchedUnlessFailed g old.sink e new.sink)
+  list_untouched kind all old now new r h a = (ended kind all old now new r h a).untouched
 
 -- ---- the items of a list
 

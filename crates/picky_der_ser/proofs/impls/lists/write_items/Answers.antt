@@ -51,17 +51,21 @@ loop-item-preserved g c =
 
 pub returns : goal.returns
 returns g c =
+    let w = g.W.WriteExt in
+    let kind = list_kind c.args.tag in
     let xs = c.args.items.now in
     let m = g.T.Serialize.meaning in
     let all = trees (map m xs) in
     let past = items_end m xs c.loop-item.item-index (omega (arith, c.loop-item-test.false)) in
-    let a = subst (λ us. Awaits (list_kind c.args.tag) us all c.args.ser.now
-    (writing c.loop-item.seq.mark c.loop-item.seq.ser.now)) past
+    let a = subst (λ us. Awaits kind us all c.args.ser.now (writing c.loop-item.seq.mark c.loop-item.seq.ser.now)) past
     c.loop-item.invariant.awaits in
+    let wrote = list_wrote w kind all _ _ _ c.end.result c.end.ensures a in
+    let failed = list_failed w kind all _ _ _ c.end.result c.end.ensures a in
+    let untouched = list_untouched w kind all _ _ _ c.end.result c.end.ensures a in
     record {
-      wrote = grind (arith, list_wrote, a);
-      failed = grind (arith, list_failed, a);
-      untouched = grind (arith, list_untouched, a);
+      wrote = search (rules, wrote);
+      failed = search (rules, failed);
+      untouched = search (rules, untouched);
       counted = grind (arith, a);
       continues = grind (arith, a);
     }
