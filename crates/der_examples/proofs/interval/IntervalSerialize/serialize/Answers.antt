@@ -1,4 +1,4 @@
-use Rattle.std.proofs.Common.{rules, refl, arith, ◌^◌, ◌-◌, [], ◌∷◌}
+use Rattle.std.proofs.Common.{rules, refl, ◌^◌, ◌-◌, [], ◌∷◌}
 use Rattle.std.proofs.lemmas.Result.{err_from_is_err_and}
 use Rattle.picky_der_core.specs.Tree.{ListKind, Trees, trees}
 use Rattle.picky_der_core.specs.Integer.{unsigned_tree}
@@ -43,7 +43,8 @@ returns-clause-wrote g c =
     opened in
     let whole = list_gained g.W.WriteExt ListKind.sequence _ all _ _ _ _ c.in_ok-serialize_field-2.ensures.added
     gained in
-    grind (arith, list_wrote, whole)
+    let wrote = list_wrote g.W.WriteExt ListKind.sequence all _ _ _ c.end.result c.end.ensures whole in
+    search (rules, wrote)
 
 pub returns-clause-failed : goal.returns-clause-failed
 returns-clause-failed g c =
@@ -53,4 +54,5 @@ returns-clause-failed g c =
     opened in
     let whole = list_gained g.W.WriteExt ListKind.sequence _ all _ _ _ _ c.in_ok-serialize_field-2.ensures.added
     gained in
-    grind (arith, list_failed, whole)
+    let failed = list_failed g.W.WriteExt ListKind.sequence all _ _ _ c.end.result c.end.ensures whole in
+    search (rules, failed)
