@@ -15,7 +15,7 @@ use Rattle.picky_der_ser.specs.declared.levels.Mark.{Mark}
 use Rattle.picky_der_ser.specs.declared.levels.Place.{Place}
 use Rattle.picky_der_ser.specs.Headers.{tree_of, wrappers, keeps_headers, own_tag, headed, wrapped_in}
 use Rattle.picky_der_ser.specs.State.{Held, Stack, final_content}
-use Rattle.picky_der_ser.specs.Marks.{level_at, held_of, inside_at, pending_at, around_at, outside, tags, HasTag}
+use Rattle.picky_der_ser.specs.Marks.{level_at, held_of, inside_at, pending_at, around_at, outside, tags}
 use Rattle.picky_der_ser.specs.Marks.{IsMark}
 use Rattle.picky_der_ser.specs.Marks.{enclosed}
 use Rattle.picky_der_ser.proofs.HeaderBytes.{der-headed, tlv-short}

@@ -1,8 +1,8 @@
 -- What a serializer does with a level, seen from its state.
-use Rattle.std.proofs.Common.{◌≡◌, ◌≢◌, ℕ, ◌<◌, ◌^◌, ◌≤◌, ◌+◌, true, List, [], ◌++◌, length, take, drop, Option, None}
+use Rattle.std.proofs.Common.{◌≡◌, ◌≢◌, ℕ, ◌<◌, ◌^◌, true, List, [], ◌++◌, length, take, drop, Option, None}
 use Rattle.std.proofs.Common.{Some}
 use Rattle.std.proofs.Common.{refl, sym, ap, ◌∙◌, arith, subst, Result, Ok, Err, IfOk, OnOk, IfErr, OnErr}
-use Rattle.std.specs.Prelude.{IfSome, IfNone}
+use Rattle.std.specs.Prelude.{IfNone}
 use Rattle.std.specs.Io.KnownBytes.{Appends}
 use Rattle.std.proofs.Math.Seq.{drop-append_seam}
 use Rattle.std.proofs.lemmas.List.{length-take-le}
@@ -27,7 +27,7 @@ use Rattle.picky_der_ser.specs.Marks.{level_at, level_in, first, inside_at, is_o
 use Rattle.picky_der_ser.specs.Marks.{IsOpen, Opens}
 use Rattle.picky_der_ser.specs.Sequences.{HasOpenLevel}
 use Rattle.picky_der_ser.specs.Calls.{OpensLevel, EntersLevel, EndsLevel, RefusesIn, RefusesWrite, RefusesToAdd}
-use Rattle.picky_der_ser.specs.Calls.{MemoryExcuse, UntouchedUnlessFailed}
+use Rattle.picky_der_ser.specs.Calls.{MemoryExcuse}
 use Rattle.picky_der_ser.proofs.LevelMarks.{within, held_is, open_member}
 use Rattle.picky_der_ser.proofs.StateWrites.{writable_counted, wrote_by, refused_by, ends_inside, ends_outside, on_ok}
 use Rattle.picky_der_ser.proofs.StateWrites.{fails_memory}

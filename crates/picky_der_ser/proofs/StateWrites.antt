@@ -1,6 +1,6 @@
 -- What was written, seen from the state of a serializer.
 use Rattle.std.proofs.Common.{arith, ◌≡◌, ◌≢◌, ◌<◌, ◌^◌, Option, ℕ, List, [], ◌∷◌, length, None, Some, refl, sym, ap}
-use Rattle.std.proofs.Common.{◌∙◌, subst, Result, Ok, Err, IfOk, OnOk, IfErr, OnErr, ◌+◌, true, ◌++◌, le-leb, ap₂}
+use Rattle.std.proofs.Common.{◌∙◌, subst, Result, Ok, Err, IfOk, OnOk, IfErr, OnErr, true, le-leb, ap₂}
 use Rattle.std.specs.Io.KnownBytes.{Appends}
 use Rattle.picky_der_core.specs.OpenWrappers.{under}
 use Rattle.picky_der_core.specs.Failure.{failure_of}

@@ -1,23 +1,21 @@
 -- What is written in one wrapper more.
-use Rattle.std.proofs.Common.{◌≡◌, ℕ, ◌&&◌, true, false, Bool, List, [], ◌∷◌, ◌++◌, length, Option, None, Some, refl}
+use Rattle.std.proofs.Common.{◌≡◌, ℕ, ◌&&◌, true, false, Bool, List, [], ◌∷◌, ◌++◌, length, None, Some, refl}
 use Rattle.std.proofs.Common.{sym, ap}
 use Rattle.std.proofs.Common.{subst, Result, Ok, Err, IfOk, IfErr, ◌<◌, ◌^◌, ◌≤◌, ◌∙◌, inl, inr, arith, length-append}
 use Rattle.std.proofs.Common.{cond, nat_lt}
 use Rattle.std.specs.Prelude.{IfSome, IfNone, IsTrue}
 use Rattle.picky_der_core.specs.WrapperLaws.{tag_number_tells}
-use Rattle.picky_der_core.specs.OpenWrapperLaws.{AreAlike, CanVanish, alike-under, der-alike, present-under}
+use Rattle.picky_der_core.specs.OpenWrapperLaws.{AreAlike, alike-under, der-alike, present-under}
 use Rattle.picky_der_core.specs.OpenWrapperLaws.{der-under_absent}
 use Rattle.picky_der_core.specs.OpenWrappers.{under}
 use Rattle.picky_der_core.specs.Failure.{failure_of}
-use Rattle.picky_der_core.specs.declared.failure.Failure.{Failure}
 use Rattle.picky_der_core.specs.declared.asn1.wrapper.Wrapper.{Wrapper}
 use Rattle.picky_der_core.specs.declared.misc.writer.WriteExt.{Ghosts}
 use Rattle.picky_der_core.specs.WriterFaults.{IsOnceAtMost}
 use Rattle.picky_der_core.specs.declared.error.Asn1DerError.{Asn1DerError}
 use Rattle.picky_der_core.specs.Tree.{Tree, is_absent}
-use Rattle.picky_der_core.specs.Encoding.{der, tree_bytes, with_header, implicit_content}
+use Rattle.picky_der_core.specs.Encoding.{der, tree_bytes, with_header}
 use Rattle.picky_der_core.specs.EncodingLaws.{der-absent, der-wrapped, der-wrapped_present, implicit_content-other}
-use Rattle.picky_der_core.specs.Element.{tlv}
 use Rattle.picky_der_core.specs.Wrapper.{wrapper_tag, wrapper_front, keeps_header, HasTagNumber}
 use Rattle.picky_der_core.specs.Readable.{has_tag_numbers, IsWritable}
 use Rattle.picky_der_ser.specs.Headers.{tree_of, is_set, CanAllBeOpen}
@@ -27,7 +25,6 @@ use Rattle.picky_der_ser.specs.Calls.{MemoryExcuse, OpensLevel, AddsMember, Refu
 use Rattle.picky_der_ser.proofs.Alike.{past_under, unwritable-by, refused_unwritable, writes-alike, fails-alike}
 use Rattle.picky_der_ser.proofs.Alike.{adds_none, can_vanish-open}
 use Rattle.picky_der_ser.proofs.StateWrites.{numbers_writable}
-use Rattle.std.proofs.lemmas.Bool.{lt-leb}
 use Rattle.picky_der_core.specs.declared.asn1.wrapper.Wrapper.TheVariants as wrapper
 use Rattle.picky_der_core.specs.declared.error.Asn1DerError.TheVariants.{UnsupportedValue}
 use Rattle.picky_der_core.specs.Tag.{is_tag_number}

@@ -7,12 +7,11 @@ use denote.Struct.Props.{props}
 use Rattle.picky_der_core.specs.declared.failure.Failure.{Failure}
 use Rattle.picky_der_core.specs.declared.asn1.wrapper.Wrapper.{Wrapper}
 use Rattle.picky_der_core.specs.declared.asn1.wrapper.Wrapper.TheVariants as wrapper
-use Rattle.picky_der_core.specs.Tag.{IsConstructedTag, IsTagNumber, number_of}
 use Rattle.picky_der_core.specs.Wrapper.{can_vanish, HasTagNumber}
 use Rattle.picky_der_ser.specs.declared.header.Header.{Header}
 use Rattle.picky_der_ser.specs.declared.header.Header.TheVariants.{Tagged, Application, Raw}
 use Rattle.picky_der_ser.specs.declared.levels.Mark.{Mark}
-use Rattle.picky_der_ser.specs.Headers.{is_set, own_tag, wrappers, HasNumber, CanBeOpen, CanAllBeOpen}
+use Rattle.picky_der_ser.specs.Headers.{is_set, own_tag, wrappers, HasNumber, CanAllBeOpen}
 use Rattle.picky_der_ser.specs.Marks.{is_open, is_inside, tags, outside, HasTag, IsMark, IsOpen}
 use Rattle.picky_der_ser.specs.Seams.{AreSeams, last_seam}
 use Rattle.picky_der_ser.specs.Sequences.{HasOpenLevel}

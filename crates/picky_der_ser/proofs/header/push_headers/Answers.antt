@@ -1,13 +1,11 @@
-use Rattle.std.proofs.Common.{◌≡◌, ℕ, ◌+◌, ◌<◌, ◌^◌, Bool, true, false, cond, List, ◌++◌, length, Option, None, Some}
+use Rattle.std.proofs.Common.{◌≡◌, ℕ, ◌+◌, Bool, cond, List, ◌++◌, length, Option, None, Some}
 use Rattle.std.proofs.Common.{Vec, Global, refl, sym, ap, ap₂, ◌∙◌, arith, append_assoc}
 use Rattle.std.specs.Option.{is_some}
 use Rattle.picky_der_core.specs.declared.asn1.wrapper.Wrapper.{Wrapper}
 use Rattle.picky_der_core.specs.Element.{length_octets, tlv}
 use Rattle.picky_der_core.specs.ElementLaws.{length-length_octets}
-use Rattle.picky_der_core.specs.Encoding.{der}
-use Rattle.picky_der_core.specs.OpenWrappers.{under}
 use Rattle.picky_der_core.specs.Wrapper.{wrapper_tag, counts_unused_bits}
-use Rattle.picky_der_ser.specs.Headers.{tree_of, wrappers, headed, wrapped_in, front}
+use Rattle.picky_der_ser.specs.Headers.{headed, wrapped_in, front}
 use Rattle.picky_der_ser.proofs.HeaderBytes.{der-known, length-opened}
 use Rattle.picky_der_ser.proofs.header.push_headers.Goals as goal
 use Rattle.picky_der_ser.proofs.header.push_headers.Goals.{in-Some+in_ok-extend_from_slice, in_default}

@@ -1,5 +1,5 @@
 use Rattle.std.proofs.Common.{◌≡◌, ◌+◌, ◌++◌, ◌≤◌, List, ℕ, length, take, drop, Result, Ok, Err, OnOk, None, Some, Vec}
-use Rattle.std.proofs.Common.{Global, refl, sym, ap, ap₂, ◌∙◌, arith, add-zero, take-append-drop, length-take-le}
+use Rattle.std.proofs.Common.{Global, sym, ap, ap₂, ◌∙◌, arith, add-zero, take-append-drop, length-take-le}
 use Rattle.std.proofs.Math.Seq.{drop-append_seam}
 use Rattle.std.proofs.lemmas.List.{take-append-le, take-take}
 use Rattle.picky_der_core.specs.Element.{tlv}

@@ -1,9 +1,9 @@
-use Rattle.std.proofs.Common.{◌≡◌, ◌≤◌, ◌-◌, ◌++◌, [], length, take, drop, None, Some, arith, refl, sym, ap, ◌∙◌}
+use Rattle.std.proofs.Common.{◌≡◌, ◌-◌, ◌++◌, [], length, take, drop, Some, arith, refl, sym, ap, ◌∙◌}
 use Rattle.std.proofs.lemmas.List.{take_all, drop_all, length-drop}
 use Rattle.std.specs.List.{concat}
 use Rattle.picky_der_core.specs.Order.{in_ascending_order}
 use Rattle.picky_der_ser.specs.Seams.{cut_at_seams}
-use Rattle.picky_der_ser.specs.State.{Stack, Held, final_content}
+use Rattle.picky_der_ser.specs.State.{Stack, final_content}
 use Rattle.picky_der_ser.specs.Marks.{level_at, held_of, enclosed}
 use Rattle.picky_der_ser.proofs.LevelMarks.{held_is, opened-by, stack_of}
 use Rattle.picky_der_ser.proofs.LevelEnds.{ok_then, arranged_bytes, enclosed_stack}

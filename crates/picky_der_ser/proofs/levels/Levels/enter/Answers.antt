@@ -1,4 +1,4 @@
-use Rattle.std.proofs.Common.{◌≡◌, ℕ, ◌≤◌, ◌-◌, Bool, true, false, List, [], ◌++◌, length, drop, None, arith, refl}
+use Rattle.std.proofs.Common.{◌≡◌, ◌≤◌, ◌-◌, false, [], ◌++◌, length, drop, arith, refl}
 use Rattle.std.proofs.Common.{sym, ap}
 use Rattle.std.proofs.Common.{ap₂, ◌∙◌, length-append}
 use Rattle.std.proofs.lemmas.List.{drop_all}
@@ -6,7 +6,6 @@ use Rattle.picky_der_ser.specs.declared.levels.Mark.{Mark}
 use Rattle.picky_der_ser.specs.State.{Stack}
 use Rattle.picky_der_ser.specs.Seams.{next_seams}
 use Rattle.picky_der_ser.specs.Marks.{held_of}
-use Rattle.picky_der_ser.specs.Headers.{is_set}
 use Rattle.picky_der_ser.proofs.LevelMarks.{grown, within, unset, opened-by, enters_by}
 use Rattle.picky_der_ser.proofs.levels.Levels.enter.Goals.{then-len-mark+in_ok-extend_from_slice, else-len-mark}
 use Rattle.picky_der_ser.proofs.levels.Levels.enter.Goals.{then-is_empty+in_ok-reserve, else-is_empty}

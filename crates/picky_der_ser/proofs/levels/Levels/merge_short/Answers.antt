@@ -1,10 +1,10 @@
-use Rattle.std.proofs.Common.{◌≡◌, ℕ, ◌≤◌, ◌<◌, ◌+◌, ◌-◌, true, [], length, None, Some, arith, rules, tests, sym, ap}
+use Rattle.std.proofs.Common.{◌≡◌, ◌≤◌, ◌<◌, ◌+◌, ◌-◌, true, [], length, None, Some, arith, rules, tests, sym, ap}
 use Rattle.std.proofs.Common.{◌∙◌}
 use Rattle.std.proofs.Math.ListN.{set}
 use Rattle.picky_der_core.specs.Encoding.{der}
 use Rattle.picky_der_core.specs.OpenWrappers.{under}
 use Rattle.picky_der_ser.specs.Headers.{tree_of, wrappers}
-use Rattle.picky_der_ser.specs.State.{Stack, Held, final_content}
+use Rattle.picky_der_ser.specs.State.{Stack, final_content}
 use Rattle.picky_der_ser.specs.Marks.{level_at, held_of, enclosed}
 use Rattle.picky_der_ser.proofs.LevelMarks.{held_is, opened-by, stack_of}
 use Rattle.picky_der_ser.proofs.LevelEnds.{short_count, short_enclosed}

@@ -1,4 +1,4 @@
-use Rattle.std.proofs.Common.{◌≡◌, refl}
+use Rattle.std.proofs.Common.{refl}
 use Rattle.picky_der_ser.specs.State.{State}
 use Rattle.picky_der_ser.proofs.LevelWrites.{level_opened, level_open, open_unless}
 use Rattle.picky_der_ser.proofs.serializer.Serializer.open.Goals as goal

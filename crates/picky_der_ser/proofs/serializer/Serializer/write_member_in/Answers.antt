@@ -1,4 +1,4 @@
-use Rattle.std.proofs.Common.{◌≡◌, [], None, Some, refl, ap, ◌∙◌, subst, rules}
+use Rattle.std.proofs.Common.{◌≡◌, None, refl, ap, ◌∙◌, subst, rules}
 use Rattle.picky_der_ser.specs.Headers.{wrappers}
 use Rattle.picky_der_ser.specs.State.{State, Stack}
 use Rattle.picky_der_ser.specs.Calls.{Writes}
