@@ -54,7 +54,11 @@ enum {
     /* The caller's place or start isn't one. */
     PICKY_DER_NO_PLACE = 8,
     /* No type has this number. */
-    PICKY_DER_UNKNOWN_TYPE = 9
+    PICKY_DER_UNKNOWN_TYPE = 9,
+    /* The type has no table, and so its messages have no JSON here. */
+    PICKY_DER_NO_TABLE = 10,
+    /* The text isn't JSON of a message of the type. */
+    PICKY_DER_NO_VALUE = 11
 };
 
 enum {
@@ -433,6 +437,33 @@ picky_der_code picky_der_check_enc_krb_priv_part(const uint8_t *bytes, size_t by
 /* Checks as picky_der_check does whether the bytes are a message of this type: what is encrypted next to
  * tickets that are handed on (RFC 4120, 5.8.1). */
 picky_der_code picky_der_check_enc_krb_cred_part(const uint8_t *bytes, size_t bytes_len, size_t *position);
+
+/* Appends to the first used bytes of out the path of the element for which picky_der_check refuses the bytes,
+ * and adds its length to used. It is UTF-8 without a zero at its end. It names the members of the types for
+ * which there are tables, as tbsCertificate.extensions[3].extnID, and is by numbers for others, as 0.2.1. It
+ * is empty for the outermost element, and for bytes that are accepted.
+ * Returns PICKY_DER_OK, or PICKY_DER_NO_ROOM or PICKY_DER_UNSUPPORTED as picky_der_put does. Returns
+ * PICKY_DER_NO_MEMORY if an allocation failed and PICKY_DER_UNKNOWN_TYPE if no type has the number, and then
+ * nothing changes. */
+picky_der_code picky_der_path(uint32_t number, const uint8_t *bytes, size_t bytes_len, uint8_t *out, size_t out_len, size_t *used);
+
+/* Checks the bytes as picky_der_check does, writes to position what that writes, appends the JSON of the
+ * message (X.697) to the first used bytes of out, and adds its length to used. It is UTF-8 on one line,
+ * without a zero at its end. It is made by a table of the type, which all types have but krb, enveloped-data,
+ * authenticated-data and auth-enveloped-data.
+ * Returns PICKY_DER_OK, or PICKY_DER_NO_ROOM as picky_der_put does. Returns what picky_der_check returns if
+ * the bytes aren't a message, PICKY_DER_NO_TABLE if the type has no table, and PICKY_DER_UNSUPPORTED if a
+ * number in the message has too many digits, or the JSON too many bytes. Then out and used are as they were. */
+picky_der_code picky_der_to_json(uint32_t number, const uint8_t *bytes, size_t bytes_len, size_t *position, uint8_t *out, size_t out_len, size_t *used);
+
+/* Appends the DER of the message of the type with this number that has this JSON, as picky_der_to_json writes
+ * it, to the first used bytes of out, and adds its size to used. picky_der_check accepts it.
+ * Returns PICKY_DER_OK, or PICKY_DER_NO_ROOM or PICKY_DER_UNSUPPORTED as picky_der_put does. Returns
+ * PICKY_DER_NO_VALUE if the text isn't JSON of a message of the type, and then appends why and where, in
+ * words in UTF-8, in place of the DER. Returns PICKY_DER_NO_TABLE if the type has no table,
+ * PICKY_DER_NO_MEMORY if an allocation failed and PICKY_DER_UNKNOWN_TYPE if no type has the number, and then
+ * nothing changes. */
+picky_der_code picky_der_from_json(uint32_t number, const uint8_t *json, size_t json_len, uint8_t *out, size_t out_len, size_t *used);
 
 /* Writes the element at the front of the bytes to element, and returns PICKY_DER_OK. Its tag, its length and
  * its content are in DER, but the elements in it aren't looked at. Bytes may follow it.
@@ -813,6 +844,31 @@ static inline picky_der_code picky_der_check_enc_krb_cred_part_asserted(const ui
     return picky_der_check_enc_krb_cred_part(bytes, bytes_len, position);
 }
 #define picky_der_check_enc_krb_cred_part picky_der_check_enc_krb_cred_part_asserted
+
+static inline picky_der_code picky_der_path_asserted(uint32_t number, const uint8_t *bytes, size_t bytes_len, uint8_t *out, size_t out_len, size_t *used) {
+    assert(bytes != NULL);
+    assert(out != NULL);
+    assert(used != NULL);
+    return picky_der_path(number, bytes, bytes_len, out, out_len, used);
+}
+#define picky_der_path picky_der_path_asserted
+
+static inline picky_der_code picky_der_to_json_asserted(uint32_t number, const uint8_t *bytes, size_t bytes_len, size_t *position, uint8_t *out, size_t out_len, size_t *used) {
+    assert(bytes != NULL);
+    assert(position != NULL);
+    assert(out != NULL);
+    assert(used != NULL);
+    return picky_der_to_json(number, bytes, bytes_len, position, out, out_len, used);
+}
+#define picky_der_to_json picky_der_to_json_asserted
+
+static inline picky_der_code picky_der_from_json_asserted(uint32_t number, const uint8_t *json, size_t json_len, uint8_t *out, size_t out_len, size_t *used) {
+    assert(json != NULL);
+    assert(out != NULL);
+    assert(used != NULL);
+    return picky_der_from_json(number, json, json_len, out, out_len, used);
+}
+#define picky_der_from_json picky_der_from_json_asserted
 
 static inline picky_der_code picky_der_front_asserted(const uint8_t *bytes, size_t bytes_len, picky_der_element *element) {
     assert(bytes != NULL);

@@ -72,6 +72,39 @@ int main(int argc, char **argv) {
     } while (code != PICKY_DER_OK);
     need(failures > 1, "a listing takes memory");
     failures = 0;
+    bytes[0] = 0x31;
+    do {
+        left = failures++;
+        size_t written = 0;
+        uint8_t path[64];
+        code = picky_der_path(PICKY_DER_TYPE_CERTIFICATE, bytes, len, path, sizeof path, &written);
+        need(code == PICKY_DER_OK || (code == PICKY_DER_NO_MEMORY && written == 0), "a path without memory");
+    } while (code != PICKY_DER_OK);
+    need(failures > 1, "a path takes memory");
+    bytes[0] = 0x30;
+    failures = 0;
+    left = -1;
+    uint8_t *json = malloc(8 * len + 4096);
+    size_t written;
+    do {
+        left = failures++;
+        written = 0;
+        code = picky_der_to_json(PICKY_DER_TYPE_CERTIFICATE, bytes, len, &position, json, 8 * len + 4096, &written);
+        need(code == PICKY_DER_OK || (code == PICKY_DER_NO_MEMORY && written == 0), "JSON without memory");
+    } while (code != PICKY_DER_OK);
+    need(failures > 10, "JSON takes memory");
+    failures = 0;
+    size_t json_len = written;
+    do {
+        left = failures++;
+        written = 0;
+        code = picky_der_from_json(PICKY_DER_TYPE_CERTIFICATE, json, json_len, bytes, len, &written);
+        need(code == PICKY_DER_OK || (code == PICKY_DER_NO_MEMORY && written == 0), "a message of JSON without memory");
+    } while (code != PICKY_DER_OK);
+    need(failures > 10 && written == len, "a message of JSON takes memory");
+    left = -1;
+    free(json);
+    failures = 0;
     uint8_t sorted[] = {2, 1, 2, 2, 1, 1};
     do {
         left = failures++;

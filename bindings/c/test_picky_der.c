@@ -201,6 +201,71 @@ static void places(void) {
     need(*picky_der_text(77) == 0 && *picky_der_clause(PICKY_DER_OK) == 0, "no texts");
 }
 
+/* ---- paths */
+
+/* The path of a refusal is appended, and counted where there is no room. */
+static void path(const struct input *it) {
+    uint8_t *bytes = malloc(it->len), out[64], nothing;
+    memcpy(bytes, it->bytes, it->len);
+    size_t used = 0, ends[DEEPEST];
+    need(picky_der_path(PICKY_DER_TYPE_CERTIFICATE, bytes, it->len, out, sizeof out, &used) == PICKY_DER_OK && used == 0, "the path of none");
+    picky_der_place place = {0, 0};
+    picky_der_element element = {0};
+    while (element.tag != 0x06)
+        need(picky_der_next(bytes, it->len, &place, ends, DEEPEST, &element) == PICKY_DER_OK, "an object identifier");
+    bytes[element.offset] = 0x04;
+    const char *wanted = "tbsCertificate.signature.algorithm";
+    need(picky_der_path(PICKY_DER_TYPE_CERTIFICATE, bytes, it->len, &nothing, 0, &used) == PICKY_DER_NO_ROOM && used == strlen(wanted), "no room");
+    used = 3;
+    need(picky_der_path(PICKY_DER_TYPE_CERTIFICATE, bytes, it->len, out, sizeof out, &used) == PICKY_DER_OK, "a path");
+    need(used == 3 + strlen(wanted) && memcmp(out + 3, wanted, strlen(wanted)) == 0, "a path by names");
+    used = SIZE_MAX - 1;
+    need(picky_der_path(PICKY_DER_TYPE_CERTIFICATE, bytes, it->len, out, sizeof out, &used) == PICKY_DER_UNSUPPORTED && used == SIZE_MAX - 1, "a path past all memory");
+    need(picky_der_path(0, bytes, it->len, out, sizeof out, &used) == PICKY_DER_UNKNOWN_TYPE, "the path by no type");
+    const uint8_t padded[] = {0x30, 6, 2, 2, 0, 0, 5, 0};
+    used = 0;
+    need(picky_der_path(PICKY_DER_TYPE_ENVELOPED_DATA, padded, sizeof padded, out, sizeof out, &used) == PICKY_DER_OK, "a path");
+    need(used == 3 && memcmp(out, "0.0", 3) == 0, "a path by numbers");
+    free(bytes);
+}
+
+/* ---- JSON */
+
+/* The JSON of a certificate begins with the first of its members by name, and is counted where there is no room. */
+static void json(const struct input *it) {
+    size_t position = 99, used = 0, again = 0;
+    uint8_t nothing;
+    picky_der_code code = picky_der_to_json(PICKY_DER_TYPE_CERTIFICATE, it->bytes, it->len, &position, &nothing, 0, &used);
+    need(code == PICKY_DER_NO_ROOM && position == it->len, "JSON without room");
+    uint8_t *out = malloc(used);
+    code = picky_der_to_json(PICKY_DER_TYPE_CERTIFICATE, it->bytes, it->len, &position, out, used, &again);
+    need(code == PICKY_DER_OK && again == used && position == it->len, "JSON");
+    const char *front = "{\"signatureAlgorithm\":{\"algorithm\":\"";
+    need(memcmp(out, front, strlen(front)) == 0 && out[used - 1] == '}' && memchr(out, '\n', used) == NULL, "an object on one line");
+    again = 0;
+    need(picky_der_to_json(PICKY_DER_TYPE_CERTIFICATE, it->bytes, it->len - 1, &position, out, used, &again) == PICKY_DER_TRUNCATED, "JSON of a part");
+    need(again == 0 && position < it->len, "nothing is appended then");
+    need(picky_der_to_json(PICKY_DER_TYPE_CRL, it->bytes, it->len, &position, out, used, &again) != PICKY_DER_OK, "JSON as another type");
+    need(picky_der_to_json(99, it->bytes, it->len, &position, out, used, &again) == PICKY_DER_UNKNOWN_TYPE && position == 0, "JSON of no type");
+    const uint8_t reply[] = {0x6F, 0x1B, 0x30, 0x19, 0xA0, 3, 2, 1, 5, 0xA1, 3, 2, 1, 0x0F, 0xA2, 0x0D, 0x30, 0x0B, 0xA0, 3, 2, 1, 0x11, 0xA2, 4, 4, 2, 1, 2};
+    code = picky_der_to_json(PICKY_DER_TYPE_KRB, reply, sizeof reply, &position, out, used, &again);
+    need(code == PICKY_DER_NO_TABLE && again == 0, "a type without a table");
+
+    uint8_t *der = malloc(it->len + 100);
+    need(picky_der_from_json(PICKY_DER_TYPE_CERTIFICATE, out, used, der, it->len, &again) == PICKY_DER_OK && again == it->len, "the message of JSON");
+    need(memcmp(der, it->bytes, it->len) == 0, "the same bytes");
+    again = 0;
+    need(picky_der_from_json(PICKY_DER_TYPE_CERTIFICATE, out, used, der, it->len - 1, &again) == PICKY_DER_NO_ROOM && again == it->len, "a byte too little");
+    again = 0;
+    code = picky_der_from_json(PICKY_DER_TYPE_CERTIFICATE, out, used - 1, der, it->len + 100, &again);
+    need(code == PICKY_DER_NO_VALUE && again > 10, "a part of JSON, and why it is refused");
+    again = 0;
+    need(picky_der_from_json(PICKY_DER_TYPE_KRB, out, used, der, it->len, &again) == PICKY_DER_NO_TABLE && again == 0, "no table");
+    need(picky_der_from_json(99, out, used, der, it->len, &again) == PICKY_DER_UNKNOWN_TYPE && again == 0, "no type");
+    free(der);
+    free(out);
+}
+
 /* ---- writing */
 
 struct buffer {
@@ -343,6 +408,8 @@ int main(int argc, char **argv) {
     for (size_t i = 0; i < input_count; i++)
         if (inputs[i].verdict == CERTIFICATE)
             written_again(&inputs[i]);
+    path(&inputs[0]);
+    json(&inputs[0]);
     pthread_t threads[THREADS];
     for (int i = 0; i < THREADS; i++)
         need(pthread_create(&threads[i], NULL, run, NULL) == 0, "a thread");

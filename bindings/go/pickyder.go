@@ -24,6 +24,9 @@ func (m Message) String() string { return words[m] }
 // ErrNoMemory says that the library got no memory. Nothing is known of the bytes then.
 var ErrNoMemory = errors.New("pickyder: no memory")
 
+// ErrNoTable says that the type has no table, and so its messages have no JSON.
+var ErrNoTable = errors.New("pickyder: the type has no table")
+
 // A Code says why bytes are refused. Those above 100 are rules of X.690.
 type Code uint32
 
@@ -41,17 +44,23 @@ func (c Code) String() string { return C.GoString(C.picky_der_text(C.picky_der_c
 // Clause returns the clause of X.690 that is broken, or an empty text.
 func (c Code) Clause() string { return C.GoString(C.picky_der_clause(C.picky_der_code(c))) }
 
-// An Error says why bytes are refused, and the index of the byte or element where this was found.
+// An Error says why bytes are refused, and the index of the byte or element where this was found. Check adds the path of the element, as
+// tbsCertificate.extensions[3].extnID, or by numbers, as 0.2.1. It is empty for the outermost one.
 type Error struct {
 	Code     Code
 	Position int
+	Path     string
 }
 
 func (e *Error) Error() string {
-	if clause := e.Code.Clause(); clause != "" {
-		return fmt.Sprintf("pickyder: at %d: %v (X.690, %s)", e.Position, e.Code, clause)
+	place := fmt.Sprint(e.Position)
+	if e.Path != "" {
+		place += ", " + e.Path
 	}
-	return fmt.Sprintf("pickyder: at %d: %v", e.Position, e.Code)
+	if clause := e.Code.Clause(); clause != "" {
+		return fmt.Sprintf("pickyder: at %s: %v (X.690, %s)", place, e.Code, clause)
+	}
+	return fmt.Sprintf("pickyder: at %s: %v", place, e.Code)
 }
 
 func errorOf(code C.picky_der_code, position int) error {
@@ -60,8 +69,34 @@ func errorOf(code C.picky_der_code, position int) error {
 		return nil
 	case C.PICKY_DER_NO_MEMORY:
 		return ErrNoMemory
+	case C.PICKY_DER_NO_TABLE:
+		return ErrNoTable
 	}
-	return &Error{Code(code), position}
+	return &Error{Code: Code(code), Position: position}
+}
+
+// written returns what a call returns and writes with this room, and if that is too small, with as much as the first call counted.
+func written(room int, call func(out []byte, used *C.size_t) C.picky_der_code) (C.picky_der_code, []byte) {
+	var used C.size_t
+	out := make([]byte, room)
+	code := call(out, &used)
+	if code == C.PICKY_DER_NO_ROOM {
+		out = make([]byte, used)
+		used = 0
+		code = call(out, &used)
+	}
+	return code, out[:used]
+}
+
+// pathOf is the path of the element for which a check refuses the bytes.
+func pathOf(message Message, bytes []byte) string {
+	code, path := written(128, func(out []byte, used *C.size_t) C.picky_der_code {
+		return C.picky_der_path(C.uint32_t(message), pointer(bytes), C.size_t(len(bytes)), pointer(out), C.size_t(len(out)), used)
+	})
+	if code != C.PICKY_DER_OK {
+		return ""
+	}
+	return string(path)
 }
 
 // The library writes to nothing else that it is given, so parts of a writer's buffer are copied first.
@@ -89,7 +124,57 @@ func pointer(bytes []byte) *C.uint8_t {
 func Check(message Message, bytes []byte) error {
 	var position C.size_t
 	code := C.picky_der_check(C.uint32_t(message), pointer(bytes), C.size_t(len(bytes)), &position)
-	return errorOf(code, int(position))
+	return refusalOf(message, bytes, code, position)
+}
+
+// refusalOf is the error of a check, with the path.
+func refusalOf(message Message, bytes []byte, code C.picky_der_code, position C.size_t) error {
+	err := errorOf(code, int(position))
+	if refusal, ok := err.(*Error); ok {
+		refusal.Path = pathOf(message, bytes)
+	}
+	return err
+}
+
+// ToJSON returns the JSON of a message of the type (X.697), on one line. It is made by a table of the type, which all types have but
+// Krb, EnvelopedData, AuthenticatedData and AuthEnvelopedData.
+//
+// It returns what Check returns if the bytes aren't such a message, ErrNoTable if the type has no table, and an *Error with the code
+// Unsupported if a number in the message has too many digits.
+func ToJSON(message Message, bytes []byte) (string, error) {
+	var position C.size_t
+	code, json := written(256+4*len(bytes), func(out []byte, used *C.size_t) C.picky_der_code {
+		return C.picky_der_to_json(C.uint32_t(message), pointer(bytes), C.size_t(len(bytes)), &position, pointer(out), C.size_t(len(out)), used)
+	})
+	if err := refusalOf(message, bytes, code, position); err != nil {
+		return "", err
+	}
+	return string(json), nil
+}
+
+// A JSONError says why a text isn't JSON of a message of a type, and where.
+type JSONError struct {
+	Reason string
+}
+
+func (e *JSONError) Error() string { return "pickyder: " + e.Reason }
+
+// FromJSON returns the DER of the message of the type with this JSON, as ToJSON returns it. Check accepts it.
+//
+// It returns a *JSONError if the text isn't JSON of a message of the type, ErrNoTable if the type has no table, and ErrNoMemory if memory
+// ran out.
+func FromJSON(message Message, json string) ([]byte, error) {
+	text := []byte(json)
+	code, der := written(256+len(text), func(out []byte, used *C.size_t) C.picky_der_code {
+		return C.picky_der_from_json(C.uint32_t(message), pointer(text), C.size_t(len(text)), pointer(out), C.size_t(len(out)), used)
+	})
+	if code == C.PICKY_DER_NO_VALUE {
+		return nil, &JSONError{string(der)}
+	}
+	if err := errorOf(code, 0); err != nil {
+		return nil, err
+	}
+	return der, nil
 }
 
 // An Element is an element of bytes, by its place in them.

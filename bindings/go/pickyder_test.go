@@ -111,6 +111,56 @@ func TestParts(t *testing.T) {
 	}
 }
 
+func TestPaths(t *testing.T) {
+	der := inputs(t)[0].der
+	elements, _ := Elements(der)
+	for _, it := range elements {
+		if it.Tag == 0x06 {
+			it.Encoding[0] = 0x04
+			break
+		}
+	}
+	var why *Error
+	if !errors.As(Check(Certificate, der), &why) || why.Path != "tbsCertificate.signature.algorithm" || !strings.Contains(why.Error(), ", tbsC") {
+		t.Error("a path by names", why)
+	}
+	padded := []byte{0x30, 6, 2, 2, 0, 0, 5, 0}
+	if !errors.As(Check(EnvelopedData, padded), &why) || why.Path != "0.0" {
+		t.Error("a path by numbers", why)
+	}
+}
+
+func TestJSON(t *testing.T) {
+	der := inputs(t)[0].der
+	json, err := ToJSON(Certificate, der)
+	if err != nil || !strings.HasPrefix(json, `{"signatureAlgorithm":{"algorithm":"`) || strings.Contains(json, "\n") {
+		t.Error("a certificate", json, err)
+	}
+	var why *Error
+	if _, err := ToJSON(Certificate, der[:9]); !errors.As(err, &why) || why.Code != Truncated {
+		t.Error("a part", err)
+	}
+	reply := []byte("\x6f\x1b\x30\x19\xa0\x03\x02\x01\x05\xa1\x03\x02\x01\x0f\xa2\x0d\x30\x0b\xa0\x03\x02\x01\x11\xa2\x04\x04\x02\x01\x02")
+	if _, err := ToJSON(Krb, reply); err != ErrNoTable {
+		t.Error("a type without a table", err)
+	}
+	if again, err := FromJSON(Certificate, json); err != nil || !bytes.Equal(again, der) {
+		t.Error("a certificate from its JSON", err)
+	}
+	var refusal *JSONError
+	if _, err := FromJSON(Certificate, strings.Replace(json, `"issuer"`, `"other"`, 1)); !errors.As(err, &refusal) || !strings.Contains(refusal.Reason, "tbsCertificate") {
+		t.Error("JSON of no certificate", err)
+	}
+	for _, wrong := range []string{"", "{", "{}", "[]", "null", "\xff"} {
+		if _, err := FromJSON(Certificate, wrong); !errors.As(err, &refusal) {
+			t.Error("JSON of no certificate", wrong, err)
+		}
+	}
+	if _, err := FromJSON(Krb, "{}"); err != ErrNoTable {
+		t.Error("a type without a table", err)
+	}
+}
+
 func writeAgain(t *testing.T, w *Writer, der []byte) error {
 	elements, err := Elements(der)
 	for _, it := range elements {

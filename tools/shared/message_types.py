@@ -6,7 +6,7 @@ from typing import Any
 from .crates import folder_of
 
 TABLE = folder_of("der_read") / "types.toml"
-KEYS = {"word", "number", "rust", "title", "labels", "part_of"}
+KEYS = {"word", "number", "rust", "title", "labels", "part_of", "table"}
 
 
 class MessageType:
@@ -21,6 +21,7 @@ class MessageType:
         self.crate, self.rust = row["rust"].split("::")
         self.labels: list[str] = row.get("labels", [])
         self.whole: str | None = row.get("part_of")
+        self.table: str | None = row.get("table")
         self.variant = "".join(part.capitalize() for part in self.word.split("-"))
 
 

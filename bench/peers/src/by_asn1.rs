@@ -30,6 +30,7 @@ fn owned(it: Fields) -> TestStruct {
 
 impl Library for Asn1 {
     const NAME: &'static str = "asn1";
+    const BORROWS: bool = true;
 
     fn write_struct(value: &TestStruct) -> Vec<u8> {
         asn1::write_single(&fields(value)).unwrap()

@@ -33,6 +33,7 @@ fn written(values: impl Values) -> Vec<u8> {
 
 impl Library for Bcder {
     const NAME: &'static str = "bcder";
+    const BORROWS: bool = false;
 
     fn write_struct(value: &TestStruct) -> Vec<u8> {
         written(values(value))

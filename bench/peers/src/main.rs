@@ -1,19 +1,20 @@
-//! The jobs of the project's driver, done by two Rust libraries. What is read is copied out of the input, as the
-//! project does.
+//! The jobs of the project's driver, done by hand and by two Rust libraries. What is read is copied out of the input,
+//! as the project does.
 //!
 //!     peers FILE LIBRARY                   prints lines `LIBRARY JOB write|read NUMBER ps`, the least of the rounds
 //!     peers FILE LIBRARY JOB WAY ROUNDS    does one job alone, as often, for valgrind
 //!
-//! The job `certificates-borrowed` only reads, and nothing is copied. The file has a line `key HEX` or `certificate
-//! HEX` for each encoding of X.509.
+//! The library is `hand`, or `asn1` or `bcder` if the program was built with this feature. The job
+//! `certificates-borrowed` only reads, and nothing is copied. The file has a line `key HEX` or `certificate HEX` for
+//! each encoding of X.509. Other lines aren't read.
 use std::hint::black_box;
 use std::time::Instant;
 
+#[cfg(feature = "asn1")]
 mod by_asn1;
+#[cfg(feature = "bcder")]
 mod by_bcder;
-
-use by_asn1::Asn1;
-use by_bcder::Bcder;
+mod by_hand;
 
 /// The structure of the project's driver.
 #[derive(Clone, Debug, PartialEq)]
@@ -41,6 +42,8 @@ pub trait Kind {
 /// A library that does the jobs.
 pub trait Library {
     const NAME: &'static str;
+    /// Whether a certificate can be read without a copy of its contents.
+    const BORROWS: bool;
     type Key: Kind;
     type Certificate: Kind;
     fn write_struct(value: &TestStruct) -> Vec<u8>;
@@ -128,10 +131,10 @@ fn run_all<L: Library, K: Kind>(task: &Task, job: &str, encodings: &[Vec<u8>], c
     task.run::<L, _>(job, "read", times, || encodings.iter().for_each(|it| drop(black_box(K::read(black_box(it))))));
 }
 
-/// The same certificates where nothing is copied, which only `asn1` can do.
-fn run_borrowed(task: &Task, job: &str, encodings: &[Vec<u8>], calls: usize) {
-    let parse = |it: &Vec<u8>| drop(black_box(<<Asn1 as Library>::Certificate as Kind>::parse(black_box(it))));
-    task.run::<Asn1, _>(job, "read", (calls, encodings.len()), || encodings.iter().for_each(parse));
+/// The same certificates where nothing is copied.
+fn run_borrowed<L: Library>(task: &Task, job: &str, encodings: &[Vec<u8>], calls: usize) {
+    let parse = |it: &Vec<u8>| drop(black_box(L::Certificate::parse(black_box(it))));
+    task.run::<L, _>(job, "read", (calls, encodings.len()), || encodings.iter().for_each(parse));
 }
 
 fn run<L: Library>(task: &Task, keys: &[Vec<u8>], certificates: &[Vec<u8>]) {
@@ -149,6 +152,9 @@ fn run<L: Library>(task: &Task, keys: &[Vec<u8>], certificates: &[Vec<u8>]) {
     }
     if task.wants("certificates") {
         run_all::<L, L::Certificate>(task, "certificates", certificates, 4);
+    }
+    if L::BORROWS && task.wants("certificates-borrowed") {
+        run_borrowed::<L>(task, "certificates-borrowed", certificates, 4);
     }
 }
 
@@ -172,12 +178,12 @@ fn main() {
         _ => panic!("usage: peers FILE LIBRARY [JOB WAY ROUNDS]"),
     };
     // one library in a process, so that none finds the memory as another left it
-    if words[1] == Bcder::NAME {
-        run::<Bcder>(&task, &keys, &certificates);
-        return;
-    }
-    run::<Asn1>(&task, &keys, &certificates);
-    if task.wants("certificates-borrowed") {
-        run_borrowed(&task, "certificates-borrowed", &certificates, 4);
+    match words[1].as_str() {
+        "hand" => run::<by_hand::Hand>(&task, &keys, &certificates),
+        #[cfg(feature = "asn1")]
+        "asn1" => run::<by_asn1::Asn1>(&task, &keys, &certificates),
+        #[cfg(feature = "bcder")]
+        "bcder" => run::<by_bcder::Bcder>(&task, &keys, &certificates),
+        name => panic!("no library {name}"),
     }
 }

@@ -1,7 +1,8 @@
 """Checks, lists and writes DER by a library that is proved.
 
 ``check("certificate", data)`` returns if the bytes are exactly one message of a type, in DER throughout, and raises `DecodeError` if they
-aren't. ``elements(data)`` goes over elements, and ``encode(tag, content)`` writes one.
+aren't. ``elements(data)`` goes over elements, and ``encode(tag, content)`` writes one. ``to_json("certificate", data)`` is a message in JSON,
+and ``from_json("certificate", text)`` the message with this JSON.
 
 Data is any object with the buffer protocol. What can change is copied first, so that other threads can run during a call.
 """
@@ -14,7 +15,7 @@ from typing import Any, Callable, Iterable, Iterator, NamedTuple, Optional, Tupl
 from . import _tables
 from ._tables import RULES, TEXTS, TYPES
 
-__all__ = ["DecodeError", "Element", "TYPES", "Writer", "check", "elements", "encode", "encode_set", "front", "is_der"]
+__all__ = ["DecodeError", "Element", "TYPES", "Writer", "check", "elements", "encode", "encode_set", "from_json", "front", "is_der", "to_json"]
 
 Data = Union[bytes, bytearray, memoryview]
 
@@ -46,13 +47,16 @@ def _load() -> ctypes.CDLL:
     library = ctypes.CDLL(path)
     sizes = POINTER(c_size_t)
     library.picky_der_check.argtypes = [c_uint32, c_char_p, c_size_t, sizes]
+    library.picky_der_path.argtypes = [c_uint32, c_char_p, c_size_t, POINTER(c_uint8), c_size_t, sizes]
+    library.picky_der_to_json.argtypes = [c_uint32, c_char_p, c_size_t, sizes, POINTER(c_uint8), c_size_t, sizes]
+    library.picky_der_from_json.argtypes = [c_uint32, c_char_p, c_size_t, POINTER(c_uint8), c_size_t, sizes]
     library.picky_der_front.argtypes = [c_char_p, c_size_t, POINTER(_Element)]
     library.picky_der_elements.argtypes = [c_char_p, c_size_t, POINTER(_Element), c_size_t, sizes, sizes]
     library.picky_der_next.argtypes = [c_char_p, c_size_t, POINTER(_Place), sizes, c_size_t, POINTER(_Element)]
     library.picky_der_put.argtypes = [POINTER(c_uint8), c_size_t, sizes, c_uint8, c_char_p, c_size_t]
     library.picky_der_wrap.argtypes = [POINTER(c_uint8), c_size_t, sizes, c_size_t, c_uint8]
     library.picky_der_sort.argtypes = [POINTER(c_uint8), c_size_t, c_size_t, c_size_t]
-    for name in ("check", "front", "elements", "next", "put", "wrap", "sort"):
+    for name in ("check", "path", "to_json", "from_json", "front", "elements", "next", "put", "wrap", "sort"):
         getattr(library, f"picky_der_{name}").restype = c_uint32
     return library
 
@@ -71,15 +75,18 @@ class DecodeError(ValueError):
     rule: Optional[str]
     #: Its clause, as ``10.1``.
     clause: Optional[str]
+    #: The path of the element, as ``tbsCertificate.extensions[3].extnID``, or by numbers, as ``0.2.1``. It is empty for the outermost one.
+    path: str
 
-    def __init__(self, code: int, position: int, rule: int = 0) -> None:
-        self.code, self.position = code, position
+    def __init__(self, code: int, position: int, rule: int = 0, path: str = "") -> None:
+        self.code, self.position, self.path = code, position, path
         broken = RULES.get(code) or RULES.get(rule)
         self.rule, words, self.clause = broken or (None, TEXTS.get(code, f"code {code}"), None)
-        super().__init__(f"at {position}: {words}" + (f" (X.690, {self.clause})" if broken else ""))
-        self._given = code, position, rule
+        place = f"at {position}, {path}" if path else f"at {position}"
+        super().__init__(f"{place}: {words}" + (f" (X.690, {self.clause})" if broken else ""))
+        self._given = code, position, rule, path
 
-    def __reduce__(self) -> Tuple[Type["DecodeError"], Tuple[int, int, int]]:
+    def __reduce__(self) -> Tuple[Type["DecodeError"], Tuple[int, int, int, str]]:
         return type(self), self._given
 
 
@@ -124,6 +131,22 @@ def _rule_of(der: bytes) -> int:
     return code
 
 
+def _written(call: Callable[..., Any], room: int) -> Tuple[int, bytes]:
+    """What a call returns and appends to nothing, with this room, and if that is too small, with what the first call counted."""
+    while True:
+        out, used = (c_uint8 * room)(), c_size_t()
+        code: int = call(out, byref(used))
+        if code != _tables.NO_ROOM:
+            return code, bytes(memoryview(out)[: used.value])
+        room = used.value
+
+
+def _path_of(number: int, der: bytes) -> str:
+    """The path of the element for which a check refuses the bytes, or an empty text if memory runs out."""
+    code, path = _written(lambda out, used: _library.picky_der_path(number, der, len(der), out, len(out), used), 128)
+    return path.decode() if code == _tables.OK else ""
+
+
 def check(name: str, data: Data) -> None:
     """Returns if the bytes are exactly one message of the type, and each element in them is in DER.
 
@@ -136,7 +159,45 @@ def check(name: str, data: Data) -> None:
     if code == _tables.NO_MEMORY:
         raise MemoryError
     if code != _tables.OK:
-        raise DecodeError(code, position.value, _rule_of(der))
+        raise DecodeError(code, position.value, _rule_of(der), _path_of(number, der))
+
+
+def to_json(name: str, data: Data) -> str:
+    """Returns the JSON of a message (X.697) on one line.
+
+    It raises what `check` raises, and KeyError also for the types that have no table: ``krb``, ``enveloped-data``,
+    ``authenticated-data`` and ``auth-enveloped-data``. It raises DecodeError with the code UNSUPPORTED if a number in the message has too many digits.
+    """
+    number = TYPES.get(name) or _tables.NAMES[name]
+    der, position = _bytes(data), c_size_t()
+    code, text = _written(
+        lambda out, used: _library.picky_der_to_json(number, der, len(der), byref(position), out, len(out), used), 4 * len(der) + 256
+    )
+    if code == _tables.NO_MEMORY:
+        raise MemoryError
+    if code == _tables.NO_TABLE:
+        raise KeyError(name)
+    if code != _tables.OK:
+        raise DecodeError(code, position.value, _rule_of(der), _path_of(number, der))
+    return text.decode()
+
+
+def from_json(name: str, json: Union[str, Data]) -> bytes:
+    """Returns the DER of the message with this JSON, as `to_json` returns it. `check` accepts it.
+
+    It raises ValueError, with what is wrong and where, if the text isn't JSON of a message of the type, MemoryError if memory ran out, and
+    KeyError if no type has the name, or the type has no table.
+    """
+    number = TYPES.get(name) or _tables.NAMES[name]
+    text = json.encode() if isinstance(json, str) else _bytes(json)
+    code, der = _written(lambda out, used: _library.picky_der_from_json(number, text, len(text), out, len(out), used), len(text) + 256)
+    if code == _tables.NO_MEMORY:
+        raise MemoryError
+    if code == _tables.NO_TABLE:
+        raise KeyError(name)
+    if code != _tables.OK:
+        raise ValueError(der.decode() or TEXTS.get(code, f"code {code}"))
+    return der
 
 
 def is_der(data: Data) -> bool:

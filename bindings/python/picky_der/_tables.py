@@ -12,6 +12,8 @@ NO_ROOM = 6
 END = 7
 NO_PLACE = 8
 UNKNOWN_TYPE = 9
+NO_TABLE = 10
+NO_VALUE = 11
 
 #: What the codes say that aren't those of rules.
 TEXTS: Dict[int, str] = {
@@ -25,6 +27,8 @@ TEXTS: Dict[int, str] = {
     7: "All elements were gone over",
     8: "The caller's place or start isn't one",
     9: "No type has this number",
+    10: "The type has no table, and so its messages have no JSON here",
+    11: "The text isn't JSON of a message of the type",
 }
 
 #: The rules of X.690 by their codes: the name, what is wrong, and the clause.

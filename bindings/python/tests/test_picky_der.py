@@ -1,5 +1,6 @@
 """Tests of the Python package. CASES names the file that tools/bindings writes. With NO_MEMORY each allocation of the library fails."""
 import array
+import json
 import os
 import pickle
 import struct
@@ -114,6 +115,53 @@ class Tests(unittest.TestCase):
         self.assertRaises(KeyError, picky_der.check, "passport", b"")
         self.assertRaises(DecodeError, picky_der.front, b"")
 
+    def test_paths(self) -> None:
+        """An error has the path of the element: by names, or else by numbers."""
+        der = CASES[0].der
+        algorithm = next(it.offset for it in picky_der.elements(der) if it.tag == 0x06)
+        error = self.refused("certificate", der[:algorithm] + b"\x04" + der[algorithm + 1 :])
+        self.assertEqual(error.path, "tbsCertificate.signature.algorithm")
+        self.assertIn(f"at {error.position}, tbsCertificate.signature.algorithm: ", str(error))
+        padded = self.refused("enveloped-data", bytes.fromhex("3006020200000500"))
+        self.assertEqual((padded.rule, padded.path), ("padded_integer", "0.0"))
+        self.assertEqual([self.refused("enveloped-data", it).path for it in (b"", b"\x30", b"\x05\x00")], ["", "", ""])
+
+    def test_json(self) -> None:
+        """A certificate has its members in JSON, by the names of its type."""
+        der = CASES[0].der
+        text = picky_der.to_json("Certificate", bytearray(der))
+        self.assertEqual(text, picky_der.to_json("certificate", der))
+        self.assertNotIn("\n", text)
+        value = json.loads(text)
+        self.assertEqual(sorted(value), ["signatureAlgorithm", "signatureValue", "tbsCertificate"])
+        oid = next(it for it in picky_der.elements(der) if it.tag == 0x06)
+        arcs = value["tbsCertificate"]["signature"]["algorithm"].split(".")
+        self.assertEqual(bytes([40 * int(arcs[0]) + int(arcs[1])]), bytes(oid.content[:1]))
+        with self.assertRaises(DecodeError) as caught:
+            picky_der.to_json("certificate", der[:-1])
+        self.assertEqual(caught.exception.code, self.refused("certificate", der[:-1]).code)
+        self.assertRaises(KeyError, picky_der.to_json, "passport", der)
+        reply = bytes.fromhex("6f1b3019a003020105a10302010fa20d300ba003020111a20404020102")
+        self.assertRaises(KeyError, picky_der.to_json, "krb", reply)
+
+    def test_from_json(self) -> None:
+        """Certificates are the same bytes after they were JSON. JSON of no message is refused with a place."""
+        for it in CASES[:20]:
+            text = picky_der.to_json("certificate", it.der)
+            self.assertEqual(picky_der.from_json("certificate", text), it.der)
+            self.assertEqual(picky_der.from_json("certificate", json.dumps(json.loads(text), indent=1).encode()), it.der)
+        value = json.loads(picky_der.to_json("certificate", CASES[0].der))
+        del value["tbsCertificate"]["issuer"]
+        with self.assertRaises(ValueError) as caught:
+            picky_der.from_json("certificate", json.dumps(value))
+        self.assertIn("issuer", str(caught.exception))
+        self.assertIn("tbsCertificate", str(caught.exception))
+        for wrong in ("", "{", "{}", "[]", "null", '{"a": 1}', b"\xff"):
+            self.assertRaises(ValueError, picky_der.from_json, "certificate", wrong)
+        self.assertRaises(KeyError, picky_der.from_json, "krb", "{}")
+        self.assertRaises(KeyError, picky_der.from_json, "passport", "{}")
+        self.assertRaises(TypeError, picky_der.from_json, "certificate", 5)
+
     def test_elements(self) -> None:
         """Elements come with their contents, and deep ones too."""
         outer, inner = picky_der.elements(memoryview(bytes.fromhex("3003020105")))
@@ -186,9 +234,11 @@ class Tests(unittest.TestCase):
 
     def test_copies_of_errors(self) -> None:
         """An error is the same after it was sent to another process."""
-        error = self.refused("certificate", bytes.fromhex("30810100"))
-        again = pickle.loads(pickle.dumps(error))
-        self.assertEqual((again.code, again.position, again.rule, str(again)), (error.code, error.position, error.rule, str(error)))
+        for der in (bytes.fromhex("30810100"), bytes.fromhex("30053003020100")):
+            error = self.refused("certificate", der)
+            again = pickle.loads(pickle.dumps(error))
+            self.assertEqual((again.code, again.position, again.rule, str(again)), (error.code, error.position, error.rule, str(error)))
+            self.assertEqual(again.path, error.path)
 
     def again(self, der: bytes) -> bytes:
         """The bytes, written from their elements."""
@@ -215,6 +265,8 @@ class WithoutMemory(unittest.TestCase):
         der = CASES[0].der
         self.assertRaises(MemoryError, picky_der.check, "certificate", der)
         self.assertRaises(MemoryError, picky_der.is_der, der)
+        self.assertRaises(MemoryError, picky_der.to_json, "certificate", der)
+        self.assertRaises(MemoryError, picky_der.from_json, "certificate", '{"a": 1}')
         self.assertEqual(picky_der.front(der).offset, 0)
         self.assertGreater(len(list(picky_der.elements(der))), 10)
         self.assertEqual(picky_der.encode(0x02, b"\x05"), b"\x02\x01\x05")

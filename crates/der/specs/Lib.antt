@@ -1,3 +1,4 @@
 pub mod Notes
 pub mod Report
 pub mod Request
+pub mod Write

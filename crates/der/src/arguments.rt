@@ -11,7 +11,7 @@ const STATUSES: &str =
                         nothing could be compared. Of several messages it is the status of the worst.";
 
 /// The names of the commands.
-pub const COMMANDS: [&str; 4] = ["show", "read", "cms", "certificate"];
+pub const COMMANDS: [&str; 5] = ["show", "read", "cms", "certificate", "write"];
 
 // The program and its commands.
 pub fn command<'a>(alloc: Global) -> Result<Command<'a>, AllocError> {
@@ -23,7 +23,8 @@ pub fn command<'a>(alloc: Global) -> Result<Command<'a>, AllocError> {
         .subcommand(show_command(alloc)?)?
         .subcommand(read_command(alloc)?)?
         .subcommand(cms_command(alloc)?)?
-        .subcommand(certificate_command(alloc)?)
+        .subcommand(certificate_command(alloc)?)?
+        .subcommand(write_command(alloc)?)
 }
 
 fn show_command<'a>(alloc: Global) -> Result<Command<'a>, AllocError> {
@@ -79,7 +80,23 @@ fn certificate_command<'a>(alloc: Global) -> Result<Command<'a>, AllocError> {
     with_inputs(alloc, command)
 }
 
-// The command with what all commands have: the form of the inputs and of the output, and the files.
+fn write_command<'a>(alloc: Global) -> Result<Command<'a>, AllocError> {
+    let words = Arg::new(alloc, "FILE")
+        .action(ArgAction::Append)
+        .num_args(1..)
+        .required(true)
+        .help(
+            "The word of a type, and a file of JSON. Without a file, or for -, it is standard input",
+        );
+    Command::new(alloc, "write")
+        .about(
+            "Writes the DER of a message, from its JSON: der write TYPE [FILE]. It is the value that der read --json prints",
+        )
+        .after_help(STATUSES)
+        .arg(words)
+}
+
+// The command with what the other commands have: the form of the inputs and of the output, and the files.
 fn with_inputs<'a>(alloc: Global, command: Command<'a>) -> Result<Command<'a>, AllocError> {
     let pem = flag(
         alloc,

@@ -2,6 +2,7 @@
 
 use crate::report::{View, print_report};
 use crate::request::Request;
+use crate::write::{WriteRequest, Written, write_message};
 use der_program_base::{Status, read_input, shown};
 use picky_asn1_der::misc::WriteExt;
 use picky_asn1_der::{Asn1DerError, Result};
@@ -28,6 +29,39 @@ pub fn print_file<W: WriteExt>(
     }
 }
 
+/// Writes the DER of the message whose JSON is in a file, and returns the status.
+///
+/// If the file can't be read or there is no JSON of the type, it says so on standard error, and the status is
+/// `Trouble`; if it isn't the JSON of a message, the status is `Refused`. The error is that of the output, or
+/// `OutOfMemory`.
+pub fn write_file<W: WriteExt>(
+    rt: &HostRuntime,
+    request: WriteRequest<'_>,
+    output: &mut W,
+) -> io::Result<Status> {
+    let name = shown(rt.alloc(), request.file)?;
+    let input = match read_input(rt, request.file) {
+        Ok(input) => input,
+        Err(error) => {
+            eprintln!(rt; "der: {name}: {error}")?;
+            return Ok(Status::Trouble);
+        }
+    };
+    let word = request.named.word();
+    match of_output(write_message(rt.alloc(), request.named, &input, output))? {
+        Written::Message => Ok(Status::Fine),
+        Written::NoSchema => {
+            eprintln!(rt; "der: there is no table of {word}, and so no JSON")?;
+            Ok(Status::Trouble)
+        }
+        Written::Refused(reason) => {
+            let reason = shown(rt.alloc(), &reason)?;
+            eprintln!(rt; "der: {name}: no {word}: {reason}")?;
+            Ok(Status::Refused)
+        }
+    }
+}
+
 /// Returns whether the output is a terminal, and the variable `NO_COLOR` of the environment doesn't ask for a text
 /// without colours.
 pub fn has_colours(rt: &HostRuntime) -> bool {
@@ -39,9 +73,9 @@ pub fn has_colours(rt: &HostRuntime) -> bool {
 }
 
 // An error other than a failed allocation is that of the output.
-fn of_output(outcome: Result<Status>) -> io::Result<Status> {
+fn of_output<T: Drop>(outcome: Result<T>) -> io::Result<T> {
     match outcome {
-        Ok(status) => Ok(status),
+        Ok(done) => Ok(done),
         Err(Asn1DerError::OutOfMemory) => Err(io::Error::from(ErrorKind::OutOfMemory)),
         Err(Asn1DerError::Other(kind)) => Err(io::Error::from(kind)),
         Err(_) => Err(io::Error::from(ErrorKind::WriteZero)),

@@ -6,11 +6,13 @@ mod inputs;
 mod notes;
 mod report;
 mod request;
+mod write;
 
 use crate::arguments::{COMMANDS, command};
-use crate::inputs::{has_colours, print_file};
+use crate::inputs::{has_colours, print_file, write_file};
 use crate::report::View;
 use crate::request::{Request, request_of, wanted_type};
+use crate::write::write_request;
 use clap::ArgMatches;
 use der_program_base::{Status, report};
 use picky_asn1_der::misc::Watched;
@@ -46,10 +48,30 @@ fn run(rt: &HostRuntime) -> io::Result<Status> {
     for name in &COMMANDS {
         if let Some(found) = matches.subcommand_matches(*name) {
             let words = found.get_strs("FILE").unwrap_or(&[]);
-            return run_command(rt, *name, found, words);
+            return match *name {
+                "write" => run_write(rt, words),
+                name => run_command(rt, name, found, words),
+            };
         }
     }
     Ok(Status::Trouble)
+}
+
+// Writes the message that these words ask for, and returns the status.
+fn run_write(rt: &HostRuntime, words: &[&str]) -> io::Result<Status> {
+    let Some(request) = write_request(words) else {
+        eprintln!(rt; "der: write wants the word of a type and at most one file")?;
+        return Ok(Status::Trouble);
+    };
+    let mut output = Watched::new(BufWriter::new(rt.alloc(), io::writer(rt))?);
+    let written = match write_file(rt, request, &mut output) {
+        Ok(status) => match output.flush() {
+            Ok(()) => Ok(status),
+            Err(error) => Err(error),
+        },
+        Err(error) => Err(error),
+    };
+    of_output(rt, written)
 }
 
 // Does what the arguments of a command ask for. Of its words all are files, but for the type of `read`.
@@ -72,7 +94,12 @@ fn run_command(
 
 // Prints what is asked about files, and returns the worst status. If the output can't be written, it says so.
 fn print_files(rt: &HostRuntime, request: &Request, files: &[&str]) -> io::Result<Status> {
-    match print_each(rt, request, files) {
+    of_output(rt, print_each(rt, request, files))
+}
+
+// The status. If the output can't be written, it says so.
+fn of_output(rt: &HostRuntime, outcome: io::Result<Status>) -> io::Result<Status> {
+    match outcome {
         Err(error) if error.kind() != ErrorKind::OutOfMemory => {
             eprintln!(rt; "der: the output can't be written: {error}")?;
             Ok(Status::Trouble)

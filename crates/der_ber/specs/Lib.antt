@@ -10,3 +10,4 @@ pub mod Reading
 pub mod InDer
 pub mod ShortLengths
 pub mod Laws
+pub mod WholeStrings

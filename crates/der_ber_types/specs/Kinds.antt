@@ -1,8 +1,8 @@
 -- What a kind of types says of its elements.
-use Rattle.std.specs.Prelude.{◌≡◌, ℕ, ◌-◌, Option, Some, None}
+use Rattle.std.specs.Prelude.{ℕ, ◌-◌, Option, Some, None, ◌==◌, if◌then◌else◌}
 use Rattle.picky_der_core.specs.declared.asn1.wrapper.Wrapper.{Wrapper}
 use Rattle.picky_der_core.specs.declared.asn1.wrapper.Wrapper.TheVariants as wrapper
-use Rattle.picky_der_core.specs.Wrapper.{wrapper_tag, HasTagNumber}
+use Rattle.picky_der_core.specs.Wrapper.{wrapper_tag, has_tag_number}
 use Rattle.der_schema.specs.declared.node.Kind.{Kind}
 use Rattle.der_schema.specs.declared.node.Kind.TheVariants as kind
 use Rattle.der_ber_types.specs.declared.inside.Inside.{Inside}
@@ -27,9 +27,27 @@ same_content (kind.Wrapped (wrapper.ImplicitList tag) i) = Some i
 same_content (kind.ContentUnder tag i) = Some i
 same_content k = same_type k
 
+-- members under the tag of a SET, which come in any order (X.690, 8.11.3)
+abbrev pub in_any_order : Inside → Inside
+in_any_order (inside.Members members) = inside.AnyOrder members
+in_any_order x = x
+
+-- what is in an element of a kind with the content of another, which is this
+abbrev pub inside_same : Kind → Inside → Inside
+inside_same (kind.Wrapped (wrapper.ImplicitList tag) i) x = if tag == 0x31 then in_any_order x else x
+inside_same _ x = x
+
 -- what is in an element of a kind that has a content of its own
 abbrev pub inside_here : Kind → Inside
 inside_here kind.Boolean = inside.Boolean
+inside_here kind.Integer = inside.Number
+inside_here (kind.NamedInteger items) = inside.Number
+inside_here (kind.Unsigned bits) = inside.Number
+inside_here (kind.Signed bits) = inside.Number
+inside_here (kind.Enumerated items) = inside.Number
+inside_here (kind.ExtensibleEnumerated items) = inside.Number
+inside_here kind.BitString = inside.Bits
+inside_here (kind.NamedBits items) = inside.Bits
 inside_here kind.OctetString = inside.Octets
 inside_here kind.Utf8String = inside.Octets
 inside_here kind.Character = inside.Octets
@@ -44,39 +62,46 @@ inside_here (kind.Wrapped (wrapper.Explicit number) i) = inside.One i
 inside_here (kind.Wrapped (wrapper.Application number) i) = inside.One i
 inside_here _ = inside.Same
 
+-- what is in a string in parts, whose content in one part is this: its elements (X.690, 8.6.4, 8.7.3, 8.23.3)
+abbrev pub in_parts : Inside → Option Inside
+in_parts inside.Octets = Some inside.Parts
+in_parts inside.Bits = Some inside.BitParts
+in_parts _ = None
+
 -- the tag in DER of an element with this in it: a string is primitive (10.2)
 abbrev pub tag_in_der : Inside → ℕ → ℕ
 tag_in_der inside.Parts tag = tag - 0x20
+tag_in_der inside.BitParts tag = tag - 0x20
 tag_in_der _ tag = tag
 
-abbrev pub IsWrapperTag : Wrapper → ℕ → Type 0
-IsWrapperTag w tag = HasTagNumber w × (tag ≡ wrapper_tag w)
+abbrev pub own_wrapper_tag : Wrapper → Option ℕ
+own_wrapper_tag w = if has_tag_number w then Some (wrapper_tag w) else None
 
 -- the tag of each element of a kind, if it has only one of its own (X.680, table 1)
-abbrev pub HasOwnTag : Kind → ℕ → Type 0
-HasOwnTag kind.Boolean tag = tag ≡ 0x01
-HasOwnTag kind.Integer tag = tag ≡ 0x02
-HasOwnTag (kind.NamedInteger items) tag = tag ≡ 0x02
-HasOwnTag (kind.Unsigned bits) tag = tag ≡ 0x02
-HasOwnTag (kind.Signed bits) tag = tag ≡ 0x02
-HasOwnTag (kind.Enumerated items) tag = tag ≡ 0x0A
-HasOwnTag (kind.ExtensibleEnumerated items) tag = tag ≡ 0x0A
-HasOwnTag kind.BitString tag = tag ≡ 0x03
-HasOwnTag (kind.NamedBits items) tag = tag ≡ 0x03
-HasOwnTag kind.OctetString tag = tag ≡ 0x04
-HasOwnTag kind.Null tag = tag ≡ 0x05
-HasOwnTag kind.ObjectIdentifier tag = tag ≡ 0x06
-HasOwnTag kind.RelativeOid tag = tag ≡ 0x0D
-HasOwnTag kind.Utf8String tag = tag ≡ 0x0C
-HasOwnTag kind.Character tag = tag ≡ 0x0C
-HasOwnTag kind.GeneralizedTime tag = tag ≡ 0x18
-HasOwnTag kind.LaterTime tag = tag ≡ 0x18
-HasOwnTag kind.UtcTime tag = tag ≡ 0x17
-HasOwnTag (kind.Sequence members) tag = tag ≡ 0x30
-HasOwnTag (kind.SequenceOf i) tag = tag ≡ 0x30
-HasOwnTag (kind.SetOf i) tag = tag ≡ 0x31
-HasOwnTag (kind.RestrictedString own) tag = tag ≡ own
-HasOwnTag (kind.AnyContent own) tag = tag ≡ own
-HasOwnTag (kind.ContentUnder own i) tag = tag ≡ own
-HasOwnTag (kind.Wrapped w i) tag = IsWrapperTag w tag
-HasOwnTag _ tag = ⊥
+abbrev pub own_tag : Kind → Option ℕ
+own_tag kind.Boolean = Some 0x01
+own_tag kind.Integer = Some 0x02
+own_tag (kind.NamedInteger items) = Some 0x02
+own_tag (kind.Unsigned bits) = Some 0x02
+own_tag (kind.Signed bits) = Some 0x02
+own_tag (kind.Enumerated items) = Some 0x0A
+own_tag (kind.ExtensibleEnumerated items) = Some 0x0A
+own_tag kind.BitString = Some 0x03
+own_tag (kind.NamedBits items) = Some 0x03
+own_tag kind.OctetString = Some 0x04
+own_tag kind.Null = Some 0x05
+own_tag kind.ObjectIdentifier = Some 0x06
+own_tag kind.RelativeOid = Some 0x0D
+own_tag kind.Utf8String = Some 0x0C
+own_tag kind.Character = Some 0x0C
+own_tag kind.GeneralizedTime = Some 0x18
+own_tag kind.LaterTime = Some 0x18
+own_tag kind.UtcTime = Some 0x17
+own_tag (kind.Sequence members) = Some 0x30
+own_tag (kind.SequenceOf i) = Some 0x30
+own_tag (kind.SetOf i) = Some 0x31
+own_tag (kind.RestrictedString own) = Some own
+own_tag (kind.AnyContent own) = Some own
+own_tag (kind.ContentUnder own i) = Some own
+own_tag (kind.Wrapped w i) = own_wrapper_tag w
+own_tag _ = None

@@ -1,5 +1,12 @@
 pub mod Kinds
 pub mod Inside
+pub mod Values
+pub mod Reordered
+pub mod Contents
 pub mod Order
 pub mod Content
 pub mod Pushed
+pub mod ToDer
+pub mod Errors
+pub mod Message
+pub mod Laws

@@ -1,24 +1,18 @@
 //! Elements in DER by their types.
-ghost use Rattle.std.specs.Prelude.{◌≡◌, ◌++◌, ◌∷◌, IfOk, OnOk, MatchOption};
-ghost use Rattle.picky_der_core.specs.Element.{length_octets};
-ghost use Rattle.der_ber_types.specs.Content.{
-  IsContent,
-  AreEach,
-  IsOne,
-  AreMembers,
-  IsTruth,
-  AreParts,
-};
-ghost use Rattle.der_ber_types.specs.Pushed.{IsPushed, IsMemberPushed};
+ghost use Rattle.std.specs.Prelude.{IfOk, MatchOption};
+ghost use Rattle.der_ber_types.specs.Content.{IsContent, AreEach, IsOne, AreMembers};
+ghost use Rattle.der_ber_types.specs.Pushed.{IsPushed, IsNonePushed, IsMemberPushed};
 
-use crate::TypeError;
+use crate::bits::joined_bits;
+use crate::contents::{copied, joined, push_header, truth};
+use crate::defaults::is_default;
+use crate::error::TypeError;
 use crate::inside::{Inside, inside_of};
 use crate::order::in_order;
+use crate::sets::in_member_order;
 use der_path::first_element;
 use der_schema::{Member, Node, Presence};
-use picky_der_core::asn1::Tag;
-use picky_der_core::misc::Length;
-use std::alloc::{AllocError, Global};
+use std::alloc::Global;
 
 // The DER of the one element of which the bytes are made, and which is of a node's type.
 #[cycle(writing)]
@@ -80,7 +74,8 @@ fn members_in_der(
     }
 }
 
-// Appends the DER of a member, if it is at the front of bytes, and returns the bytes after it.
+// Appends the DER of a member, if it is at the front of bytes, and returns the bytes after it. If it has its default
+// value, nothing is appended.
 #[cycle(writing)]
 fn push_member<'a>(
     alloc: Global,
@@ -92,13 +87,17 @@ fn push_member<'a>(
     ensures ok { IfOk result (λ after.
         IsMemberPushed nodes.now member.now bytes.now after.now der.old.items der.new.items) }
 {
-    match push_element(alloc, nodes, member.node, bytes, der)? {
-        Some(after) => Ok(after),
-        None => match member.presence {
+    let place = der.len();
+    let Some(after) = push_element(alloc, nodes, member.node, bytes, der)? else {
+        return match member.presence {
             Presence::Required => Err(TypeError::OtherType),
             _ => Ok(bytes),
-        },
+        };
+    };
+    if is_default(nodes, member, &der[place..]) {
+        der.truncate(place);
     }
+    Ok(after)
 }
 
 // Appends the DER of the element at the front of bytes, and returns the bytes after it. It is `None`, and nothing is
@@ -111,7 +110,8 @@ fn push_element<'a>(
     bytes: &'a [u8],
     der: &mut Vec<u8>,
 ) -> Result<Option<&'a [u8]>, TypeError>
-    ensures ok { IfOk result (λ found. MatchOption found (der.new.items ≡ der.old.items)
+    ensures ok { IfOk result (λ found. MatchOption found
+        (IsNonePushed nodes.now index bytes.now der.old.items der.new.items)
         (λ after. IsPushed nodes.now index bytes.now after.now der.old.items der.new.items)) }
 {
     let Some(element) = first_element(bytes) else {
@@ -137,10 +137,17 @@ fn content_in_der(
     ensures { IfOk result (λ der. IsContent nodes.now inside content.now der.items) }
 {
     match inside {
-        Inside::Same | Inside::Octets => Ok(copied(alloc, content)?),
-        Inside::Parts => joined(alloc, content),
+        Inside::Same | Inside::Number | Inside::Octets | Inside::Bits => Ok(copied(
+            alloc, content,
+        )?),
         Inside::Boolean => truth(alloc, content),
+        Inside::Parts => joined(alloc, content),
+        Inside::BitParts => joined_bits(alloc, content),
         Inside::Members(members) => members_in_der(alloc, nodes, members, content),
+        Inside::AnyOrder(members) => {
+            let ordered = in_member_order(alloc, nodes, members, content)?;
+            members_in_der(alloc, nodes, members, &ordered)
+        }
         Inside::Each(index) => each_in_der(alloc, nodes, index, content),
         Inside::Set(index) => {
             let elements = each_in_der(alloc, nodes, index, content)?;
@@ -148,52 +155,4 @@ fn content_in_der(
         }
         Inside::One(index) => one_in_der(alloc, nodes, index, content),
     }
-}
-
-// The same bytes.
-fn copied(alloc: Global, bytes: &[u8]) -> Result<Vec<u8>, AllocError>
-    ensures { IfOk result (λ copy. copy.items ≡ bytes.now) }
-{
-    let mut copy = Vec::with_capacity(alloc, bytes.len())?;
-    copy.extend_from_slice(bytes)?;
-    Ok(copy)
-}
-
-// The contents of the octet strings of which the bytes are made, one after another.
-fn joined(alloc: Global, bytes: &[u8]) -> Result<Vec<u8>, TypeError>
-    ensures { IfOk result (λ der. AreParts bytes.now der.items) }
-{
-    let mut der = Vec::new(alloc);
-    let mut rest = bytes;
-    while !rest.is_empty() {
-        let Some(part) = first_element(rest) else {
-            return Err(TypeError::OtherType);
-        };
-        if part.tag.inner() != 0x04 {
-            return Err(TypeError::OtherType);
-        }
-        der.extend_from_slice(part.content)?;
-        rest = part.after;
-    }
-    Ok(der)
-}
-
-// The content of a BOOLEAN in DER: FF for TRUE (X.690, 11.1), which is any byte but 00 in BER (8.2.2).
-fn truth(alloc: Global, content: &[u8]) -> Result<Vec<u8>, TypeError>
-    ensures { IfOk result (λ der. IsTruth content.now der.items) }
-{
-    let [value] = content else {
-        return Err(TypeError::OtherType);
-    };
-    let mut der = Vec::new(alloc);
-    der.push(if *value == 0x00 { 0x00 } else { 0xFF })?;
-    Ok(der)
-}
-
-// Appends a tag and a length.
-fn push_header(bytes: &mut Vec<u8>, tag: Tag, content_len: usize) -> Result<(), AllocError>
-    ensures { OnOk result (bytes.new.items ≡ bytes.old.items ++ tag ∷ length_octets content_len) }
-{
-    bytes.push(tag.inner())?;
-    bytes.extend_from_slice(&Length::bytes(content_len))
 }

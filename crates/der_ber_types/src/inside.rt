@@ -1,9 +1,18 @@
 //! What is in an element of a type.
-ghost use Rattle.std.specs.Prelude.{◌≡◌, slice_get, IfSome};
-ghost use Rattle.der_ber_types.specs.Kinds.{tag_in_der};
-ghost use Rattle.der_ber_types.specs.Inside.{HasInside, IsInside, IsInsideOne, IsInsideOwn};
+ghost use Rattle.std.specs.Prelude.{◌≡◌, slice_get, IfSome, IfNone};
+ghost use Rattle.der_ber_types.specs.Kinds.{tag_in_der, in_parts};
+ghost use Rattle.der_ber_types.specs.Inside.{
+  HasInside,
+  HasTag,
+  IsInside,
+  IsInsideOne,
+  IsInsideOwn,
+  IsNoInside,
+  IsNoInsideOwn,
+  HasNoneTag,
+};
 
-use crate::kinds::{inside_here, own_tag, same_content, same_type};
+use crate::kinds::{inside_here, inside_same, own_tag, same_content, same_type};
 use der_schema::{Alternative, Kind, Member, Node};
 use picky_der_core::asn1::Tag;
 
@@ -12,14 +21,22 @@ use picky_der_core::asn1::Tag;
 pub(crate) enum Inside {
     // A content that stays as it is.
     Same,
-    // That of a string whose parts are octet strings, in one.
+    // The content of an INTEGER or an ENUMERATED, which stays.
+    Number,
+    // TRUE or FALSE.
+    Boolean,
+    // The content of a string whose parts are octet strings, in one.
     Octets,
     // The parts of such a string.
     Parts,
-    // TRUE or FALSE.
-    Boolean,
+    // The content of a BIT STRING, in one.
+    Bits,
+    // The parts of a BIT STRING.
+    BitParts,
     // The members of a SEQUENCE.
     Members(&'static [Member]),
+    // The members of a SET, in any order.
+    AnyOrder(&'static [Member]),
     // Elements of this node's type, one after another.
     Each(u16),
     // The same in any order.
@@ -34,8 +51,19 @@ impl Inside {
         ensures { result ≡ tag_in_der self tag }
     {
         match self {
-            Inside::Parts => Tag::from(tag.inner().saturating_sub(0x20)),
+            Inside::Parts | Inside::BitParts => Tag::from(tag.inner().saturating_sub(0x20)),
             _ => tag,
+        }
+    }
+
+    // What is in a string in parts, whose content in one part is this.
+    fn in_parts(self) -> Option<Inside>
+        ensures { result ≡ in_parts self }
+    {
+        match self {
+            Inside::Octets => Some(Inside::Parts),
+            Inside::Bits => Some(Inside::BitParts),
+            _ => None,
         }
     }
 }
@@ -51,7 +79,8 @@ fn node_at(nodes: &[Node], index: u16) -> Option<Node>
 // doesn't come after one that it names has no values.
 #[cycle(inside)]
 pub(crate) fn inside_of(nodes: &[Node], index: u16, tag: Tag) -> Option<Inside>
-    ensures { IfSome result (IsInside nodes.now index tag) }
+    ensures some { IfSome result (IsInside nodes.now index tag) }
+    ensures none { IfNone result (HasTag nodes.now index tag → ⊥) }
 {
     let Some(node) = node_at(nodes, index) else {
         return None;
@@ -74,9 +103,10 @@ pub(crate) fn inside_of(nodes: &[Node], index: u16, tag: Tag) -> Option<Inside>
 }
 
 // The same of a type whose elements have a tag of their own. A string in parts has the constructed one of the same
-// number (X.690, 8.7.3.2, 8.14.4).
+// number (X.690, 8.6.4, 8.7.3.2, 8.14.4).
 fn with_own_tag(nodes: &[Node], index: u16, own: Tag, tag: Tag) -> Option<Inside>
-    ensures { IfSome result (IsInsideOwn nodes.now index own tag) }
+    ensures some { IfSome result (IsInsideOwn nodes.now index own tag) }
+    ensures none { IfNone result (IsNoInsideOwn nodes.now index own tag) }
 {
     if own == tag {
         return content_of(nodes, index);
@@ -84,10 +114,7 @@ fn with_own_tag(nodes: &[Node], index: u16, own: Tag, tag: Tag) -> Option<Inside
     if !tag.is_constructed() || tag.inner().checked_sub(0x20) != Some(own.inner()) {
         return None;
     }
-    match content_of(nodes, index) {
-        Some(Inside::Octets) => Some(Inside::Parts),
-        _ => None,
-    }
+    content_of(nodes, index)?.in_parts()
 }
 
 // The same of the first of the alternatives that has the tag, of those whose nodes come before this index.
@@ -98,7 +125,8 @@ fn inside_of_one(
     index: u16,
     tag: Tag,
 ) -> Option<Inside>
-    ensures { IfSome result (IsInsideOne nodes.now index alternatives.now tag) }
+    ensures some { IfSome result (IsInsideOne nodes.now index alternatives.now tag) }
+    ensures none { IfNone result (HasNoneTag nodes.now index alternatives.now tag) }
 {
     for alternative in alternatives {
         if alternative.node < index {
@@ -112,7 +140,8 @@ fn inside_of_one(
 
 // What is in an element of a node's type, whatever tag it has.
 fn content_of(nodes: &[Node], index: u16) -> Option<Inside>
-    ensures { IfSome result (HasInside nodes.now index) }
+    ensures some { IfSome result (HasInside nodes.now index) }
+    ensures none { IfNone result (IsNoInside nodes.now index) }
 {
     let Some(node) = node_at(nodes, index) else {
         return None;
@@ -120,7 +149,7 @@ fn content_of(nodes: &[Node], index: u16) -> Option<Inside>
     match same_content(node.kind) {
         Some(inner) => {
             if inner < index {
-                content_of(nodes, inner)
+                Some(inside_same(node.kind, content_of(nodes, inner)?))
             } else {
                 None
             }

@@ -1,6 +1,14 @@
 //! What a kind of types says of its elements.
-ghost use Rattle.std.specs.Prelude.{◌≡◌, IfSome};
-ghost use Rattle.der_ber_types.specs.Kinds.{same_type, same_content, inside_here, HasOwnTag, IsWrapperTag};
+ghost use Rattle.std.specs.Prelude.{◌≡◌};
+ghost use Rattle.der_ber_types.specs.Kinds.{
+  same_type,
+  same_content,
+  in_any_order,
+  inside_same,
+  inside_here,
+  own_tag,
+  own_wrapper_tag,
+};
 
 use crate::inside::Inside;
 use der_schema::Kind;
@@ -36,12 +44,48 @@ pub(crate) fn same_content(kind: Kind) -> Option<u16>
     }
 }
 
+// What is in an element of a kind with the content of another, which is this. Members under the tag of a SET come in
+// any order (X.690, 8.11.3).
+pub(crate) fn inside_same(kind: Kind, inside: Inside) -> Inside
+    ensures { result ≡ inside_same kind inside }
+{
+    match kind {
+        Kind::Wrapped {
+            wrapper: Wrapper::ImplicitList(tag),
+            ..
+        } => {
+            if tag == 0x31 {
+                in_any_order(inside)
+            } else {
+                inside
+            }
+        }
+        _ => inside,
+    }
+}
+
+fn in_any_order(inside: Inside) -> Inside
+    ensures { result ≡ in_any_order inside }
+{
+    match inside {
+        Inside::Members(members) => Inside::AnyOrder(members),
+        _ => inside,
+    }
+}
+
 // What is in an element of a kind that has a content of its own.
 pub(crate) fn inside_here(kind: Kind) -> Inside
     ensures { result ≡ inside_here kind }
 {
     match kind {
         Kind::Boolean => Inside::Boolean,
+        Kind::Integer
+        | Kind::NamedInteger(_)
+        | Kind::Unsigned(_)
+        | Kind::Signed(_)
+        | Kind::Enumerated(_)
+        | Kind::ExtensibleEnumerated(_) => Inside::Number,
+        Kind::BitString | Kind::NamedBits(_) => Inside::Bits,
         Kind::OctetString
         | Kind::Utf8String
         | Kind::Character
@@ -63,7 +107,7 @@ pub(crate) fn inside_here(kind: Kind) -> Inside
 // The only tag of a kind's elements (X.680, table 1). It is `None` for a CHOICE, for any element, and for a kind whose
 // values have the tags of those inside.
 pub(crate) fn own_tag(kind: Kind) -> Option<Tag>
-    ensures { IfSome result (HasOwnTag kind) }
+    ensures { result ≡ own_tag kind }
 {
     match kind {
         Kind::Boolean => Some(Tag::BOOLEAN),
@@ -89,7 +133,7 @@ pub(crate) fn own_tag(kind: Kind) -> Option<Tag>
 }
 
 fn wrapper_tag(wrapper: Wrapper) -> Option<Tag>
-    ensures { IfSome result (IsWrapperTag wrapper) }
+    ensures { result ≡ own_wrapper_tag wrapper }
 {
     if wrapper.has_tag_number() {
         Some(wrapper.tag())

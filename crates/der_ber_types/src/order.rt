@@ -2,7 +2,7 @@
 ghost use Rattle.std.specs.Prelude.{IfOk, map};
 ghost use Rattle.der_ber_types.specs.Order.{AreElements, AreInOrder};
 
-use crate::TypeError;
+use crate::error::TypeError;
 use der_path::first_element;
 use std::alloc::Global;
 

@@ -24,6 +24,12 @@ no_place = 8
 abbrev pub unknown_type : ℕ
 unknown_type = 9
 
+abbrev pub no_table : ℕ
+no_table = 10
+
+abbrev pub no_value : ℕ
+no_value = 11
+
 -- what is asked for is too large
 abbrev pub too_large : ℕ
 too_large = 3

@@ -33,6 +33,22 @@ pub extern "C" fn picky_der_put(out: &mut [u8], used: &mut usize, tag: u8, conte
     PICKY_DER_OK
 }
 
+// Appends bytes to the first `used` bytes of `out`, as picky_der_put appends an element.
+pub(crate) fn append(out: &mut [u8], used: &mut usize, bytes: &[u8]) -> u32
+    ensures { IsPut bytes.now out.old out.new used.old used.new result }
+{
+    let at = *used;
+    let Some(end) = at.checked_add(bytes.len()) else {
+        return PICKY_DER_UNSUPPORTED;
+    };
+    *used = end;
+    if end > out.len() {
+        return PICKY_DER_NO_ROOM;
+    }
+    out[at..end].copy_from_slice(bytes);
+    PICKY_DER_OK
+}
+
 /// Makes the bytes from `start` to `used` the content of one element with this tag, and adds the size of its header to
 /// `used`. These bytes are what was written since `used` was `start`.
 ///

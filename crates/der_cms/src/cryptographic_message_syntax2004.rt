@@ -12,10 +12,7 @@ ghost use Rattle.der_types.specs.ExactChoices.{choice_values};
 ghost use Rattle.der_types.specs.ExactMembers.{struct_values};
 ghost use Rattle.der_types.specs.SampleTrees.{exact_example};
 
-use crate::{
-    EncapsulatedContentInfo, EncryptedContentInfo, OriginatorInfo, RecipientInfos, SignerInfo,
-    UnprotectedAttributes,
-};
+use crate::{EncapsulatedContentInfo, EncryptedContentInfo, SignerInfo, UnprotectedAttributes};
 use der_elements::AnyElement;
 use der_types::{
     Exact, ExactAlternatives, ExactMembers, GeneralizedTime, Integer, Notated, NotatedAlternatives,
@@ -23,10 +20,7 @@ use der_types::{
 };
 use der_x509::AlgorithmIdentifier;
 use picky_asn1_der::OneOf::{Other, This};
-use picky_asn1_der::asn1::{
-    Asn1SetOf, ByteBuf, ExplicitContextTag0, ImplicitList0, ImplicitList1, ImplicitList2,
-    ImplicitList3, Tag,
-};
+use picky_asn1_der::asn1::{Asn1SetOf, ByteBuf, ExplicitContextTag0, ImplicitList1, Tag};
 use picky_asn1_der::de::{
     Begins, Faithful, FaithfulAlternatives, FaithfulMembers, Inhabited, deserialize_choice_as,
 };
@@ -476,213 +470,6 @@ impl Inhabited for EncryptedData {
     ghost example = { exact_example ⟦<Self as Exact>⟧.values ⟦<Self as Notated>⟧.notation ⟦<Self as Serialize>⟧.meaning refl Prim.assumption };
 }
 
-/// `AuthenticatedData` of CryptographicMessageSyntax2004, as a SEQUENCE.
-#[derive(Debug, Drop, PartialEq, Eq)]
-pub struct AuthenticatedData {
-    /// `CMSVersion`.
-    pub version: CmsVersion,
-    /// `[0] IMPLICIT OriginatorInfo OPTIONAL`.
-    pub originator_info: Option<ImplicitList0<OriginatorInfo>>,
-    /// `RecipientInfos`.
-    pub recipient_infos: RecipientInfos,
-    /// `MessageAuthenticationCodeAlgorithm`.
-    pub mac_algorithm: MessageAuthenticationCodeAlgorithm,
-    /// `[1] DigestAlgorithmIdentifier OPTIONAL`.
-    pub digest_algorithm: Option<ImplicitList1<DigestAlgorithmIdentifier>>,
-    /// `EncapsulatedContentInfo`.
-    pub encap_content_info: EncapsulatedContentInfo,
-    /// `[2] IMPLICIT AuthAttributes OPTIONAL`.
-    pub auth_attrs: Option<ImplicitList2<AuthAttributes>>,
-    /// `MessageAuthenticationCode`.
-    pub mac: MessageAuthenticationCode,
-    /// `[3] IMPLICIT UnauthAttributes OPTIONAL`.
-    pub unauth_attrs: Option<ImplicitList3<UnauthAttributes>>,
-}
-
-type AuthenticatedDataParts = (
-    CmsVersion,
-    Optional<ImplicitList0<OriginatorInfo>>,
-    RecipientInfos,
-    MessageAuthenticationCodeAlgorithm,
-    Optional<ImplicitList1<DigestAlgorithmIdentifier>>,
-    EncapsulatedContentInfo,
-    Optional<ImplicitList2<AuthAttributes>>,
-    MessageAuthenticationCode,
-    AuthenticatedDataParts2,
-);
-
-type AuthenticatedDataParts2 = (Optional<ImplicitList3<UnauthAttributes>>, ());
-
-impl Struct for AuthenticatedData {
-    type Members = AuthenticatedDataParts;
-
-    ghost parts = { λ it. (
-      it.version,
-      record { 0 = it.originator_info },
-      it.recipient_infos,
-      it.mac_algorithm,
-      record { 0 = it.digest_algorithm },
-      it.encap_content_info,
-      record { 0 = it.auth_attrs },
-      it.mac,
-      (record { 0 = it.unauth_attrs }, tt),
-    ) };
-
-    fn from_parts(members: AuthenticatedDataParts) -> AuthenticatedData {
-        let (
-            version,
-            Optional(originator_info),
-            recipient_infos,
-            mac_algorithm,
-            Optional(digest_algorithm),
-            encap_content_info,
-            Optional(auth_attrs),
-            mac,
-            others,
-        ) = members;
-        let (Optional(unauth_attrs), ()) = others;
-        AuthenticatedData {
-            version,
-            originator_info,
-            recipient_infos,
-            mac_algorithm,
-            digest_algorithm,
-            encap_content_info,
-            auth_attrs,
-            mac,
-            unauth_attrs,
-        }
-    }
-}
-
-impl Serialize for AuthenticatedData {
-    ghost meaning = { sequence_of ⟦<AuthenticatedDataParts as SerializeMembers>⟧.members ⟦<Self as Struct>⟧.parts };
-
-    fn serialize<W: WriteExt>(&self, serializer: &mut Serializer<W>) -> Result<usize> {
-        (
-            &self.version,
-            OptionalRef(&self.originator_info),
-            &self.recipient_infos,
-            &self.mac_algorithm,
-            OptionalRef(&self.digest_algorithm),
-            &self.encap_content_info,
-            OptionalRef(&self.auth_attrs),
-            &self.mac,
-            OptionalRef(&self.unauth_attrs),
-            (),
-        )
-            .serialize_sequence(serializer)
-    }
-}
-
-impl Deserialize for AuthenticatedData {
-    ghost shape = { sequence_shape ⟦<AuthenticatedDataParts as DeserializeMembers>⟧.layout };
-
-    ghost facts = { struct_facts ⟦<AuthenticatedDataParts as DeserializeMembers>⟧.facts refl ⟦<Self as Struct>⟧.parts };
-
-    fn deserialize<R: ReadExt>(deserializer: &mut Deserializer<R>) -> Result<AuthenticatedData> {
-        deserialize_struct_as(deserializer)
-    }
-
-    ghost proved = { Prim.assumption };
-}
-
-impl Begins for AuthenticatedData {
-    fn begins_with(tag: Tag) -> bool {
-        tag == Tag::SEQUENCE
-    }
-}
-
-impl List for AuthenticatedData {
-    ghost is_list = { λ it. tt };
-}
-
-impl Notated for AuthenticatedData {
-    ghost notation = { Notation.sequence ⟦<AuthenticatedDataParts as NotatedMembers>⟧.members_notation };
-
-    ghost denoted = { refl };
-}
-
-impl Exact for AuthenticatedData {
-    ghost values = { struct_values ⟦<AuthenticatedDataParts as ExactMembers>⟧.all_values ⟦<AuthenticatedDataParts as NotatedMembers>⟧.members_notation
-        ⟦<AuthenticatedDataParts as SerializeMembers>⟧.members ⟦<Self as Struct>⟧.parts
-        (λ m. (
-          record {
-            version = m.0;
-            originator_info = m.1.0;
-            recipient_infos = m.2;
-            mac_algorithm = m.3;
-            digest_algorithm = m.4.0;
-            encap_content_info = m.5;
-            auth_attrs = m.6.0;
-            mac = m.7;
-            unauth_attrs = m.8.0.0;
-          },
-          refl {a = m},
-        )) };
-
-    ghost exact = { Prim.assumption };
-}
-
-impl Clone for AuthenticatedData {
-    ghost is_clone = { λ x y. ⟦<CmsVersion as Clone>⟧.is_clone x.version y.version
-        × ⟦<Option<ImplicitList0<OriginatorInfo>> as Clone>⟧.is_clone x.originator_info y.originator_info
-        × ⟦<RecipientInfos as Clone>⟧.is_clone x.recipient_infos y.recipient_infos
-        × ⟦<MessageAuthenticationCodeAlgorithm as Clone>⟧.is_clone x.mac_algorithm y.mac_algorithm
-        × ⟦<Option<ImplicitList1<DigestAlgorithmIdentifier>> as Clone>⟧.is_clone x.digest_algorithm y.digest_algorithm
-        × ⟦<EncapsulatedContentInfo as Clone>⟧.is_clone x.encap_content_info y.encap_content_info
-        × ⟦<Option<ImplicitList2<AuthAttributes>> as Clone>⟧.is_clone x.auth_attrs y.auth_attrs
-        × ⟦<MessageAuthenticationCode as Clone>⟧.is_clone x.mac y.mac
-        × ⟦<Option<ImplicitList3<UnauthAttributes>> as Clone>⟧.is_clone x.unauth_attrs y.unauth_attrs };
-
-    fn clone(&self) -> std::result::Result<AuthenticatedData, AllocError> {
-        let (version, originator_info, recipient_infos, mac_algorithm) = copies::four(
-            &self.version,
-            &self.originator_info,
-            &self.recipient_infos,
-            &self.mac_algorithm,
-        )?;
-        let (digest_algorithm, encap_content_info, auth_attrs, mac, unauth_attrs) = copies::five(
-            &self.digest_algorithm,
-            &self.encap_content_info,
-            &self.auth_attrs,
-            &self.mac,
-            &self.unauth_attrs,
-        )?;
-        Ok(AuthenticatedData {
-            version,
-            originator_info,
-            recipient_infos,
-            mac_algorithm,
-            digest_algorithm,
-            encap_content_info,
-            auth_attrs,
-            mac,
-            unauth_attrs,
-        })
-    }
-}
-
-impl Faithful for AuthenticatedData {
-    ghost sameness = { struct_sameness ⟦<AuthenticatedDataParts as FaithfulMembers>⟧.sameness
-        ⟦<Self as Struct>⟧.parts };
-
-    ghost respects = { Prim.assumption };
-}
-
-impl Inhabited for AuthenticatedData {
-    ghost example = { exact_example ⟦<Self as Exact>⟧.values ⟦<Self as Notated>⟧.notation ⟦<Self as Serialize>⟧.meaning refl Prim.assumption };
-}
-
-/// `AuthAttributes` of CryptographicMessageSyntax2004: `SET SIZE (1..MAX) OF Attribute`.
-pub type AuthAttributes = WithSize<Asn1SetOf<Attribute>, 1, { usize::MAX }>;
-
-/// `UnauthAttributes` of CryptographicMessageSyntax2004: `SET SIZE (1..MAX) OF Attribute`.
-pub type UnauthAttributes = WithSize<Asn1SetOf<Attribute>, 1, { usize::MAX }>;
-
-/// `MessageAuthenticationCode` of CryptographicMessageSyntax2004: `OCTET STRING`.
-pub type MessageAuthenticationCode = ByteBuf;
-
 /// `DigestAlgorithmIdentifier` of CryptographicMessageSyntax2004: `AlgorithmIdentifier`.
 pub type DigestAlgorithmIdentifier = AlgorithmIdentifier;
 
@@ -694,9 +481,6 @@ pub type KeyEncryptionAlgorithmIdentifier = AlgorithmIdentifier;
 
 /// `ContentEncryptionAlgorithmIdentifier` of CryptographicMessageSyntax2004: `AlgorithmIdentifier`.
 pub type ContentEncryptionAlgorithmIdentifier = AlgorithmIdentifier;
-
-/// `MessageAuthenticationCodeAlgorithm` of CryptographicMessageSyntax2004: `AlgorithmIdentifier`.
-pub type MessageAuthenticationCodeAlgorithm = AlgorithmIdentifier;
 
 /// `KeyDerivationAlgorithmIdentifier` of CryptographicMessageSyntax2004: `AlgorithmIdentifier`.
 pub type KeyDerivationAlgorithmIdentifier = AlgorithmIdentifier;

@@ -3,6 +3,7 @@
 //! The types of CMS-AuthEnvelopedData-2007, CryptographicMessageSyntax2004.
 #![tactic(auto)]
 
+mod authenticated_data;
 mod certificates;
 mod cms_auth_enveloped_data_2007;
 mod cryptographic_message_syntax2004;
@@ -15,6 +16,10 @@ mod recipients;
 mod signed_data;
 pub mod values;
 
+pub use authenticated_data::{
+    AuthAttributes, AuthenticatedData, MessageAuthenticationCode,
+    MessageAuthenticationCodeAlgorithm, UnauthAttributes,
+};
 pub use certificates::{
     AttributeCertificateV1, AttributeCertificateV2, CertificateChoices, CertificateSet,
     ExtendedCertificate, IssuerAndSerialNumber, OtherCertificateFormat, OtherRevocationInfoFormat,
@@ -22,12 +27,10 @@ pub use certificates::{
 };
 pub use cms_auth_enveloped_data_2007::AuthEnvelopedData;
 pub use cryptographic_message_syntax2004::{
-    Attribute, AttributeValue, AuthAttributes, AuthenticatedData, CmsVersion,
-    ContentEncryptionAlgorithmIdentifier, ContentInfo, ContentType, Countersignature, Digest,
-    DigestAlgorithmIdentifier, DigestedData, EncryptedData, KeyDerivationAlgorithmIdentifier,
-    KeyEncryptionAlgorithmIdentifier, MessageAuthenticationCode,
-    MessageAuthenticationCodeAlgorithm, MessageDigest, SignatureAlgorithmIdentifier, SigningTime,
-    Time, UnauthAttributes,
+    Attribute, AttributeValue, CmsVersion, ContentEncryptionAlgorithmIdentifier, ContentInfo,
+    ContentType, Countersignature, Digest, DigestAlgorithmIdentifier, DigestedData, EncryptedData,
+    KeyDerivationAlgorithmIdentifier, KeyEncryptionAlgorithmIdentifier, MessageDigest,
+    SignatureAlgorithmIdentifier, SigningTime, Time,
 };
 pub use enveloped_data::{
     EncryptedContent, EncryptedContentInfo, EnvelopedData, OriginatorInfo, UnprotectedAttributes,

@@ -1,3 +1,4 @@
 pub mod Contents
 pub mod Json
 pub mod Numbers
+pub mod Refusals

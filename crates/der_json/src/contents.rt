@@ -66,7 +66,11 @@ pub(crate) fn plain_tag(kind: Kind) -> Option<Tag>
 }
 
 // The JSON of a content.
-fn content_value(alloc: Global, kind: Kind, content: Part<'_>) -> Result<Value, JsonError>
+pub(crate) fn content_value(
+    alloc: Global,
+    kind: Kind,
+    content: Part<'_>,
+) -> Result<Value, JsonError>
     ensures { IfOk result (λ value. IsContentJson kind content.entry.bytes.now (view value)) }
 {
     match kind {

@@ -5,12 +5,23 @@
 
 mod begins;
 mod contents;
+mod decimal;
+mod defaults;
 mod error;
 mod items;
+mod limits;
+mod messages;
 mod numbers;
+mod octets;
 mod part;
+mod refusal;
+mod same;
 mod strings;
+mod twice;
 mod values;
+mod writer;
 
 pub use error::JsonError;
+pub use messages::{from_json, from_json_text};
+pub use refusal::{FromJsonError, JsonForm, JsonMistake, JsonRefusal, JsonStep};
 pub use values::to_json;

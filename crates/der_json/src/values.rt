@@ -173,7 +173,7 @@ impl Reader {
 }
 
 // The index of the type that a kind is another name of, or some of whose values are its own.
-fn same_as(kind: Kind) -> Option<u16>
+pub(crate) fn same_as(kind: Kind) -> Option<u16>
     ensures { result ≡ same_as kind }
 {
     match kind {

@@ -1,9 +1,12 @@
-//! For each row on standard input, a type and bytes, writes the message in JSON to standard output, or why there is
-//! none.
+//! For each row on standard input, writes a line to standard output. A row is a type and bytes, whose JSON is written
+//! if the bytes come back from it, or a type, `from` and JSON, whose bytes are written. If there are none, the line
+//! says why.
 #![tactic(auto)]
 
-use der_fixtures::bytes_of;
-use der_json::to_json;
+mod kinds;
+
+use der_fixtures::{bytes_of, text_of};
+use der_json::{from_json, from_json_text, to_json};
 use der_schema::Schema;
 use der_schemas::{kerberos, pkix, x509};
 use std::alloc::{AllocError, Global};
@@ -18,7 +21,7 @@ fn main(rt: HostRuntime) -> io::Result<()> {
     Ok(())
 }
 
-// The message in JSON. An empty line is its own result, and so is a heading, which begins with `#`.
+// The line of a row. An empty line is its own result, and so is a heading, which begins with `#`.
 fn line_of(alloc: Global, row: &str) -> Result<String, AllocError> {
     if row.is_empty() || row.starts_with('#') {
         return String::from_str(alloc, row);
@@ -27,11 +30,32 @@ fn line_of(alloc: Global, row: &str) -> Result<String, AllocError> {
     let Some(schema) = schema_of(name) else {
         return String::from_str(alloc, "no schema");
     };
-    let Ok(bytes) = bytes_of(alloc, text) else {
-        return String::from_str(alloc, "no bytes");
+    if let Some(json) = text.strip_prefix("from ") {
+        return bytes_of_json(alloc, schema, json);
+    }
+    match bytes_of(alloc, text) {
+        Ok(bytes) => json_of(alloc, schema, &bytes),
+        Err(_) => String::from_str(alloc, "no bytes"),
+    }
+}
+
+// The JSON of a message, if its bytes come back.
+fn json_of(alloc: Global, schema: Schema, bytes: &[u8]) -> Result<String, AllocError> {
+    let value = match to_json(alloc, schema, bytes) {
+        Ok(value) => value,
+        Err(error) => return format!(in alloc; "{error}"),
     };
-    match to_json(alloc, schema, &bytes) {
-        Ok(value) => value.to_string(alloc),
+    match from_json(alloc, schema, &value) {
+        Ok(again) if again.as_slice() == bytes => value.to_string(alloc),
+        Ok(_) => String::from_str(alloc, "other bytes"),
+        Err(error) => format!(in alloc; "not back: {error}"),
+    }
+}
+
+// The bytes of a message in JSON.
+fn bytes_of_json(alloc: Global, schema: Schema, json: &str) -> Result<String, AllocError> {
+    match from_json_text(alloc, schema, json) {
+        Ok(bytes) => text_of(alloc, &bytes),
         Err(error) => format!(in alloc; "{error}"),
     }
 }
@@ -46,6 +70,6 @@ fn schema_of(name: &str) -> Option<Schema> {
         b"GeneralNames" => Some(pkix::general_names()),
         b"KRB-ERROR" => Some(kerberos::krb_error()),
         b"Ticket" => Some(kerberos::ticket()),
-        _ => None,
+        _ => kinds::schema_of(name),
     }
 }

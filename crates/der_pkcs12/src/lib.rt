@@ -3,12 +3,14 @@
 //! The types of PKCS-12.
 #![tactic(auto)]
 
+mod bags;
 pub mod named;
 pub mod notation;
 mod types;
 pub mod values;
 
+pub use bags::{CertBag, CrlBag, Pkcs12Attribute, SafeBag, SecretBag};
 pub use types::{
-    AuthenticatedSafe, CertBag, CrlBag, DigestInfo, KeyBag, MacData, PFX, Pkcs8ShroudedKeyBag,
-    Pkcs12Attribute, Pkcs12PbeParams, SafeBag, SafeContents, SecretBag,
+    AuthenticatedSafe, DigestInfo, KeyBag, MacData, PFX, Pkcs8ShroudedKeyBag, Pkcs12PbeParams,
+    SafeContents,
 };

@@ -19,6 +19,7 @@ mod pkix_attribute_certificate_2008;
 mod policies;
 mod privileges;
 mod revocation;
+mod targets;
 pub mod values;
 
 pub use asymmetric_key_package_module_v1::{
@@ -36,7 +37,7 @@ pub use pkcs_1::{OtherPrimeInfo, OtherPrimeInfos, RsaPrivateKey, RsaPublicKey, R
 pub use pkcs_10::{CertificationRequest, CertificationRequestInfo, CriAttributes};
 pub use pkix_attribute_certificate_2008::{
     AaControls, AttCertValidityPeriod, AttCertVersion, AttrSpec, AttributeCertificate,
-    AttributeCertificateInfo, ProxyInfo, Target, TargetCert, TargetInformation, Targets,
+    AttributeCertificateInfo,
 };
 pub use pkix1_explicit88::Attribute;
 pub use pkix1_implicit88::{
@@ -58,3 +59,4 @@ pub use revocation::{
     DistributionPoint, DistributionPointName, FreshestCrl, HoldInstructionCode, InvalidityDate,
     IssuingDistributionPoint, ReasonFlags,
 };
+pub use targets::{ProxyInfo, Target, TargetCert, TargetInformation, Targets};

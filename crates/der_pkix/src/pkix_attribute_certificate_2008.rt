@@ -2,34 +2,25 @@
 //!
 //! Types of PKIXAttributeCertificate-2008.
 ghost use Rattle.std.specs.Prelude.{refl};
-ghost use Rattle.picky_der_core.specs.Shape.{Shape};
-ghost use Rattle.picky_der_de.specs.declared.alternatives.OneOf.TheVariants.{Other, This};
-ghost use Rattle.picky_der_de.specs.ChoiceFacts.{choice_facts};
-ghost use Rattle.picky_der_de.specs.Faithful.{choice_sameness, struct_sameness};
+ghost use Rattle.picky_der_de.specs.Faithful.{struct_sameness};
 ghost use Rattle.picky_der_de.specs.MembersFacts.{sequence_of, sequence_shape, struct_facts};
 ghost use Rattle.der_types.specs.Notation.{Notation};
-ghost use Rattle.der_types.specs.ExactChoices.{choice_values};
 ghost use Rattle.der_types.specs.ExactMembers.{struct_values};
 ghost use Rattle.der_types.specs.SampleTrees.{exact_example};
 
-use crate::{AttCertIssuer, Attribute, GeneralName, Holder, IssuerSerial, ObjectDigestInfo};
+use crate::{AttCertIssuer, Attribute, Holder};
 use der_types::{
-    AtLeast, BitString, Exact, ExactAlternatives, ExactMembers, GeneralizedTime, InRange, Integer,
-    Notated, NotatedAlternatives, NotatedMembers, ObjectIdentifier, Plus, WithSize, copies,
+    AtLeast, BitString, Exact, ExactMembers, GeneralizedTime, InRange, Integer, Notated,
+    NotatedMembers, ObjectIdentifier, Plus, WithSize, copies,
 };
 use der_x509::{AlgorithmIdentifier, CertificateSerialNumber, Extensions, UniqueIdentifier};
-use picky_asn1_der::OneOf::{Other, This};
-use picky_asn1_der::asn1::{
-    ExplicitContextTag0, ExplicitContextTag1, ImplicitList0, ImplicitList1, ImplicitList2, Tag,
-};
-use picky_asn1_der::de::{
-    Begins, Faithful, FaithfulAlternatives, FaithfulMembers, Inhabited, deserialize_choice_as,
-};
+use picky_asn1_der::asn1::{ImplicitList0, ImplicitList1, Tag};
+use picky_asn1_der::de::{Begins, Faithful, FaithfulMembers, Inhabited};
 use picky_asn1_der::misc::{ReadExt, WriteExt};
 use picky_asn1_der::ser::{Defaulted, DefaultedRef, Optional, OptionalRef, True};
 use picky_asn1_der::{
-    Alternatives, Choice, Deserialize, DeserializeMembers, Deserializer, List, NoneOf, OneOf,
-    Result, Serialize, SerializeMembers, Serializer, Struct, deserialize_struct_as,
+    Deserialize, DeserializeMembers, Deserializer, List, Result, Serialize, SerializeMembers,
+    Serializer, Struct, deserialize_struct_as,
 };
 use std::alloc::AllocError;
 
@@ -448,236 +439,6 @@ impl Faithful for AttCertValidityPeriod {
 impl Inhabited for AttCertValidityPeriod {
     ghost example = { exact_example ⟦<Self as Exact>⟧.values ⟦<Self as Notated>⟧.notation ⟦<Self as Serialize>⟧.meaning refl Prim.assumption };
 }
-
-/// The value of the extension id-ce-targetInformation. RFC 5755 gives this type no name.
-/// `TargetInformation` of PKIXAttributeCertificate-2008: `SEQUENCE OF Targets`.
-pub type TargetInformation = Vec<Targets>;
-
-/// `Targets` of PKIXAttributeCertificate-2008: `SEQUENCE OF Target`.
-pub type Targets = Vec<Target>;
-
-/// `Target` of PKIXAttributeCertificate-2008, as a CHOICE.
-#[derive(Debug, Clone, Drop, PartialEq, Eq)]
-pub enum Target {
-    /// `[0] GeneralName`.
-    TargetName(ExplicitContextTag0<GeneralName>),
-    /// `[1] GeneralName`.
-    TargetGroup(ExplicitContextTag1<GeneralName>),
-    /// `[2] TargetCert`.
-    TargetCert(ImplicitList2<TargetCert>),
-}
-
-type TargetParts = OneOf<
-    ExplicitContextTag0<GeneralName>,
-    OneOf<ExplicitContextTag1<GeneralName>, OneOf<ImplicitList2<TargetCert>, NoneOf>>,
->;
-
-impl Choice for Target {
-    ghost use Rattle.der_pkix.specs.declared.pkix_attribute_certificate_2008.Target.TheVariants as variants;
-
-    type Alternatives = TargetParts;
-
-    ghost parts = { elim [
-      | variants.TargetName x ↦ This x
-      | variants.TargetGroup x ↦ Other (This x)
-      | variants.TargetCert x ↦ Other (Other (This x))
-    ] };
-
-    fn from_parts(value: TargetParts) -> Target {
-        match value {
-            This(target_name) => Target::TargetName(target_name),
-            Other(This(target_group)) => Target::TargetGroup(target_group),
-            Other(Other(This(target_cert))) => Target::TargetCert(target_cert),
-        }
-    }
-}
-
-impl Serialize for Target {
-    ghost meaning = { λ v. ⟦<TargetParts as Alternatives>⟧.meaning (⟦<Target as Choice>⟧.parts v) };
-
-    fn serialize<W: WriteExt>(&self, serializer: &mut Serializer<W>) -> Result<usize> {
-        match self {
-            Target::TargetName(target_name) => serializer.serialize_choice(target_name),
-            Target::TargetGroup(target_group) => serializer.serialize_choice(target_group),
-            Target::TargetCert(target_cert) => serializer.serialize_choice(target_cert),
-        }
-    }
-}
-
-impl Deserialize for Target {
-    ghost use Rattle.der_pkix.specs.declared.pkix_attribute_certificate_2008.Target.TheVariants as variants;
-
-    ghost shape = { Shape.choice ⟦<TargetParts as Alternatives>⟧.shapes };
-
-    ghost facts = { choice_facts ⟦<TargetParts as Alternatives>⟧.facts refl ⟦<Self as Choice>⟧.parts ⟦<Self as PartialEq>⟧.eq
-        (elim [ variants.TargetName _ ↦ elim [ variants.TargetName _ ↦ λ h. h | _ ↦ λ h. h ] | _ ↦ elim [ variants.TargetName _ ↦ λ h. h | _ ↦ λ h. h ] ]) };
-
-    ghost proved = { Prim.assumption };
-
-    fn deserialize<R: ReadExt>(deserializer: &mut Deserializer<R>) -> Result<Target> {
-        deserialize_choice_as(deserializer)
-    }
-}
-
-impl Begins for Target {
-    fn begins_with(tag: Tag) -> bool {
-        <TargetParts as Alternatives>::begins_with(tag)
-    }
-}
-
-impl Notated for Target {
-    ghost notation = { Notation.choice ⟦<TargetParts as NotatedAlternatives>⟧.alternatives_notation };
-
-    ghost denoted = { refl };
-}
-
-impl Exact for Target {
-    ghost use Rattle.der_pkix.specs.declared.pkix_attribute_certificate_2008.Target.TheVariants as variants;
-
-    ghost values = { choice_values ⟦<TargetParts as ExactAlternatives>⟧.chosen_values
-        ⟦<TargetParts as NotatedAlternatives>⟧.alternatives_notation ⟦<TargetParts as Alternatives>⟧.chosen ⟦<Self as Choice>⟧.parts
-        (elim [
-          | This x ↦ (variants.TargetName x, refl)
-          | Other (This x) ↦ (variants.TargetGroup x, refl)
-          | Other (Other (This x)) ↦ (variants.TargetCert x, refl)
-          | Other (Other (Other x)) ↦ elim x [ ]
-        ]) };
-
-    ghost exact = { Prim.assumption };
-}
-
-impl Faithful for Target {
-    ghost use Rattle.der_pkix.specs.declared.pkix_attribute_certificate_2008.Target.TheVariants as variants;
-
-    ghost sameness = { choice_sameness ⟦<TargetParts as FaithfulAlternatives>⟧.sameness ⟦<Self as Choice>⟧.parts ⟦<Self as PartialEq>⟧.eq
-        (elim [ variants.TargetName _ ↦ elim [ variants.TargetName _ ↦ λ h. h | _ ↦ λ h. h ] | _ ↦ elim [ variants.TargetName _ ↦ λ h. h | _ ↦ λ h. h ] ]) };
-
-    ghost respects = { Prim.assumption };
-}
-
-impl Inhabited for Target {
-    ghost example = { exact_example ⟦<Self as Exact>⟧.values ⟦<Self as Notated>⟧.notation ⟦<Self as Serialize>⟧.meaning refl Prim.assumption };
-}
-
-/// `TargetCert` of PKIXAttributeCertificate-2008, as a SEQUENCE.
-#[derive(Debug, Drop, PartialEq, Eq)]
-pub struct TargetCert {
-    /// `IssuerSerial`.
-    pub target_certificate: IssuerSerial,
-    /// `GeneralName OPTIONAL`.
-    pub target_name: Option<GeneralName>,
-    /// `ObjectDigestInfo OPTIONAL`.
-    pub cert_digest_info: Option<ObjectDigestInfo>,
-}
-
-type TargetCertParts = (
-    IssuerSerial,
-    Optional<GeneralName>,
-    Optional<ObjectDigestInfo>,
-    (),
-);
-
-impl Struct for TargetCert {
-    type Members = TargetCertParts;
-
-    ghost parts = { λ it. (
-      it.target_certificate,
-      record { 0 = it.target_name },
-      record { 0 = it.cert_digest_info },
-      tt,
-    ) };
-
-    fn from_parts(members: TargetCertParts) -> TargetCert {
-        let (target_certificate, Optional(target_name), Optional(cert_digest_info), ()) = members;
-        TargetCert {
-            target_certificate,
-            target_name,
-            cert_digest_info,
-        }
-    }
-}
-
-impl Serialize for TargetCert {
-    ghost meaning = { sequence_of ⟦<TargetCertParts as SerializeMembers>⟧.members ⟦<Self as Struct>⟧.parts };
-
-    fn serialize<W: WriteExt>(&self, serializer: &mut Serializer<W>) -> Result<usize> {
-        (
-            &self.target_certificate,
-            OptionalRef(&self.target_name),
-            OptionalRef(&self.cert_digest_info),
-            (),
-        )
-            .serialize_sequence(serializer)
-    }
-}
-
-impl Deserialize for TargetCert {
-    ghost shape = { sequence_shape ⟦<TargetCertParts as DeserializeMembers>⟧.layout };
-
-    ghost facts = { struct_facts ⟦<TargetCertParts as DeserializeMembers>⟧.facts refl ⟦<Self as Struct>⟧.parts };
-
-    fn deserialize<R: ReadExt>(deserializer: &mut Deserializer<R>) -> Result<TargetCert> {
-        deserialize_struct_as(deserializer)
-    }
-
-    ghost proved = { Prim.assumption };
-}
-
-impl Begins for TargetCert {
-    fn begins_with(tag: Tag) -> bool {
-        tag == Tag::SEQUENCE
-    }
-}
-
-impl List for TargetCert {
-    ghost is_list = { λ it. tt };
-}
-
-impl Notated for TargetCert {
-    ghost notation = { Notation.sequence ⟦<TargetCertParts as NotatedMembers>⟧.members_notation };
-
-    ghost denoted = { refl };
-}
-
-impl Exact for TargetCert {
-    ghost values = { struct_values ⟦<TargetCertParts as ExactMembers>⟧.all_values ⟦<TargetCertParts as NotatedMembers>⟧.members_notation
-        ⟦<TargetCertParts as SerializeMembers>⟧.members ⟦<Self as Struct>⟧.parts
-        (λ m. (record { target_certificate = m.0; target_name = m.1.0; cert_digest_info = m.2.0 }, refl {a = m})) };
-
-    ghost exact = { Prim.assumption };
-}
-
-impl Clone for TargetCert {
-    ghost is_clone = { λ x y. ⟦<IssuerSerial as Clone>⟧.is_clone x.target_certificate y.target_certificate
-        × ⟦<Option<GeneralName> as Clone>⟧.is_clone x.target_name y.target_name
-        × ⟦<Option<ObjectDigestInfo> as Clone>⟧.is_clone x.cert_digest_info y.cert_digest_info };
-
-    fn clone(&self) -> std::result::Result<TargetCert, AllocError> {
-        let (target_certificate, target_name, cert_digest_info) = copies::three(
-            &self.target_certificate,
-            &self.target_name,
-            &self.cert_digest_info,
-        )?;
-        Ok(TargetCert {
-            target_certificate,
-            target_name,
-            cert_digest_info,
-        })
-    }
-}
-
-impl Faithful for TargetCert {
-    ghost sameness = { struct_sameness ⟦<TargetCertParts as FaithfulMembers>⟧.sameness ⟦<Self as Struct>⟧.parts };
-
-    ghost respects = { Prim.assumption };
-}
-
-impl Inhabited for TargetCert {
-    ghost example = { exact_example ⟦<Self as Exact>⟧.values ⟦<Self as Notated>⟧.notation ⟦<Self as Serialize>⟧.meaning refl Prim.assumption };
-}
-
-/// `ProxyInfo` of PKIXAttributeCertificate-2008: `SEQUENCE OF Targets`.
-pub type ProxyInfo = Vec<Targets>;
 
 /// `AAControls` of PKIXAttributeCertificate-2008, as a SEQUENCE.
 #[derive(Debug, Drop, PartialEq, Eq)]

@@ -1,7 +1,9 @@
+pub mod Accepted
 pub mod AllTypes
 pub mod AttributeNameLemmas
 pub mod Examined
 pub mod FittingLemmas
+pub mod JsonFloats
 pub mod Lists
 pub mod NoFloats
 pub mod StringLemmas

@@ -3,9 +3,11 @@ pub mod Certificates
 pub mod Described
 pub mod Explanation
 pub mod Fitting
+pub mod JsonMessages
 pub mod Message
 pub mod Names
 pub mod Outcome
+pub mod Paths
 pub mod Place
 pub mod Printed
 pub mod Types

@@ -9,6 +9,9 @@ use picky_asn1_der::DecodeError;
 use std::alloc::{AllocError, Global};
 use std::fmt;
 
+// Why no bytes are refused.
+const NO_ELEMENT: &str = "refused at 0: no element (X.690, 8.1.1)";
+
 /// Why bytes are refused, and where. It prints as its text.
 #[derive(Debug, Drop)]
 pub struct Explanation {
@@ -37,6 +40,13 @@ pub(crate) fn explanation_of(
     ensures { IfOk result (IsExplanationOf bytes.now refusal) }
 {
     let reason = reason_of(alloc, bytes, refusal)?;
+    if bytes.is_empty() {
+        let text = String::from_str(alloc, NO_ELEMENT)?;
+        return Ok(Explanation {
+            offset: reason.offset,
+            text,
+        });
+    }
     let path = path_text(alloc, named, bytes, refusal.position, &reason)?;
     explained(alloc, reason, &path)
 }

@@ -1,11 +1,13 @@
 //! What is printed of a message. The only error of each function is a failed allocation.
-ghost use Rattle.std.specs.Prelude.{◌≡◌, [], ◌∷◌, ◌++◌, false, IfOk, string_bytes};
+ghost use Rattle.std.specs.Prelude.{◌≡◌, [], ◌∷◌, ◌++◌, false, length, IfOk, string_bytes};
 ghost use Rattle.std.specs.Option.{option_copied};
 ghost use Rattle.serde_json.specs.View.{view};
 ghost use Rattle.serde_json.specs.Written.{has_float};
-ghost use Rattle.der_read.specs.Printed.{or_words, words_data, message_data, message_line, offset_data, refusal_data};
-ghost use Rattle.der_read.specs.Printed.{refusal_line, refusal_text, verdict_line, IsReadMessage};
+ghost use Rattle.der_read.specs.Printed.{or_words, words_data, plain_data, valued_data, unvalued_data, offset_data};
+ghost use Rattle.der_read.specs.Printed.{refusal_data, refusal_line, refusal_text, IsMessageData, IsMessageLine};
+ghost use Rattle.der_read.specs.Printed.{IsReadMessage, IsVerdictLine};
 
+use crate::json::{MessageJson, json_of};
 use crate::{MessageType, Verdict, block_value, place_text, verdict_of};
 use der_program_base::{Format, Printed, json_line, text_or_bytes};
 use serde_json::{Value, json};
@@ -14,7 +16,8 @@ use std::alloc::{AllocError, Global};
 /// Reads bytes as a message of the type that is asked for, and returns the line on it. Without a type they are read as
 /// one of the type that has the label of their block of PEM, and without a label as one of each type.
 ///
-/// The line begins with the file and, for a block of PEM, its number.
+/// The line begins with the file and, for a block of PEM, its number. In JSON it has the message itself (X.697), if
+/// there is a schema of its first type.
 pub fn read_message(
     alloc: Global,
     format: Format,
@@ -28,7 +31,7 @@ pub fn read_message(
         bytes.now) }
 {
     let verdict = verdict_of(alloc, wanted, label, bytes)?;
-    let line = verdict_line(alloc, format, file, block, bytes.len(), &verdict)?;
+    let line = verdict_line(alloc, format, file, block, bytes, &verdict)?;
     let text = ended(alloc, &line)?;
     let status = verdict.status();
     Ok(Printed { text, status })
@@ -41,20 +44,20 @@ pub(crate) fn ended(alloc: Global, line: &str) -> Result<String, AllocError>
     format!(in alloc; "{line}\n")
 }
 
-// The line on what came of reading so many bytes.
+// The line on what came of reading these bytes.
 fn verdict_line(
     alloc: Global,
     format: Format,
     file: &str,
     block: Option<usize>,
-    size: usize,
+    bytes: &[u8],
     verdict: &Verdict,
 ) -> Result<String, AllocError>
-    ensures { IfOk result (λ line. string_bytes line
-        ≡ verdict_line format file.now block size verdict.now) }
+    ensures { IfOk result (λ line. IsVerdictLine format file.now block bytes.now verdict.now
+        (string_bytes line)) }
 {
     if let Verdict::Message(types) = verdict {
-        return message_line(alloc, format, file, block, size, types);
+        return message_line(alloc, format, file, block, bytes, types);
     }
     let text = refusal_text(alloc, verdict)?;
     refusal_line(alloc, format, file, block, offset_value(verdict), &text)
@@ -66,38 +69,102 @@ fn message_line(
     format: Format,
     file: &str,
     block: Option<usize>,
-    size: usize,
+    bytes: &[u8],
     types: &[MessageType],
 ) -> Result<String, AllocError>
-    ensures { IfOk result (λ line. string_bytes line
-        ≡ message_line format file.now block size types.now) }
+    ensures { IfOk result (λ line. IsMessageLine format file.now block bytes.now types.now
+        (string_bytes line)) }
 {
     match format {
         Format::Text => {
             let place = place_text(alloc, file, block)?;
             let words = or_words(alloc, types)?;
+            let size = bytes.len();
             format!(in alloc; "{place}{words}, {size} bytes")
         }
         Format::Json => {
-            let value = message_value(alloc, file, block, size, types)?;
+            let value = message_value(alloc, file, block, bytes, types)?;
             json_line(alloc, &value)
         }
     }
 }
 
-// The object of a message.
+// The object of a message. It has the message itself if there is a schema of the first of its types.
 fn message_value(
+    alloc: Global,
+    file: &str,
+    block: Option<usize>,
+    bytes: &[u8],
+    types: &[MessageType],
+) -> Result<Value, AllocError>
+    ensures { IfOk result (λ value. IsMessageData file.now block bytes.now types.now (view value)) }
+{
+    let Some(named) = types.first() else {
+        return plain_value(alloc, file, block, bytes.len(), types);
+    };
+    match json_of(alloc, *named, bytes)? {
+        MessageJson::Value(json) => valued_value(alloc, file, block, bytes.len(), types, json),
+        MessageJson::NoSchema => plain_value(alloc, file, block, bytes.len(), types),
+        MessageJson::Refused(refusal) => {
+            let reason = format!(in alloc; "{refusal}")?;
+            unvalued_value(alloc, file, block, bytes.len(), types, &reason)
+        }
+    }
+}
+
+// The object of a message without the message.
+fn plain_value(
     alloc: Global,
     file: &str,
     block: Option<usize>,
     size: usize,
     types: &[MessageType],
 ) -> Result<Value, AllocError>
-    ensures { IfOk result (λ value. view value ≡ message_data file.now block size types.now) }
+    ensures { IfOk result (λ value. view value ≡ plain_data file.now block size types.now) }
 {
     let block = block_value(block);
     let types = words_value(alloc, types)?;
     json!(in alloc; {"file": file, "block": block, "types": types, "length": size})
+}
+
+// The object of a message with this JSON.
+fn valued_value(
+    alloc: Global,
+    file: &str,
+    block: Option<usize>,
+    size: usize,
+    types: &[MessageType],
+    json: Value,
+) -> Result<Value, AllocError>
+    ensures { IfOk result (λ value. view value
+        ≡ valued_data file.now block size types.now (view json)) }
+{
+    let block = block_value(block);
+    let types = words_value(alloc, types)?;
+    json!(in alloc; {"file": file, "block": block, "types": types, "length": size, "value": json})
+}
+
+// The object of a message that has no JSON for this reason.
+fn unvalued_value(
+    alloc: Global,
+    file: &str,
+    block: Option<usize>,
+    size: usize,
+    types: &[MessageType],
+    reason: &str,
+) -> Result<Value, AllocError>
+    ensures { IfOk result (λ value. view value
+        ≡ unvalued_data file.now block size types.now reason.now) }
+{
+    let block = block_value(block);
+    let types = words_value(alloc, types)?;
+    json!(in alloc; {
+        "file": file,
+        "block": block,
+        "types": types,
+        "length": size,
+        "noValue": reason
+    })
 }
 
 // The line of a refusal with this text, which was found at this offset.

@@ -2,10 +2,12 @@
 //! node, what the standard calls it, and the index of the type inside.
 #![tactic(auto)]
 
+mod tables;
+
 use der_schema::Schema;
-use der_schemas::{kerberos, pkix, x509};
 use std::alloc::{AllocError, Global};
 use std::io;
+use tables::schema_of;
 
 fn main(rt: HostRuntime) -> io::Result<()> {
     let names = io::read_to_string(rt.alloc(), rt.reader())?;
@@ -19,20 +21,6 @@ fn main(rt: HostRuntime) -> io::Result<()> {
         }
     }
     Ok(())
-}
-
-// The schema of the type with this name.
-fn schema_of(name: &str) -> Option<Schema> {
-    match name.as_bytes() {
-        b"Certificate" => Some(x509::certificate()),
-        b"CertificateList" => Some(x509::certificate_list()),
-        b"KeyUsage" => Some(x509::key_usage()),
-        b"GeneralName" => Some(pkix::general_name()),
-        b"GeneralNames" => Some(pkix::general_names()),
-        b"KRB-ERROR" => Some(kerberos::krb_error()),
-        b"Ticket" => Some(kerberos::ticket()),
-        _ => None,
-    }
 }
 
 // The nodes up to the one of the type.

@@ -6,7 +6,7 @@ ghost use Rattle.der_schema.specs.NotationOf.{notation_of};
 
 use der_schema::{Alternative, DefaultValue, Item, Kind, Member, Node, Presence, Schema};
 use der_types::Notated;
-use der_x509::{Certificate, CertificateList, KeyUsage};
+use der_x509::{Certificate, CertificateList, KeyUsage, SubjectPublicKeyInfo};
 use picky_der_core::asn1::Wrapper;
 
 /// The schema of `Certificate`.
@@ -36,6 +36,16 @@ pub fn key_usage() -> Schema
     Schema {
         nodes: &NODES,
         root: 36,
+    }
+}
+
+/// The schema of `SubjectPublicKeyInfo`.
+pub fn subject_public_key_info() -> Schema
+    ensures { notation_of result.nodes.now result.root ≡ ⟦<SubjectPublicKeyInfo as Notated>⟧.notation }
+{
+    Schema {
+        nodes: &NODES,
+        root: 19,
     }
 }
 

@@ -9,6 +9,7 @@ pub mod notation;
 mod ocsp_2013_88;
 mod ocsp_requests;
 mod pkixtsp;
+mod time_stamp_responses;
 pub mod values;
 
 pub use certificate_status::{CertStatus, RevokedInfo, SingleResponse, UnknownInfo};
@@ -17,7 +18,7 @@ pub use ocsp_2013_88::{
     OcspResponseStatus, ResponderId, ResponseBytes, ResponseData, ResponseTime,
 };
 pub use ocsp_requests::{CertId, OcspRequest, Request, Signature, TbsRequest, Version};
-pub use pkixtsp::{
-    Accuracy, MessageImprint, PkiFailureInfo, PkiFreeText, PkiStatus, PkiStatusInfo, TimeStampReq,
-    TimeStampResp, TimeStampToken, TsaPolicyId, TstInfo,
+pub use pkixtsp::{Accuracy, MessageImprint, TimeStampReq, TsaPolicyId, TstInfo};
+pub use time_stamp_responses::{
+    PkiFailureInfo, PkiFreeText, PkiStatus, PkiStatusInfo, TimeStampResp, TimeStampToken,
 };

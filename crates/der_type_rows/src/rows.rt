@@ -19,6 +19,7 @@ use std::alloc::{AllocError, Global};
 /// | `write TYPE NUMBER`, `make TYPE NUMBER` | what a number is written as, likewise |
 /// | `utc BYTES`, `generalized BYTES`, `time BYTES` | the time that is read, and how it is written |
 /// | `date NUMBERS` | how a date and time is written |
+/// | `parse TEXT` | the date and time that the text is |
 /// | `order BYTES, BYTES` | which of two GeneralizedTimes is first |
 /// | `oid ARCS`, `relative ARCS`, `read-oid BYTES`, `read-relative BYTES` | object identifiers |
 /// | `bits DIGITS`, `octets UNUSED BYTES`, `flags DIGITS`, `read-bits BYTES`, `read-flags BYTES` | bit strings, and bits with names |
@@ -54,6 +55,7 @@ fn of_content(alloc: Global, word: &str, rest: &str) -> Result<String, AllocErro
         "generalized" => read::<GeneralizedTime>(alloc, "refused ", rest),
         "time" => read::<Time>(alloc, "refused ", rest),
         "date" => times::date(alloc, rest),
+        "parse" => times::parsed(alloc, rest),
         "order" => times::order(alloc, rest),
         "text" => strings::text(alloc, rest),
         "string" => strings::string(alloc, rest),

@@ -74,6 +74,14 @@ pub(crate) fn date(alloc: Global, text: &str) -> Result<String, AllocError> {
     }
 }
 
+/// The date and time of a text, as its own text.
+pub(crate) fn parsed(alloc: Global, text: &str) -> Result<String, AllocError> {
+    match text.parse::<DateTime>() {
+        Ok(at) => format!(in alloc; "{at}"),
+        Err(error) => format!(in alloc; "{error}"),
+    }
+}
+
 /// How two times compare.
 pub(crate) fn order(alloc: Global, text: &str) -> Result<String, AllocError> {
     let Some((first, second)) = text.split_once(", ") else {

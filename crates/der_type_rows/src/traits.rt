@@ -117,7 +117,9 @@ fn around() {
     has_all::<ImplicitPrimitive<Integer, 0x80>>();
     has_all::<Asn1Set<Integer>>();
     has_all::<ImplicitSet<Integer, 0xA0>>();
-    has_all::<Encoded<Integer>>();
+    has_clone::<Encoded<Integer>>();
+    has_order::<Encoded<Integer>>();
+    has_debug::<Encoded<Integer>>();
 }
 
 // Errors, and what they are about.

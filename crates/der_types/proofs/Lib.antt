@@ -1,3 +1,4 @@
 pub mod ContentReads
+pub mod DateTimeReads
 pub mod DottedLemmas
 pub mod OidTexts

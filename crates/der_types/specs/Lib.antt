@@ -15,6 +15,7 @@ pub mod ContentForms
 pub mod ContentTests
 pub mod ContentTypes
 pub mod ContentsFacts
+pub mod DateTimeTexts
 pub mod DateTimes
 pub mod Denotes
 pub mod Dotted

@@ -27,7 +27,6 @@ use picky_der_ser::{Serialize, Serializer};
 use std::alloc::AllocError;
 use std::cmp::Ordering;
 use std::fmt;
-use std::hash::{Hash, Hasher};
 
 /// A value of the type `T` together with its encoding, for a member whose type another member decides (ANY DEFINED BY).
 /// Two of them are equal exactly if their encodings are. It prints as its value.
@@ -114,17 +113,6 @@ impl<T: Deserialize> PartialOrd for Encoded<T> {
 
     fn partial_cmp(&self, other: &Encoded<T>) -> Option<Ordering> {
         Some(self.cmp(other))
-    }
-}
-
-/// It is hashed as its encoding.
-impl<T: Deserialize> Hash for Encoded<T> {
-    ghost hash_input = { λ it. ⟦<Asn1RawDer as Hash>⟧.hash_input it.encoding };
-
-    ghost respects_eq = { λ x y. ⟦<Asn1RawDer as Hash>⟧.respects_eq x.encoding y.encoding };
-
-    fn hash<H: Hasher>(&self, state: &mut H) {
-        self.encoding.hash(state);
     }
 }
 

@@ -13,6 +13,7 @@ mod constraint;
 mod contents;
 pub mod copies;
 mod date_time;
+mod date_time_from;
 mod dotted;
 mod encoded;
 mod enumerated;

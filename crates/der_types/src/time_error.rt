@@ -8,4 +8,7 @@ pub enum TimeError {
     /// Times of the form don't have this year.
     #[error("a year that the form doesn't have")]
     OtherYear,
+    /// A text isn't a date and time as `2026-11-27T23:12:00Z`.
+    #[error("a text that is no date and time, as 2026-11-27T23:12:00Z is")]
+    OtherText,
 }

@@ -34,7 +34,7 @@ pub where_none : {{A P : Type 0}} (found : Option A) → found ≡ None → IfNo
 where_none {{P = P}} found e h = elim (subst (λ it. IfNone it Stated) e h) [
   | inl is ↦ absurd (other is)
   | inr known ↦ known.1
-  ]
+]
   where
     Stated : Type 0
     Stated = {_NO_MEMORY} × P
@@ -111,12 +111,14 @@ def tried_answers(declared: UnionDeclaration, crate: str, stem: str) -> list[str
         f"use Rattle.{crate}.proofs.{stem}.{declared.name}TryVia.try_from_parts.Goals as goal",
         "",
         "pub returns-clause-err : goal.returns-clause-err",
-        "returns-clause-err c = inr (refl, elim [",
+        "returns-clause-err c = inr (",
+        "  refl,",
+        "  elim [",
     ]
     for index, it in enumerate(declared.variants):
         ok, rest = (f"c.{step}{f'-{index + 1}' if index else ''}" for step in ("in_ok-it", "in_default"))
-        lines.append(f"  | variants.{it.name} x ↦ where_none {ok}.field-0 {rest}.is {ok}.ensures.none x")
-    return [*lines, "  ])"]
+        lines.append(f"    | variants.{it.name} x ↦ where_none {ok}.field-0 {rest}.is {ok}.ensures.none x")
+    return [*lines, "  ],", ")"]
 
 
 def later_path(declared: ListedDeclaration, stem: str) -> str:

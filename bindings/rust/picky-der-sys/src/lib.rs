@@ -9,8 +9,8 @@
 mod raw;
 
 pub use raw::{
-    Element, Place, PICKY_DER_END, PICKY_DER_INVALID, PICKY_DER_NO_MEMORY, PICKY_DER_NO_PLACE, PICKY_DER_NO_ROOM, PICKY_DER_OK,
-    PICKY_DER_OTHER, PICKY_DER_TRUNCATED, PICKY_DER_UNKNOWN_TYPE, PICKY_DER_UNSUPPORTED,
+    Element, Place, PICKY_DER_END, PICKY_DER_INVALID, PICKY_DER_NO_MEMORY, PICKY_DER_NO_PLACE, PICKY_DER_NO_ROOM, PICKY_DER_NO_TABLE,
+    PICKY_DER_NO_VALUE, PICKY_DER_OK, PICKY_DER_OTHER, PICKY_DER_TRUNCATED, PICKY_DER_UNKNOWN_TYPE, PICKY_DER_UNSUPPORTED,
 };
 
 /// Checks whether bytes are exactly one message of the type with this number. Returns the code and the position.
@@ -18,6 +18,23 @@ pub fn check(number: u32, bytes: &[u8]) -> (u32, usize) {
     let mut position = 0;
     let code = unsafe { raw::picky_der_check(number, bytes.as_ptr(), bytes.len(), &mut position) };
     (code, position)
+}
+
+/// Appends to the first `used` bytes the path of the element for which `check` refuses bytes. Returns the code.
+pub fn path(number: u32, bytes: &[u8], out: &mut [u8], used: &mut usize) -> u32 {
+    unsafe { raw::picky_der_path(number, bytes.as_ptr(), bytes.len(), out.as_mut_ptr(), out.len(), used) }
+}
+
+/// Appends the JSON of a message to the first `used` bytes. Returns the code and the position, both as of `check` if it refuses the bytes.
+pub fn to_json(number: u32, bytes: &[u8], out: &mut [u8], used: &mut usize) -> (u32, usize) {
+    let mut position = 0;
+    let code = unsafe { raw::picky_der_to_json(number, bytes.as_ptr(), bytes.len(), &mut position, out.as_mut_ptr(), out.len(), used) };
+    (code, position)
+}
+
+/// Appends the DER of the message with this JSON to the first `used` bytes, or why it is none. Returns the code.
+pub fn from_json(number: u32, json: &[u8], out: &mut [u8], used: &mut usize) -> u32 {
+    unsafe { raw::picky_der_from_json(number, json.as_ptr(), json.len(), out.as_mut_ptr(), out.len(), used) }
 }
 
 /// Returns the code, and the element at the front of the bytes if it is `PICKY_DER_OK`.

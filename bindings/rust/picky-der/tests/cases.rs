@@ -1,5 +1,5 @@
 //! The cases that tools/bindings writes: inputs, each with what `der read` says of it.
-use picky_der::{elements, front, is_der, Class, Error, Message, Reason, Writer};
+use picky_der::{elements, front, is_der, Class, Error, JsonError, Message, Reason, Writer};
 
 const CERTIFICATE: u32 = 0;
 const READ: u32 = 1;
@@ -38,11 +38,11 @@ fn check(case: &Case) {
     match Message::Certificate.check(&case.der) {
         Ok(()) => assert!(broken.is_none() && case.verdict != REFUSED),
         Err(error @ Error { reason: Reason::Rule(_), .. }) => {
-            assert!(broken == Some(error) && case.verdict != REFUSED && case.verdict != CERTIFICATE)
+            assert!(broken == Some(Error { path: String::new(), ..error }) && case.verdict != REFUSED && case.verdict != CERTIFICATE)
         }
         Err(error) => {
             assert!(error.position <= case.der.len() && case.verdict != READ && case.verdict != CERTIFICATE);
-            let offset = broken.map_or_else(|| offset_of(&case.der, error.position), |rule| rule.position);
+            let offset = broken.as_ref().map_or_else(|| offset_of(&case.der, error.position), |rule| rule.position);
             assert!(case.verdict != REFUSED || offset == case.offset);
         }
     }
@@ -64,7 +64,7 @@ fn parts_and_more() {
     }
     let more = [der.as_slice(), &[0]].concat();
     let error = Message::Certificate.check(&more).unwrap_err();
-    assert_eq!(error, Error { reason: Reason::Invalid, position: der.len() });
+    assert_eq!((error.reason, error.position), (Reason::Invalid, der.len()));
     assert!(Message::ALL.iter().all(|it| (it.check(&der).is_ok()) == (*it == Message::Certificate)));
 }
 
@@ -92,9 +92,39 @@ fn written_again() {
 #[test]
 fn no_bytes() {
     let error = Message::Certificate.check(&[]).unwrap_err();
-    assert_eq!(error, Error { reason: Reason::Truncated, position: 0 });
+    assert_eq!(error, Error { reason: Reason::Truncated, position: 0, path: String::new() });
     assert!(is_der(&[]) && elements(&[]).next().is_none() && front(&[]).is_err());
     assert_eq!(Writer::new().put(0x04, &[]).unwrap().as_bytes(), [4, 0]);
+}
+
+#[test]
+fn paths() {
+    let mut der = cases().remove(0).der;
+    let algorithm = elements(&der).map(Result::unwrap).find(|it| it.tag == 0x06).unwrap().offset;
+    der[algorithm] = 0x04;
+    let error = Message::Certificate.check(&der).unwrap_err();
+    assert_eq!(error.path, "tbsCertificate.signature.algorithm");
+    assert_eq!(error.to_string(), format!("at {}, tbsCertificate.signature.algorithm: not such a message", error.position));
+    let padded = [0x30, 6, 2, 2, 0, 0, 5, 0];
+    assert_eq!(Message::EnvelopedData.check(&padded).unwrap_err().path, "0.0");
+}
+
+#[test]
+fn json() {
+    let der = cases().remove(0).der;
+    let json = Message::Certificate.to_json(&der).unwrap();
+    assert!(json.starts_with("{\"signatureAlgorithm\":{\"algorithm\":\"") && json.ends_with('}') && !json.contains('\n'));
+    let cut = Message::Certificate.to_json(&der[..9]).unwrap_err();
+    assert_eq!(cut, Message::Certificate.check(&der[..9]).unwrap_err());
+    let reply = b"\x6f\x1b\x30\x19\xa0\x03\x02\x01\x05\xa1\x03\x02\x01\x0f\xa2\x0d\x30\x0b\xa0\x03\x02\x01\x11\xa2\x04\x04\x02\x01\x02";
+    assert_eq!(Message::Krb.to_json(reply).unwrap_err().reason, Reason::NoTable);
+    assert_eq!(Message::Krb.from_json("{}").unwrap_err(), JsonError::NoTable);
+    assert_eq!(Message::Certificate.from_json(&json).unwrap(), der);
+    let refusal = Message::Certificate.from_json(&json.replacen("\"issuer\"", "\"other\"", 1)).unwrap_err();
+    assert!(matches!(&refusal, JsonError::Refused(reason) if reason.contains("tbsCertificate")), "{refusal}");
+    for wrong in ["", "{", "{}", "[]", "null", "\u{202E}"] {
+        assert!(matches!(Message::Certificate.from_json(wrong), Err(JsonError::Refused(_))), "{wrong}");
+    }
 }
 
 #[test]

@@ -1,8 +1,14 @@
-use Rattle.std.proofs.Common.{◌≡◌, ◌+◌, ◌<◌, ◌≤◌, sym, subst, refl, arith, length, IfOk}
-use Rattle.der_ber_types.specs.Content.{IsContent, IsOne, AreEach}
+use Rattle.std.proofs.Common.{◌≡◌, sym, ap, ◌∙◌, subst, refl, arith, length, drop}
+use Rattle.std.proofs.Common.{slice_range}
+use Rattle.der_ber_types.specs.Content.{IsContent, AreEach, AreMembers}
 use Rattle.der_ber_types.specs.Order.{AreInOrder}
 use Rattle.der_ber_types.proofs.Writing.{pushed-shorter, each-more, each-end, member-fewer, member-next, members-end}
-use Rattle.der_ber_types.proofs.Writing.{nothing_left, content-same, content-of, pushed}
+use Rattle.der_ber_types.proofs.Writing.{nothing_left, content-same, content-of, pushed, not_ahead-tag}
+use Rattle.der_ber_types.proofs.Writing.{member-kept, member-cut, member-same, range-end}
+use Rattle.std.proofs.lemmas.Bool.{false≢true}
+use Rattle.der_ber_types.specs.Reordered.{AreReordered}
+use Rattle.der_ber_types.proofs.content.+writing.Goals.{push_member-then-is_default, push_member-else-is_default}
+use Rattle.der_ber_types.proofs.SetLemmas.{reordered-length}
 use Rattle.der_ber_types.proofs.Cutting.{smaller_content}
 use Rattle.der_ber_types.specs.Pushed.{IsPushed}
 use Rattle.der_ber_types.proofs.content.+writing.Goals as goal
@@ -33,12 +39,36 @@ content_in_der-returns-in-Each t c =
     content-of c.args.nodes.now c.args.inside _ c.args.content.now c.each_in_der.result _ c.in-Each.is
     (IsContent.each c.in-Each.index c.args.content.now) c.each_in_der.ensures
 
+pub content_in_der-returns-in-BitParts : goal.content_in_der-returns-in-BitParts
+content_in_der-returns-in-BitParts t c =
+    content-of c.args.nodes.now c.args.inside _ c.args.content.now c.joined_bits.result _ c.in-BitParts.is
+    (IsContent.bit_parts c.args.content.now) c.joined_bits.ensures
+
+pub content_in_der-members_in_der-requires-in-AnyOrder : goal.content_in_der-members_in_der-requires-in-AnyOrder
+content_in_der-members_in_der-requires-in-AnyOrder t c =
+    let nodes = c.args.nodes.now in
+    let same = reordered-length nodes c.in-AnyOrder.members.now c.args.content.now
+    c.in_ok-ordered-in-AnyOrder.ordered.items c.in_ok-ordered-in-AnyOrder.ensures in
+    (omega (arith, c.decreases, same, ap length c.deref.ensures.value), tt)
+
+pub content_in_der-returns-in_ok-ordered-in-AnyOrder : goal.content_in_der-returns-in_ok-ordered-in-AnyOrder
+content_in_der-returns-in_ok-ordered-in-AnyOrder t c =
+    let nodes = c.args.nodes.now in
+    let content = c.args.content.now in
+    let members = c.in-AnyOrder.members in
+    let ordered = c.deref.result.now in
+    let order : AreReordered nodes members.now content ordered =
+    subst (AreReordered nodes members.now content) (sym c.deref.ensures.value) c.in_ok-ordered-in-AnyOrder.ensures in
+    content-of nodes c.args.inside _ content c.members_in_der-in-AnyOrder.result
+    (AreMembers nodes members.now ordered) c.in-AnyOrder.is
+    (λ der. IsContent.any_order members content ordered der order) c.members_in_der-in-AnyOrder.ensures
+
 pub content_in_der-returns-in_ok-elements-in-Set : goal.content_in_der-returns-in_ok-elements-in-Set
 content_in_der-returns-in_ok-elements-in-Set t c =
     let content = c.args.content.now in
-    let elements = c.deref.result.now in
+    let elements = c.deref-in-Set.result.now in
     let each : AreEach c.args.nodes.now c.in-Set.index content elements =
-    subst (AreEach c.args.nodes.now c.in-Set.index content) (sym c.deref.ensures.value)
+    subst (AreEach c.args.nodes.now c.in-Set.index content) (sym c.deref-in-Set.ensures.value)
     c.in_ok-elements-in-Set.ensures in
     content-of c.args.nodes.now c.args.inside _ content c.in_order.result (AreInOrder elements) c.in-Set.is
     (λ der. IsContent.set c.in-Set.index content elements der each) c.in_order.ensures
@@ -112,6 +142,43 @@ push_element-content_in_der-requires t c =
     smaller_content c.args.bytes.now element.after.now element.tag element.content.now c.in-Some.ensures in
     (omega (arith, c.decreases, smaller), tt)
 
+pub push_element-returns-in_default-inside_of : goal.push_element-returns-in_default-inside_of
+push_element-returns-in_default-inside_of t c =
+    let element = c.in-Some.element in
+    record {
+      ok = record {
+        none = not_ahead-tag c.args.nodes.now c.args.index element.tag c.args.bytes.now element.content.now
+            element.after.now c.in-Some.ensures c.in_default-inside_of.ensures.none;
+        same = refl;
+      };
+    }
+
+pub push_member-returns : goal.push_member-returns
+push_member-returns t c =
+    let nodes = c.args.nodes.now in
+    let m = c.args.member.now in
+    let bytes = c.args.bytes.now in
+    let after = c.in-Some.after.now in
+    let old = c.args.der.now.items in
+    let new = c.push_element.new.der.items in
+    let place = c.len-place.result in
+    let slice = slice_range c.deref.result.now place (length c.deref.result.now) in
+    let pushed : IsPushed nodes m.node bytes after old new = rw c.in-Some.is at c.in_ok-after.ensures.ok in
+    let size : place ≡ length old = omega (arith, c.len-place.ensures, c.args.der.now.ok.0) in
+    let whole : slice ≡ drop place new = range-end c.deref.result.now new place c.deref.ensures.value in
+    elim c.if-is_default.branch [
+      | push_member-then-is_default w ↦ record {
+        ok = member-cut nodes m bytes after old new slice c.if-is_default.der.items place pushed size whole
+            (c.is_default.ensures.0 w.if-is_default.true)
+            (ap (λ d. d.items) w.der-is ∙ w.truncate.ensures.items);
+      }
+      | push_member-else-is_default w ↦ record {
+        ok = member-same nodes m bytes after old new c.if-is_default.der.items (ap (λ d. d.items) w.der-is)
+            (member-kept nodes m bytes after old new slice place pushed size whole
+            (λ h. false≢true (sym w.if-is_default.false ∙ c.is_default.ensures.1 h)));
+      }
+    ]
+
 pub push_element-returns : goal.push_element-returns
 push_element-returns t c =
     let element = c.in-Some.element in
@@ -121,6 +188,6 @@ push_element-returns t c =
       ok = pushed c.args.nodes.now c.args.index element.tag c.in-Some-inside_of.inside element.content.now content.items
           c.args.bytes.now element.after.now c.args.der.now.items c.push_header.new.bytes.items
           c.extend_from_slice.new.self.items c.deref.result.now c.tag_in_der.result c.len.result c.in-Some.ensures
-          c.in-Some-inside_of.ensures c.in_ok-content.ensures c.tag_in_der.ensures size c.in_ok-push_header.ensures
+          c.in-Some-inside_of.ensures.some c.in_ok-content.ensures c.tag_in_der.ensures size c.in_ok-push_header.ensures
           c.in_ok-extend_from_slice.ensures.items c.deref.ensures.value;
     }

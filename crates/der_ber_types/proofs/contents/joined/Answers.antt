@@ -1,0 +1,27 @@
+use Rattle.std.proofs.Common.{◌≡◌, ◌++◌, subst, arith}
+use Rattle.picky_der_core.specs.Element.{tlv}
+use Rattle.der_ber_types.proofs.Cutting.{smaller_after}
+use Rattle.der_ber_types.proofs.Writing.{nothing_left, part-more, parts-end}
+use Rattle.der_ber_types.proofs.contents.joined.Goals as goal
+
+pub loop-rest-smaller : goal.loop-rest-smaller
+loop-rest-smaller c =
+    smaller_after c.loop-rest.rest.now c.in-Some.part.after.now c.in-Some.part.tag c.in-Some.part.content.now
+    c.in-Some.ensures
+
+pub loop-rest-preserved : goal.loop-rest-preserved
+loop-rest-preserved c =
+    let rest = c.loop-rest.rest.now in
+    let content = c.in-Some.part.content.now in
+    let after = c.in-Some.part.after.now in
+    let tag : c.in-Some.part.tag ≡ 0x04 = omega (arith, c.inner.ensures, c.if-inner-ne4.false) in
+    let first : rest ≡ tlv 0x04 content ++ after =
+    subst (λ n. rest ≡ tlv n content ++ after) tag c.in-Some.ensures.is in
+    part-more c.args.bytes.now rest content after c.loop-rest.der.items c.extend_from_slice.new.self.items
+    c.loop-rest.invariant first c.in_ok-extend_from_slice.ensures.items
+
+pub returns : goal.returns
+returns c =
+    parts-end c.args.bytes.now c.loop-rest.rest.now c.loop-rest.der.items
+    (nothing_left c.loop-rest.rest.now c.is_empty.result c.is_empty.ensures c.loop-rest-test.false)
+    c.loop-rest.invariant

@@ -1,0 +1,133 @@
+//! DER of a message whose content has the type that an identifier names.
+ghost use Rattle.std.specs.Prelude.{◌≡◌, ◌++◌, IfOk, IfErr, IfSome, OnOk};
+ghost use Rattle.picky_der_core.specs.Element.{tlv};
+ghost use Rattle.der_ber_types.specs.Errors.{IsRefusedByType};
+ghost use Rattle.der_ber_types.specs.Message.{IsMessageBer, IsMessage, message_bytes, schema_in};
+
+use crate::ToDerError;
+use crate::content::one_in_der;
+use crate::contents::{copied, push_header};
+use crate::error::TypeError;
+use der_ber::with_whole_strings;
+use der_path::first_element;
+use der_schema::Schema;
+use picky_der_core::asn1::Tag;
+use std::alloc::{AllocError, Global};
+
+/// A type of contents.
+#[derive(Debug, Clone, Copy, PartialEq, Eq)]
+pub struct ContentType {
+    /// The content of the OBJECT IDENTIFIER that names it (X.690, 8.19).
+    pub identifier: &'static [u8],
+    /// Its schema.
+    pub schema: Schema,
+}
+
+/// Returns the DER of a message in BER that is a SEQUENCE of an OBJECT IDENTIFIER and of a content in the explicit tag
+/// `[0]`, as the `ContentInfo` of CMS is (RFC 5652, 3). The content becomes what `to_der` returns of it, by the first
+/// of the types that has the identifier. If none has it, the content only has the lengths of DER and whole strings.
+///
+/// The errors are those of `to_der`.
+pub fn message_to_der(
+    alloc: Global,
+    types: &[ContentType],
+    bytes: &[u8],
+) -> Result<Vec<u8>, ToDerError>
+    ensures ok { IfOk result (λ der. IsMessageBer types.now bytes.now der.items) }
+    ensures err { IfErr result (IsRefusedByType bytes.now) }
+{
+    let whole = with_whole_strings(alloc, bytes)?;
+    Ok(message_in_der(alloc, types, &whole)?)
+}
+
+// The same of a message with the lengths of DER and whole strings.
+fn message_in_der(alloc: Global, types: &[ContentType], bytes: &[u8]) -> Result<Vec<u8>, TypeError>
+    ensures { IfOk result (λ der. IsMessage types.now bytes.now der.items) }
+{
+    let Some(message) = message_of(bytes) else {
+        return Err(TypeError::OtherType);
+    };
+    let Some(schema) = schema_in(types, message.identifier) else {
+        return Ok(copied(alloc, bytes)?);
+    };
+    let content = one_in_der(alloc, schema.nodes, schema.root, message.content)?;
+    Ok(written(alloc, message.identifier, &content)?)
+}
+
+// A message.
+#[derive(Clone, Copy)]
+pub(crate) struct Message<'a> {
+    // The content of its identifier.
+    pub(crate) identifier: &'a [u8],
+    // The element in its explicit tag.
+    pub(crate) content: &'a [u8],
+}
+
+// The message that the bytes are, if they are one.
+fn message_of(bytes: &[u8]) -> Option<Message<'_>>
+    ensures { IfSome result (λ m. bytes.now ≡ message_bytes m.identifier.now m.content.now) }
+{
+    let Some(members) = content_under(Tag::SEQUENCE, bytes) else {
+        return None;
+    };
+    let Some(first) = first_element(members) else {
+        return None;
+    };
+    if first.tag.inner() != 0x06 {
+        return None;
+    }
+    let Some(content) = content_under(Tag::context_specific_constructed(0), first.after) else {
+        return None;
+    };
+    Some(Message {
+        identifier: first.content,
+        content,
+    })
+}
+
+// The content of the one element of which the bytes are made, if it has this tag.
+fn content_under(tag: Tag, bytes: &[u8]) -> Option<&[u8]>
+    ensures { IfSome result (λ content. bytes.now ≡ tlv tag content.now) }
+{
+    let Some(element) = first_element(bytes) else {
+        return None;
+    };
+    if element.tag.inner() == tag.inner() && element.after.is_empty() {
+        Some(element.content)
+    } else {
+        None
+    }
+}
+
+// The schema of the first type with this identifier.
+fn schema_in(types: &[ContentType], identifier: &[u8]) -> Option<Schema>
+    ensures { result ≡ schema_in types.now identifier.now }
+{
+    for known in types {
+        if known.identifier == identifier {
+            return Some(known.schema);
+        }
+    }
+    None
+}
+
+// The bytes of a message.
+fn written(alloc: Global, identifier: &[u8], content: &[u8]) -> Result<Vec<u8>, AllocError>
+    ensures { IfOk result (λ bytes. bytes.items ≡ message_bytes identifier.now content.now) }
+{
+    let mut members = Vec::new(alloc);
+    push_element(&mut members, Tag::OID, identifier)?;
+    push_element(&mut members, Tag::context_specific_constructed(0), content)?;
+    let mut bytes = Vec::new(alloc);
+    push_element(&mut bytes, Tag::SEQUENCE, &members)?;
+    Ok(bytes)
+}
+
+// Appends an element.
+#[tactic(auto, unfolding(picky_der_core::specs::Element::tlv))]
+fn push_element(bytes: &mut Vec<u8>, tag: Tag, content: &[u8]) -> Result<(), AllocError>
+    ensures { OnOk result (bytes.new.items ≡ bytes.old.items ++ tlv tag content.now) }
+{
+    push_header(bytes, tag, content.len())?;
+    bytes.extend_from_slice(content)
+}
