@@ -10,6 +10,7 @@ use Rattle.std.specs.Option.{is_some}
 use Rattle.std.proofs.lemmas.List.{take-append-le, drop-append-le, take_all, drop_all, length-drop, append-nil}
 use Rattle.std.proofs.lemmas.List.{length-take-le}
 use Rattle.picky_der_core.specs.declared.asn1.wrapper.Wrapper.{Wrapper}
+use Rattle.picky_der_core.specs.declared.failure.Failure.{Failure}
 use Rattle.picky_der_core.specs.Tree.{Tree}
 use Rattle.picky_der_core.specs.Encoding.{der}
 use Rattle.picky_der_core.specs.OpenWrappers.{under}
@@ -79,6 +80,16 @@ pub outside-more : {m : Mark} {h : Held} (bs : List ℕ) → IsMark m h → outs
 outside-more {m} {h} bs k = outside-at m.place m.at m.first_seam h bs (omega (arith, k.room, within k)) k.opened
 
 -- ---- a member
+
+-- a serializer with these levels
+abbrev pub state_with : {W : Type 0} → W → Option Failure → Stack → State W
+state_with sink failed levels = record {
+  sink = sink;
+  around = levels.around;
+  failed = failed;
+  inside = levels.inside;
+  pending = levels.pending;
+}
 
 -- where no wrapper and no level is open
 pub bare_state : {W : Type 0} (s : State W) → s.around ≡ [] → s.pending ≡ None

@@ -3,6 +3,7 @@ use Rattle.std.specs.Prelude.{IfSome}
 use Rattle.picky_der_ser.specs.State.{State, Stack}
 use Rattle.picky_der_ser.specs.Marks.{IsOpen, IsMark}
 use Rattle.picky_der_ser.proofs.LevelWrites.{open_if, open_held, enclosed_rest, ended_outside}
+use Rattle.picky_der_ser.proofs.LevelMarks.{state_with}
 use Rattle.picky_der_ser.proofs.serializer.Serializer.close_any.Goals as goal
 
 pub returns : goal.returns
@@ -10,13 +11,7 @@ returns g c =
     let s = c.self.inside in
     let l = s.levels in
     let m = c.args.mark.now in
-    let old : State g.row.W.Denot = record {
-      sink = s.sink;
-      around = l.around;
-      failed = s.failed;
-      inside = l.inside;
-      pending = l.pending;
-    } in
+    let old = state_with s.sink s.failed l in
     let f : s.failed ≡ None = search rules in
     let opened = open_if m s.failed l.inside l.pending f (rw (← c.self.view_is) at c.requires) in
     let h = open_held m l.inside l.pending opened in

@@ -7,6 +7,7 @@ use Rattle.picky_der_ser.specs.State.{State, Stack, Writing}
 use Rattle.picky_der_ser.proofs.WrapWrites.{one_wrote, one_failed, one_counted, one_continues, one_kept, one_refused}
 use Rattle.picky_der_ser.proofs.WrapWrites.{alike_wrapped, there_by, wrapped_part, nested_absent}
 use Rattle.picky_der_ser.proofs.LevelWrites.{opened_numbers}
+use Rattle.picky_der_ser.proofs.LevelMarks.{state_with}
 use Rattle.picky_der_ser.proofs.serializer.Serializer.write_nested.Goals as goal
 
 pub returns-in_err-count : goal.returns-in_err-count
@@ -34,13 +35,7 @@ returns-then-count-eq0-clause-wrote g c =
     let t = g.T.Serialize.meaning c.args.value.now in
     let i = c.self.inside in
     let k = c.give_up.new.self in
-    let new : State g.row.W.Denot = record {
-      sink = i.sink;
-      around = k.around;
-      failed = i.failed;
-      inside = k.inside;
-      pending = k.pending;
-    } in
+    let new = state_with i.sink i.failed k in
     let o = c.open-mark.ensures.opened in
     let f = ap (λ (s : Writing g.row.W.Denot). s.failed) o.opened ∙ c.requires.had_not_failed in
     let all =
