@@ -50,7 +50,8 @@ pub fn to_byte_buf<T: Serialize>(alloc: Global, value: &T, buf: &mut Vec<u8>) ->
     outcome
 }
 
-/// The canonical encoding of a value, in a vector that may have room for more bytes.
+/// The canonical encoding of a value, in a vector without room for more bytes. Only if the smaller room can't be
+/// allocated, the vector has more.
 ///
 /// `OutOfMemory` if an allocation fails. `UnsupportedValue` if the value can't be written: a tag number in it is past
 /// 30, the tag of an `ImplicitList` isn't constructed, or the encoding is longer than `usize::MAX`.
@@ -75,7 +76,9 @@ pub fn to_vec<T: Serialize>(alloc: Global, value: &T) -> Result<Vec<u8>>
         levels,
         alloc: _,
     } = serializer;
-    Ok(levels.into_bytes())
+    let mut bytes = levels.into_bytes();
+    bytes.shrink_to_fit();
+    Ok(bytes)
 }
 
 /// Writes the canonical encoding of a value to a writer, after what was written before, and returns its length in

@@ -16,7 +16,7 @@ pub returns-clause-ok : goal.returns-clause-ok
 returns-clause-ok g c =
     let t = g.T.Serialize.meaning c.args.value.now in
     let w = root_wrote _ t _ _ c.new_in_root.ensures _ c.in_ok-serialize.ensures.wrote in
-    c.into_bytes.ensures (record { bytes = der t; seams = [] })
+    c.shrink_to_fit.ensures.items ∙ c.into_bytes-bytes.ensures (record { bytes = der t; seams = [] })
     (ap (λ s. s.inside) c.serializer.view_is ∙ w.1)
 
 pub returns-clause-writable : goal.returns-clause-writable
