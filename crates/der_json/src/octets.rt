@@ -1,8 +1,9 @@
 //! Contents from JSON.
 ghost use Rattle.std.specs.Prelude.{IfErr, IfOk};
+ghost use Rattle.serde_json.specs.Data.{Data};
 ghost use Rattle.serde_json.specs.View.{view};
 ghost use Rattle.der_json.specs.Contents.{IsContentJson};
-ghost use Rattle.der_json.specs.Refusals.{IsRefusal};
+ghost use Rattle.der_json.specs.Refusals.{IsMistake, IsRefusal};
 
 use crate::JsonError;
 use crate::contents::content_value;
@@ -39,7 +40,9 @@ pub(crate) fn content_octets(
 }
 
 // What is wrong with a content that has the form of its kind, and that `to_json` refuses.
-fn mistake_in(kind: Kind) -> JsonMistake {
+fn mistake_in(kind: Kind) -> JsonMistake
+    ensures { (whole : Data) → IsMistake result whole }
+{
     match kind {
         Kind::Integer | Kind::NamedInteger(_) | Kind::Unsigned(_) | Kind::Signed(_) => {
             JsonMistake::Number
