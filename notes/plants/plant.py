@@ -398,6 +398,13 @@ def main(clone, name, *words):
         refuse(copy, lemma, lambda it: by_lemma(source, it), save)
         if given["--quick"]:
             print("plant: quick", collections.Counter(it.kind for it in first), "of traits", collections.Counter((bodies.named(it.f.block.trait)[0], it.f.name, it.kind) for it in first if it.f.in_trait))
+            if given["--quick"] == "2":
+                rest = (planting.Plant(f, body, next(count)) for f in called for body in bodies.Bodies(source, f).over_the_real_one(None))
+                second = list(rest)
+                plants.extend(second)
+                refuse(copy, [it for it in second if by_change(source, it)], lambda it: by_change(source, it), save)
+                print("plant: quick over", collections.Counter(it.kind for it in second))
+                save()
             return
         if not given["--free"]:
             copy.judge(copy.compiled(controls))
