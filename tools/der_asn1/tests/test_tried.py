@@ -12,10 +12,13 @@ use Rattle.it.proofs.elements.Reasons.{where_none}
 use Rattle.it.proofs.types.TTryVia.try_from_parts.Goals as goal
 
 pub returns-clause-err : goal.returns-clause-err
-returns-clause-err c = inr (refl, elim [
-  | variants.A x ↦ where_none c.in_ok-it.field-0 c.in_default.is c.in_ok-it.ensures.none x
-  | variants.Later x ↦ where_none c.in_ok-it-2.field-0 c.in_default-2.is c.in_ok-it-2.ensures.none x
-  ])
+returns-clause-err c = inr (
+  refl,
+  elim [
+    | variants.A x ↦ where_none c.in_ok-it.field-0 c.in_default.is c.in_ok-it.ensures.none x
+    | variants.Later x ↦ where_none c.in_ok-it-2.field-0 c.in_default-2.is c.in_ok-it-2.ensures.none x
+  ],
+)
 """
 
 
