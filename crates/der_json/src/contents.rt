@@ -22,7 +22,6 @@ use der_types::{
     Arcs, BitString, Contents, ObjectIdentifier, RelativeOid, is_generalized_time, is_utc_time,
 };
 use hex::encode_upper;
-use picky_der_core::Asn1DerError;
 use picky_der_core::asn1::Tag;
 use serde_json::{Map, Value, put};
 use std::alloc::{AllocError, Global};
@@ -161,10 +160,8 @@ fn identifier_value(alloc: Global, content: Part<'_>) -> Result<Value, JsonError
     ensures { IfOk result (λ value. IsArcsJson (is_object_identifier content.entry.bytes.now)
         (arcs_of content.entry.bytes.now) (view value)) }
 {
-    let identifier = match ObjectIdentifier::from_bytes(alloc, content.bytes) {
-        Ok(identifier) => identifier,
-        Err(Asn1DerError::OutOfMemory) => return Err(JsonError::OutOfMemory),
-        Err(_) => return Err(JsonError::OtherContent(content.place)),
+    let Ok(identifier) = ObjectIdentifier::from_bytes(alloc, content.bytes) else {
+        return Err(JsonError::OtherContent(content.place));
     };
     if has_wide_arc(identifier.arcs()) {
         return Err(JsonError::TooLarge(content.place));
