@@ -127,8 +127,10 @@ fn bits_value(alloc: Global, content: Part<'_>) -> Result<Value, JsonError>
     let [unused, bytes @ ..] = content.bytes else {
         return Err(JsonError::OtherContent(content.place));
     };
-    let Ok(bits) = BitString::from_bytes(alloc, bytes, *unused) else {
-        return Err(JsonError::OtherContent(content.place));
+    let bits = match BitString::from_bytes(alloc, bytes, *unused) {
+        Ok(bits) => bits,
+        Err(Asn1DerError::OutOfMemory) => return Err(JsonError::OutOfMemory),
+        Err(_) => return Err(JsonError::OtherContent(content.place)),
     };
     let Ok(len) = u64::try_from(bits.len()) else {
         return Err(JsonError::TooLarge(content.place));
