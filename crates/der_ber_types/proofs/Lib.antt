@@ -5,4 +5,5 @@ pub mod SetLemmas
 pub mod BitLemmas
 pub mod Writing
 pub mod Unique
+pub mod Refusals
 pub mod LawLemmas
