@@ -109,7 +109,7 @@ mod vector {
     use crate::alloc::{AllocError, Global};
     use std::ops::{Deref, DerefMut};
 
-    #[derive(Debug, Clone, PartialEq, Eq, PartialOrd, Ord)]
+    #[derive(Debug, Clone, PartialEq, Eq, PartialOrd, Ord, Hash)]
     pub struct Vec<T>(pub(crate) std::vec::Vec<T>);
 
     impl<T> Deref for Vec<T> {

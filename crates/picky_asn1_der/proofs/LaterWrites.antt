@@ -2,22 +2,22 @@
 use Rattle.picky_der_core.specs.declared.misc.writer.WriteExt.{Ghosts}
 use Rattle.picky_der_core.specs.declared.error.Asn1DerError.{Asn1DerError}
 use Rattle.picky_der_core.specs.Tree.{Tree, Trees}
-use Rattle.picky_der_ser.specs.State.{State}
+use Rattle.picky_der_ser.specs.State.{Writing}
 use Rattle.picky_der_ser.specs.Calls.{AddsAll, RefusesToAddAll, AddsPrepended, RefusesPrepended}
 
 module _ {W : Type 0} (g : Ghosts W) where
   -- where the rest is added, or refused, all of them are
-  pub record LeadsTo (rest all : Trees) (old new : State W) : Type 0 where
-    pub added : (last : State W) → AddsAll g rest new last → AddsAll g all old last
-    pub refused : (e : Asn1DerError) (last : State W) → RefusesToAddAll g rest new e last
+  pub record LeadsTo (rest all : Trees) (old new : Writing W) : Type 0 where
+    pub added : (last : Writing W) → AddsAll g rest new last → AddsAll g all old last
+    pub refused : (e : Asn1DerError) (last : Writing W) → RefusesToAddAll g rest new e last
         → RefusesToAddAll g all old e last
 
-  pub leads_all : (ts : Trees) (a : State W) → LeadsTo ts ts a a
+  pub leads_all : (ts : Trees) (a : Writing W) → LeadsTo ts ts a a
   leads_all ts a = record { added = λ last h. h; refused = λ e last h. h }
 
-  module _ {t : Tree} {rest all : Trees} {old now : State W} (h : LeadsTo (Trees.more t rest) all old now) where
+  module _ {t : Tree} {rest all : Trees} {old now : Writing W} (h : LeadsTo (Trees.more t rest) all old now) where
     -- the next one was added
-    pub leads_next : (new : State W) → AddsPrepended g (Trees.more t) now new → LeadsTo rest all old new
+    pub leads_next : (new : Writing W) → AddsPrepended g (Trees.more t) now new → LeadsTo rest all old new
     leads_next new a = record {
       added = λ last k. h.added last (a.added rest last k);
       refused =
@@ -25,6 +25,6 @@ module _ {W : Type 0} (g : Ghosts W) where
     }
 
     -- it was refused
-    pub leads_refused : (new : State W) (e : Asn1DerError) → RefusesPrepended g (Trees.more t) now e new
+    pub leads_refused : (new : Writing W) (e : Asn1DerError) → RefusesPrepended g (Trees.more t) now e new
         → RefusesToAddAll g all old e new
     leads_refused new e r = h.refused e new (r rest)

@@ -10,7 +10,7 @@ use Rattle.picky_der_core.specs.declared.misc.writer.WriteExt.{Ghosts}
 use Rattle.picky_der_core.specs.declared.error.Asn1DerError.{Asn1DerError}
 use Rattle.picky_der_core.specs.Tree.{Tree}
 use Rattle.picky_der_core.specs.Readable.{IsWritable, has_tag_numbers}
-use Rattle.picky_der_ser.specs.State.{State, Level, with_bytes}
+use Rattle.picky_der_ser.specs.State.{State, Held, extended}
 use Rattle.picky_der_ser.specs.Calls.{Adds, Excuse, no_memory, unwritable, no_sink, MemoryExcuse, no_room, no_way}
 use Rattle.picky_der_ser.specs.Calls.{SinkRefuses, RefusesIn, Writes, RefusesWrite, OnlySinkFails, RefusesUnwritable}
 use Rattle.picky_der_ser.specs.Calls.{WritesPrimitive, WritesPlain, AddsIn, WritesAbsent}
@@ -62,15 +62,15 @@ module _ {W : Type 0} (g : Ghosts W) where
         excuse = excuse-alike t u b.rest old new e a h.excuse;
       }
 
-  refused_in-alike : (ls : List Level) (t u : Tree) (old new : W) (e : Asn1DerError) → AreAlike t u
-      → RefusesIn g ls t old e new → RefusesIn g ls u old e new
-  refused_in-alike [] t u old new e a h = refused-alike t u old new e a h
-  refused_in-alike (l ∷ ls) t u old new e a h = (excuse_of_part (writable-alike u t (alike-sym t u a)) h.0, h.1)
+  refused_in-alike : (inside : Option Held) (t u : Tree) (old new : W) (e : Asn1DerError) → AreAlike t u
+      → RefusesIn g inside t old e new → RefusesIn g inside u old e new
+  refused_in-alike None t u old new e a h = refused-alike t u old new e a h
+  refused_in-alike (Some k) t u old new e a h = (excuse_of_part (writable-alike u t (alike-sym t u a)) h.0, h.1)
 
-  refused_first-alike : (f : Option Failure) (ls : List Level) (t u : Tree) (old new : W) (e : Asn1DerError)
-      → AreAlike t u → IfNone f (RefusesIn g ls t old e new) → IfNone f (RefusesIn g ls u old e new)
-  refused_first-alike None ls t u old new e a h = refused_in-alike ls t u old new e a h
-  refused_first-alike (Some j) ls t u old new e a h = tt
+  refused_first-alike : (f : Option Failure) (inside : Option Held) (t u : Tree) (old new : W) (e : Asn1DerError)
+      → AreAlike t u → IfNone f (RefusesIn g inside t old e new) → IfNone f (RefusesIn g inside u old e new)
+  refused_first-alike None inside t u old new e a h = refused_in-alike inside t u old new e a h
+  refused_first-alike (Some j) inside t u old new e a h = tt
 
   pub writes-alike : (t u : Tree) (old new : State W) (r : Result ℕ Asn1DerError) → AreAlike t u
       → IfOk r (λ n. Writes g t old n new) → IfOk r (λ n. Writes g u old n new)
@@ -188,14 +188,14 @@ pub unwritable-by : (t : Tree) → has_tag_numbers t ≡ false → ¬ IsWritable
 unwritable-by t e h = let q : false ≡ true = sym e ∙ h.numbers in cc
 
 module _ {W : Type 0} (g : Ghosts W) where
-  pub refused_unwritable : (inside : List Level) (t : Tree) (sink : W) → ¬ IsWritable t
+  pub refused_unwritable : (inside : Option Held) (t : Tree) (sink : W) → ¬ IsWritable t
       → RefusesIn g inside t sink UnsupportedValue sink
-  refused_unwritable [] t sink n = record {
+  refused_unwritable None t sink n = record {
     begins = beginning_none (g.written sink) (der t);
     excuse =
         unwritable refl n refl;
   }
-  refused_unwritable (l ∷ ls) t sink n = (no_way refl n, refl)
+  refused_unwritable (Some h) t sink n = (no_way refl n, refl)
 
   -- a tag number past 30
   pub plain_past : (tag : ℕ) (c : List ℕ) (old : State W) → 30 < number_of tag → old.failed ≡ None
@@ -220,17 +220,17 @@ module _ {W : Type 0} (g : Ghosts W) where
 
 -- ---- a value that isn't there: nothing is written, and no wrapper stays open
 
-nothing_more : (l : Level) → l ≡ with_bytes l []
-nothing_more l = ap (λ c. record l { content = c }) (sym (append-nil l.content))
+pub nothing_more : (h : Held) → h ≡ extended h []
+nothing_more h = ap (λ bs. record h { bytes = bs }) (sym (append-nil h.bytes))
 
-can_vanish-open : (ws : List Wrapper) → CanAllBeOpen ws → CanVanish ws
+pub can_vanish-open : (ws : List Wrapper) → CanAllBeOpen ws → CanVanish ws
 can_vanish-open [] h = tt
 can_vanish-open (w ∷ ws) h = (h.0.1, can_vanish-open ws h.1)
 
 module _ {W : Type 0} (g : Ghosts W) where
-  adds_none : (inside : List Level) (sink : W) → AddsIn g inside inside sink sink []
-  adds_none [] sink = (refl, Appends-nil (g.written sink))
-  adds_none (l ∷ ls) sink = (ap (λ m. m ∷ ls) (nothing_more l), refl)
+  pub adds_none : (inside : Option Held) (sink : W) → AddsIn g inside inside sink sink []
+  adds_none None sink = (refl, Appends-nil (g.written sink))
+  adds_none (Some h) sink = (ap Some (nothing_more h), refl)
 
   pub absent-ok : (old : State W) → old.failed ≡ None → CanAllBeOpen old.around
       → WritesAbsent g old (Ok 0) (record old { around = []; pending = None })

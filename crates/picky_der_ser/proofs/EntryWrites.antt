@@ -20,9 +20,9 @@ use Rattle.picky_der_core.specs.Readable.{IsWritable}
 use Rattle.picky_der_core.specs.Sink.{vector_of, position_of}
 use Rattle.picky_der_core.specs.SliceSink.{slice_of, filled_of, written_of, faults_of, IsLater}
 use Rattle.picky_der_core.specs.SliceSinkLaws.{holds_all, holds_beginning, holds_first}
-use Rattle.picky_der_ser.specs.State.{State}
+use Rattle.picky_der_ser.specs.State.{State, Stack, stack}
 use Rattle.picky_der_ser.specs.Calls.{Excuse, no_memory, unwritable, no_sink, MemoryExcuse, no_room, no_way, SinkWrites}
-use Rattle.picky_der_ser.specs.Calls.{SinkRefuses, RefusesIn, RefusesWrite}
+use Rattle.picky_der_ser.specs.Calls.{SinkRefuses, RefusesIn, RefusesWrite, Writes, AddsIn}
 use Rattle.picky_der_ser.specs.Entry.{Overwrites, VecRefuses, SliceExcuse, without_memory, without_form, without_room}
 use Rattle.picky_der_ser.specs.Entry.{SliceRefuses}
 
@@ -66,14 +66,47 @@ module _ {V W : Type 0} (h : Ghosts V) (g : Ghosts W) (now : V → W) (told : (v
       }
 
   -- a serializer that began with nothing open, and hadn't failed
-  pub refused-fresh : (t : Tree) (old new : State V) (e : Asn1DerError) → old.failed ≡ None → old.inside ≡ []
+  pub refused-fresh : (t : Tree) (old new : State V) (e : Asn1DerError) → old.failed ≡ None → old.inside ≡ None
       → old.around ≡ [] → RefusesWrite h t old e new → SinkRefuses g t (now old.sink) e (now new.sink)
   refused-fresh t old new e f i a k =
       let first : RefusesIn h old.inside (under old.around t) old.sink e new.sink =
       subst (λ o. IfNone o (RefusesIn h old.inside (under old.around t) old.sink e new.sink)) f k.reason in
       let outside : SinkRefuses h (under old.around t) old.sink e new.sink =
-      subst (λ ls. RefusesIn h ls (under old.around t) old.sink e new.sink) i first in
+      subst (λ k. RefusesIn h k (under old.around t) old.sink e new.sink) i first in
       refused-references t old.sink new.sink e (subst (λ ws. SinkRefuses h (under ws t) old.sink e new.sink) a outside)
+
+-- ---- a vector of its own, in a level of which all is written
+
+abbrev pub in_root : Stack
+in_root = record { inside = Some (record { bytes = []; seams = [] }); pending = None; around = [] }
+
+module _ {W : Type 0} (g : Ghosts W) (t : Tree) (old new : State W) (start : stack old ≡ in_root) where
+  root_inside : old.inside ≡ Some (record { bytes = []; seams = [] })
+  root_inside = ap (λ (s : Stack). s.inside) start
+
+  root_bare : old.around ≡ []
+  root_bare = ap (λ (s : Stack). s.around) start
+
+  -- it holds the encoding
+  pub root_wrote : (n : ℕ) → Writes g t old n new
+      → IsWritable t × (new.inside ≡ Some (record { bytes = der t; seams = [] }))
+  root_wrote n h =
+      let held : AddsIn g (Some (record { bytes = []; seams = [] })) new.inside old.sink new.sink
+      (der (under old.around t)) =
+      subst (λ k. AddsIn g k new.inside old.sink new.sink (der (under old.around t))) root_inside h.adds in
+      let adds : AddsIn g (Some (record { bytes = []; seams = [] })) new.inside old.sink new.sink (der t) =
+      subst (λ ws. AddsIn g (Some (record { bytes = []; seams = [] })) new.inside old.sink new.sink (der (under ws t)))
+      root_bare held in
+      (subst (λ ws. IsWritable (under ws t)) root_bare h.writable, adds.0)
+
+  pub root_failed : (e : Asn1DerError) → old.failed ≡ None → RefusesWrite g t old e new
+      → MemoryExcuse (IsWritable t) e
+  root_failed e f h =
+      let first : RefusesIn g old.inside (under old.around t) old.sink e new.sink =
+      subst (λ o. IfNone o (RefusesIn g old.inside (under old.around t) old.sink e new.sink)) f h.reason in
+      let held : RefusesIn g (Some (record { bytes = []; seams = [] })) (under old.around t) old.sink e new.sink =
+      subst (λ k. RefusesIn g k (under old.around t) old.sink e new.sink) root_inside first in
+      subst (λ ws. MemoryExcuse (IsWritable (under ws t)) e) root_bare held.0
 
 -- ---- a vector
 

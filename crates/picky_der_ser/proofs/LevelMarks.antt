@@ -1,338 +1,485 @@
--- The levels in one list of bytes.
-use Rattle.std.proofs.Common.{◌≡◌, ◌≢◌, ℕ, ◌≤◌, ◌<◌, ◌+◌, ◌-◌, Bool, true, false, List, [], ◌∷◌, ◌++◌, length, take}
-use Rattle.std.proofs.Common.{drop, None, Some, IfSome, refl, sym, ap, ap₂, ◌∙◌, arith, subst}
-use mir.Val.{bool_byte}
+-- A level while more bytes come.
+use Rattle.std.proofs.Common.{not, ◌≡◌, ◌≢◌, ℕ, ◌≤◌, ◌+◌, ◌-◌, Bool, true, false, List, [], ◌∷◌, ◌++◌, length}
+use Rattle.std.proofs.Common.{take}
+use Rattle.std.proofs.Common.{drop, Option, None, Some, refl, sym, ap, ap₂, ◌∙◌, arith, subst, length-append, ◌⊎◌}
+use Rattle.std.proofs.Common.{inl, inr}
 use Rattle.std.proofs.Math.Seq.{take-append_seam, drop-append_seam}
-use Rattle.std.proofs.lemmas.List.{take-take, drop-drop, drop-take, drop-append-le, drop_all, take_all, length-drop}
-use Rattle.std.proofs.lemmas.List.{take-append-le, length-take-le}
-use Rattle.picky_der_core.specs.OpenWrappers.{under}
+use Rattle.std.proofs.lemmas.Bool.{false≢true}
+use Rattle.std.specs.Prelude.{if◌then◌else◌}
+use Rattle.std.specs.Option.{is_some}
+use Rattle.std.proofs.lemmas.List.{take-append-le, drop-append-le, take_all, drop_all, length-drop, append-nil}
+use Rattle.std.proofs.lemmas.List.{length-take-le}
 use Rattle.picky_der_core.specs.declared.asn1.wrapper.Wrapper.{Wrapper}
+use Rattle.picky_der_core.specs.declared.failure.Failure.{Failure}
+use Rattle.picky_der_core.specs.Tree.{Tree}
 use Rattle.picky_der_core.specs.Encoding.{der}
-use Rattle.picky_der_ser.specs.declared.marks.Mark.{Mark}
-use Rattle.picky_der_ser.specs.declared.header.Header.TheVariants.{Raw}
-use Rattle.picky_der_ser.specs.State.{Level, Stack, with_bytes, at_next_member, in_order, final_content}
-use Rattle.picky_der_ser.specs.Headers.{tree_of, headers}
-use Rattle.picky_der_ser.specs.Marks.{level_at, levels_of, inside_of, pending_of, IsMark, AreMarks, AreRooms, HasMark}
+use Rattle.picky_der_core.specs.OpenWrappers.{under}
+use Rattle.picky_der_core.specs.declared.misc.writer.WriteExt.{Ghosts}
+use Rattle.picky_der_ser.specs.declared.header.Header.{Header}
+use Rattle.picky_der_ser.specs.declared.levels.Mark.{Mark}
+use Rattle.picky_der_ser.specs.declared.levels.Place.{Place}
+use Rattle.picky_der_ser.specs.declared.levels.Place.TheVariants as place
+use Rattle.picky_der_ser.specs.Headers.{wrappers, is_set, own_tag, HasNumber, CanAllBeOpen}
 use Rattle.picky_der_ser.specs.Seams.{AreSeams, last_seam, next_seams}
+use Rattle.picky_der_ser.specs.State.{Level, Held, Stack, State, extended, stack, with_bytes, with_member}
+use Rattle.picky_der_ser.specs.State.{at_next_member}
+use Rattle.picky_der_ser.specs.Marks.{level_at, level_in, held_of, first, inside_at, pending_at, around_at, is_open}
+use Rattle.picky_der_ser.specs.Marks.{is_inside, tags}
+use Rattle.picky_der_ser.specs.Marks.{outside, HasTag, IsMark, IsOpen, IsEntered, Opens, Enters}
+use Rattle.picky_der_ser.specs.Marks.{writing}
+use Rattle.picky_der_ser.specs.Calls.{Writes, AddsIn, AddsMember, EntersLevel}
 use Rattle.picky_der_ser.proofs.ListBytes.{seams-next, last_seam-next, drop-next_seams, take-next_seams}
-use Rattle.picky_der_ser.proofs.ListBytes.{length-next_seams, final_content-uncut, in_order-uncut}
+use Rattle.picky_der_ser.proofs.ListBytes.{length-next_seams}
 
--- ---- marks within more bytes, and fewer marks
+-- ---- more bytes after those that are held
 
-pub mark-more : {m : Mark} {a b : ℕ} {q : List ℕ} {w : List Wrapper} → a ≤ b → IsMark m a q w → IsMark m b q w
-mark-more h k = record {
+-- where the content begins
+pub within : {m : Mark} {h : Held} → IsMark m h → m.start ≤ length h.bytes
+within {m} {h} k = omega (arith, k.within)
+
+tag-more : {m : Mark} {h : Held} (bs : List ℕ) → m.start ≤ length h.bytes → HasTag m h → HasTag m (extended h bs)
+tag-more {m} {h} bs fits k =
+    let before : m.at ≤ length h.bytes = omega (arith, fits, k.room) in
+    let two : 1 ≤ length (drop m.at h.bytes) = omega (arith, fits, k.room, length-drop m.at h.bytes) in
+    record {
+      inside = k.inside;
+      bare = k.bare;
+      room = k.room;
+      tag = k.tag ∙ sym (ap (take 1) (drop-append-le m.at h.bytes bs before)
+          ∙ take-append-le 1 (drop m.at h.bytes) bs two);
+    }
+
+pub mark-more : {m : Mark} {h : Held} (bs : List ℕ) → IsMark m h → IsMark m (extended h bs)
+mark-more {m} {h} bs k = record {
+  opened = k.opened;
   numbers = k.numbers;
   number = k.number;
   room = k.room;
-  outer = k.outer;
-  within_seams =
-      k.within_seams;
-  within = omega (arith, h, k.within);
+  within_seams = k.within_seams;
+  within = omega (arith, k.within, length-append h.bytes bs);
   ascending = k.ascending;
+  ready = k.ready;
+  has_tag = λ e. tag-more bs (within k) (k.has_tag e);
 }
 
-pub marks-more : (ms : List Mark) {a b : ℕ} (q : List ℕ) (w : List Wrapper) → a ≤ b → AreMarks ms a q w
-    → AreMarks ms b q w
-marks-more [] q w h k = tt
-marks-more (m ∷ ms) q w h k = (mark-more h k.0, k.1)
+pub level-more : {m : Mark} {h : Held} (bs : List ℕ) → IsMark m h
+    → level_at m (extended h bs) ≡ with_bytes (level_at m h) bs
+level-more {m} {h} bs k = ap (λ c. record (level_at m h) { content = c }) (drop-append-le m.start h.bytes bs (within k))
 
--- the innermost mark
-pub mark-last : {m : Mark} {vs ms : List Mark} {n : ℕ} {q : List ℕ} {w : List Wrapper} → vs ≡ m ∷ ms → AreMarks vs n q w
-    → IsMark m n q w
-mark-last {m} {vs} {ms} {n} {q} {w} was k = let all : AreMarks (m ∷ ms) n q w = subst (λ x. AreMarks x n q w) was k in
-    all.0
+outside-at : (p : Place) (n q : ℕ) (h : Held) (bs : List ℕ) → n ≤ length h.bytes → is_open p ≡ true
+    → inside_at p n q (extended h bs) ≡ inside_at p n q h
+outside-at place.Member n q h bs k o = cc
+outside-at place.WrappedMember n q h bs k o = cc
+outside-at place.OpenMember n q h bs k o =
+    ap (λ x. Some (record { bytes = x; seams = take q h.seams })) (take-append-le n h.bytes bs k)
+outside-at place.Sink n q h bs k o = cc
+outside-at place.WrappedSink n q h bs k o = cc
+outside-at place.OpenSink n q h bs k o = refl
 
--- the others
-pub marks-taken : {m : Mark} {vs ms : List Mark} (n k : ℕ) (q : List ℕ) (w : List Wrapper) → vs ≡ m ∷ ms → m.at ≤ k
-    → AreMarks vs n q w → AreMarks ms k (take m.first_seam q) (take m.first_wrapper w)
-marks-taken {m} {vs} {ms} n k q w was h marks = let all : AreMarks (m ∷ ms) n q w =
-    subst (λ x. AreMarks x n q w) was marks in marks-more ms (take m.first_seam q) (take m.first_wrapper w) h all.1
+pub outside-more : {m : Mark} {h : Held} (bs : List ℕ) → IsMark m h → outside m (extended h bs) ≡ outside m h
+outside-more {m} {h} bs k = outside-at m.place m.at m.first_seam h bs (omega (arith, k.room, within k)) k.opened
 
--- another member of the innermost level begins where it ends
-pub marks-at_next_member : {m : Mark} {vs ms : List Mark} (n : ℕ) (q r : List ℕ) (w : List Wrapper) → vs ≡ m ∷ ms
-    → AreMarks vs n q w → r ≡ next_seams m.header q (n - m.start) → AreMarks vs n r w
-marks-at_next_member {m} {vs} {ms} n q r w was marks e =
-    let k : AreMarks (m ∷ ms) n q w = subst (λ x. AreMarks x n q w) was marks in
-    let within = k.0.within in
-    let own = drop m.first_seam q in
-    let held : last_seam 0 own ≤ n - m.start = omega (arith, within) in
-    let last = last_seam-next m.header own (n - m.start) held in
-    let is = drop-next_seams m.header m.first_seam q (n - m.start) k.0.within_seams in
-    let first : IsMark m n (next_seams m.header q (n - m.start)) w = record {
-      numbers = k.0.numbers;
-      number = k.0.number;
-      room = k.0.room;
-      outer = k.0.outer;
-      within_seams = omega (arith, k.0.within_seams, length-next_seams m.header q (n - m.start));
-      within = omega (arith, within, last, ap (last_seam 0) is);
-      ascending = subst (AreSeams 0) (sym is) (seams-next m.header own (n - m.start) held k.0.ascending);
-    } in
-    let others =
-    subst (λ x. AreMarks ms m.at x (take m.first_wrapper w))
-    (sym (take-next_seams m.header m.first_seam q (n - m.start) k.0.within_seams)) k.1 in
-    rw (was, e) ((first, others))
+-- ---- a member
 
--- their rooms
-pub rooms-of : (ms : List Mark) (n : ℕ) (q : List ℕ) (w : List Wrapper) → AreMarks ms n q w → AreRooms ms n
-rooms-of [] n q w k = tt
-rooms-of (m ∷ ms) n q w k = let within = k.0.within in
-    (k.0.room, omega (arith, within), rooms-of ms m.at (take m.first_seam q) (take m.first_wrapper w) k.1)
-
--- ---- whether a member is being written
-
-pub some_inside : (pending : Bool) (ms : List Mark) (s q : List ℕ) (w : List Wrapper) → bool_byte pending < length ms
-    → inside_of pending ms s q w ≢ []
-some_inside pending [] s q w h = absurd (omega arith)
-some_inside false (m ∷ ms) s q w h = λ e. cc
-some_inside true (m ∷ []) s q w h = absurd (omega arith)
-some_inside true (m ∷ n ∷ ms) s q w h = λ e. cc
-
--- no level is pending
-pub not_pending : (pending : Bool) (ms : List Mark) (s q : List ℕ) (w : List Wrapper) (spare : ℕ)
-    → HasMark pending ms spare → pending_of pending ms s q w ≡ None → pending ≡ false
-not_pending false ms s q w spare h e = refl
-not_pending true [] s q w spare h e = absurd (h refl)
-not_pending true (m ∷ ms) s q w spare h e = cc
-
--- then there is room for one more mark, whatever the marks are
-pub room-kept : (pending : Bool) (ms ns : List Mark) {m n : ℕ} → pending ≡ false → n ≡ m → HasMark pending ms m
-    → HasMark pending ns n
-room-kept false ms ns entered same h = omega (arith, same, h)
-room-kept true ms ns entered same h = cc
-
--- ---- what is added to the innermost
-
-pub levels-grown : (ms : List Mark) (s q bs : List ℕ) (w : List Wrapper) (l : Level) (ls : List Level)
-    → AreMarks ms (length s) q w → levels_of ms s q w ≡ l ∷ ls → levels_of ms (s ++ bs) q w ≡ with_bytes l bs ∷ ls
-levels-grown [] s q bs w l ls h e = cc
-levels-grown (m ∷ ms) s q bs w l ls h e =
-    let last = h.0.within in
-    let within : m.start ≤ length s = omega (arith, last) in
-    let room = h.0.room in
-    let outer = take m.first_wrapper w in
-    let first : level_at m s q w ≡ l = cc in
-    let others : levels_of ms (take m.at s) (take m.first_seam q) outer ≡ ls = cc in
-    let header = ap (λ (o : Level). o.header) first in
-    let around = ap (λ (o : Level). o.around) first in
-    let content = ap (λ (o : Level). o.content) first in
-    let seams = ap (λ (o : Level). o.seams) first in
-    let a = drop-append-le m.start s bs within in
-    let b = ap (λ x. levels_of ms x (take m.first_seam q) outer)
-    (take-append-le m.at s bs (omega (arith, room, within))) in
-    cc
-
--- ---- the stack
-
-abbrev pub stack_at : Bool → List Mark → List ℕ → List ℕ → List Wrapper → List Wrapper → Stack
-stack_at pending ms s q w a = record {
-  inside = inside_of pending ms s q w;
-  pending = pending_of pending ms s q w;
-  around = a;
+-- a serializer with these levels
+abbrev pub state_with : {W : Type 0} → W → Option Failure → Stack → State W
+state_with sink failed levels = record {
+  sink = sink;
+  around = levels.around;
+  failed = failed;
+  inside = levels.inside;
+  pending = levels.pending;
 }
 
--- bytes were added to the level of which a member is being written
-pub stack-grown : (pending : Bool) (ms : List Mark) (s t q bs : List ℕ) (w a : List Wrapper) (l : Level)
-    (ls : List Level) → pending ≡ false → AreMarks ms (length s) q w → inside_of pending ms s q w ≡ l ∷ ls → t ≡ s ++ bs
-    → stack_at pending ms t q w a ≡ record { inside = with_bytes l bs ∷ ls; pending = None; around = a }
-stack-grown true ms s t q bs w a l ls entered marks inside e = cc
-stack-grown false ms s t q bs w a l ls entered marks inside e =
-    rw e (ap (λ x. record { inside = x; pending = None; around = a }) (levels-grown ms s q bs w l ls marks inside))
+-- where no wrapper and no level is open
+pub bare_state : {W : Type 0} (s : State W) → s.around ≡ [] → s.pending ≡ None
+    → s ≡ record s { around = []; pending = None }
+bare_state s a p = ap₂ (λ x y. record s { around = x; pending = y }) a p
 
--- another member of what is pending begins
-pub stack-at_next_member : (pending : Bool) {m : Mark} {vs ms : List Mark} (s q r : List ℕ) (w a : List Wrapper)
-    → vs ≡ m ∷ ms → AreMarks vs (length s) q w → r ≡ next_seams m.header q (length s - m.start)
-    → IfSome (pending_of pending vs s q w) (λ l. stack_at pending vs s r w a
-    ≡ record (stack_at pending vs s q w a) { pending = Some (at_next_member l) })
-stack-at_next_member false s q r w a was k e = tt
-stack-at_next_member true {m} {vs} {ms} s q r w a was k e =
-    let mark : IsMark m (length s) q w = mark-last was k in
-    let first = mark.within_seams in
-    let n = length s - m.start in
-    let own : drop m.first_seam (next_seams m.header q n)
-    ≡ next_seams m.header (drop m.first_seam q) (length (drop m.start s)) =
-    drop-next_seams m.header m.first_seam q n first
-    ∙ ap (next_seams m.header (drop m.first_seam q)) (sym (length-drop m.start s)) in
-    let others = take-next_seams m.header m.first_seam q n first in
-    rw (was, e)
-    (ap₂ (λ x y. record {
-      inside = levels_of ms (take m.at s) x (take m.first_wrapper w);
-      pending =
-          Some (record { header = m.header; around = drop m.first_wrapper w; content = drop m.start s; seams = y });
-      around = a;
-    }) others own)
+module _ {W : Type 0} (g : Ghosts W) where
+  -- the level was entered, the member was written, and the level is open again
+  pub member_added : (m n : Mark) (t : Tree) (old s v new : State W) (ws : List Wrapper) (count : ℕ)
+      → EntersLevel g m old n s
+      → Writes g t (record s { around = ws; pending = None }) count v
+      → ((h : Held) → v.inside ≡ Some h
+      → stack new ≡ record { inside = outside n h; pending = Some h; around = [] })
+      → new.sink ≡ v.sink → new.failed ≡ v.failed
+      → AddsMember g (under ws t) (writing m old) (writing n new)
+  member_added m n t old s v new ws count e w left sink failed =
+      let h = e.entered.held in
+      let bs = der (under ws t) in
+      let inside : s.inside ≡ Some h = ap (λ (k : Stack). k.inside) e.entered.is in
+      let adds : AddsIn g (Some h) v.inside s.sink v.sink bs =
+      subst (λ k. AddsIn g k v.inside s.sink v.sink bs) inside w.adds in
+      let last : stack new
+      ≡ record { inside = outside n (extended h bs); pending = Some (extended h bs); around = [] } =
+      left (extended h bs) adds.0 in
+      let was : old.pending ≡ Some e.entered.before = e.entered.was in
+      let outer : new.inside ≡ old.inside = ap (λ (k : Stack). k.inside) last ∙ outside-more bs e.entered.mark
+      ∙ sym e.entered.outer in
+      let level : level_in n new.pending ≡ with_member (level_in m old.pending) bs =
+      ap (level_in n) (ap (λ (k : Stack). k.pending) last) ∙ level-more bs e.entered.mark
+      ∙ ap (λ l. with_bytes l bs) e.entered.level
+      ∙ ap (λ p. with_member (level_in m p) bs) (sym was) in
+      let same : new.sink ≡ old.sink = sink ∙ adds.1 ∙ e.same in
+      let not : new.failed ≡ None = failed ∙ w.not_failed in
+      record {
+        had_not_failed = e.had_not_failed;
+        writable = w.writable;
+        added = rw (same, not, outer, level) refl;
+      }
 
--- what is pending and has no seams is in order
-pub stack-uncut : (pending : Bool) {m : Mark} {vs ms : List Mark} (s q : List ℕ) (w a : List Wrapper) → vs ≡ m ∷ ms
-    → length q ≤ m.first_seam
-    → IfSome (pending_of pending vs s q w) (λ l. stack_at pending vs s q w a
-    ≡ record (stack_at pending vs s q w a) { pending = Some (in_order l) })
-stack-uncut false s q w a was h = tt
-stack-uncut true {m} {vs} {ms} s q w a was h =
-    let none : drop m.first_seam q ≡ [] = drop_all m.first_seam q h in
-    let order : level_at m s q w ≡ in_order (level_at m s q w) = in_order-uncut (level_at m s q w) none in
-    rw was (ap (λ l. record {
-      inside = levels_of ms (take m.at s) (take m.first_seam q) (take m.first_wrapper w);
-      pending = Some l;
-      around = a;
-    }) order)
+  -- before it is left, its mark says what is held
+  pub member_entered : (m n : Mark) (t : Tree) (old s v : State W) (ws : List Wrapper) (count : ℕ)
+      → EntersLevel g m old n s → Writes g t (record s { around = ws; pending = None }) count v → IsEntered n v.inside
+  member_entered m n t old s v ws count e w =
+      let h = e.entered.held in
+      let bs = der (under ws t) in
+      let inside : s.inside ≡ Some h = ap (λ (k : Stack). k.inside) e.entered.is in
+      let adds : AddsIn g (Some h) v.inside s.sink v.sink bs =
+      subst (λ k. AddsIn g k v.inside s.sink v.sink bs) inside w.adds in
+      subst (IsEntered n) (sym adds.0) (mark-more bs e.entered.mark)
 
--- what is pending gets its headers
-pub stack-headed : (pending : Bool) {m : Mark} {vs ms : List Mark} (s t q : List ℕ) (w a : List Wrapper) (n : ℕ)
-    → vs ≡ m ∷ ms → AreMarks vs (length s) q w → t ≡ s ++ headers (drop m.first_wrapper w) m.header n
-    → IfSome (pending_of pending vs s q w) (λ l. stack_at pending vs t q w a
-    ≡ record (stack_at pending vs s q w a) { pending = Some (with_bytes l (headers l.around l.header n)) })
-stack-headed false s t q w a n was k e = tt
-stack-headed true {m} {vs} {ms} s t q w a n was k e =
-    let mark : IsMark m (length s) q w = mark-last was k in
-    let within = mark.within in
-    let room = mark.room in
-    let hs = headers (drop m.first_wrapper w) m.header n in
-    let own = drop-append-le m.start s hs (omega (arith, within)) in
-    let front = take-append-le m.at s hs (omega (arith, room, within)) in
-    rw (was, e, own, front) refl
+  -- and no wrapper is open once it is left
+  pub member_bare : (m n : Mark) (t : Tree) (old s v new : State W) (ws : List Wrapper) (count : ℕ)
+      → EntersLevel g m old n s
+      → Writes g t (record s { around = ws; pending = None }) count v
+      → ((h : Held) → v.inside ≡ Some h
+      → stack new ≡ record { inside = outside n h; pending = Some h; around = [] })
+      → new.around ≡ []
+  member_bare m n t old s v new ws count e w left =
+      let h = e.entered.held in
+      let inside : s.inside ≡ Some h = ap (λ (k : Stack). k.inside) e.entered.is in
+      let adds : AddsIn g (Some h) v.inside s.sink v.sink (der (under ws t)) =
+      subst (λ k. AddsIn g k v.inside s.sink v.sink (der (under ws t))) inside w.adds in
+      ap (λ (k : Stack). k.around) (left (extended h (der (under ws t))) adds.0)
 
--- the room for its headers is made
-pub stack-roomed : (pending : Bool) {m : Mark} {vs us ms : List Mark} (n : ℕ) (s t q hs : List ℕ) (w a : List Wrapper)
-    → vs ≡ m ∷ ms → us ≡ record m { start = n } ∷ ms → n ≡ length t → AreMarks vs (length s) q w → length s ≡ m.at
-    → t ≡ s ++ hs
-    → stack_at pending us t q w a ≡ stack_at pending vs s q w a
-stack-roomed pending {m} {vs} {us} {ms} n s t q hs w a was now start k size e =
-    let mark : IsMark m (length s) q w = mark-last was k in
-    let room = mark.room in
-    let none : drop n t ≡ [] = drop_all n t (omega (arith, start)) in
-    let was_none : drop m.start s ≡ [] = drop_all m.start s (omega (arith, size, room)) in
-    let bytes : take m.at t ≡ take m.at s = ap (take m.at) e ∙ take-append-le m.at s hs (omega (arith, size)) in
-    rw (was, now) (by_pending pending (none ∙ sym was_none) bytes)
-  where
-    by_pending : (k : Bool) → drop n t ≡ drop m.start s → take m.at t ≡ take m.at s
-        → stack_at k (record m { start = n } ∷ ms) t q w a ≡ stack_at k (m ∷ ms) s q w a
-    by_pending true x y = rw (x, y) refl
-    by_pending false x y = rw (x, y) refl
+  -- so the level of the mark is open
+  pub member_open : (m n : Mark) (t : Tree) (old s v new : State W) (ws : List Wrapper) (count : ℕ)
+      → EntersLevel g m old n s
+      → Writes g t (record s { around = ws; pending = None }) count v
+      → ((h : Held) → v.inside ≡ Some h
+      → stack new ≡ record { inside = outside n h; pending = Some h; around = [] })
+      → IsOpen n new.inside new.pending
+  member_open m n t old s v new ws count e w left =
+      let h = e.entered.held in
+      let bs = der (under ws t) in
+      let inside : s.inside ≡ Some h = ap (λ (k : Stack). k.inside) e.entered.is in
+      let adds : AddsIn g (Some h) v.inside s.sink v.sink bs =
+      subst (λ k. AddsIn g k v.inside s.sink v.sink bs) inside w.adds in
+      let last : stack new
+      ≡ record { inside = outside n (extended h bs); pending = Some (extended h bs); around = [] } =
+      left (extended h bs) adds.0 in
+      subst (λ (k : Stack). IsOpen n k.inside k.pending) (sym last) (mark-more bs e.entered.mark, refl)
 
--- the bytes from the last mark on are replaced, and go to the level around it
-stack-merged : (m : Mark) (ms : List Mark) (s q bs : List ℕ) (w a : List Wrapper) (l : Level) (ls : List Level)
-    → AreMarks (m ∷ ms) (length s) q w → levels_of ms (take m.at s) (take m.first_seam q) (take m.first_wrapper w)
-    ≡ l ∷ ls
-    → stack_at false ms (take m.at s ++ bs) (take m.first_seam q) (take m.first_wrapper w) a ≡ record {
-      inside =
-          with_bytes l bs ∷ ls;
-      pending = None;
-      around = a;
-    }
-stack-merged m ms s q bs w a l ls h e =
-    let within = h.0.within in
-    let room = h.0.room in
-    let outer = take m.first_wrapper w in
-    let size : length (take m.at s) ≡ m.at = length-take-le m.at s (omega (arith, within, room)) in
-    let f = levels-grown ms (take m.at s) (take m.first_seam q) bs outer l ls
-    (subst (λ k. AreMarks ms k (take m.first_seam q) outer) (sym size) h.1) e in
+abbrev empty_level : Header → List Wrapper → Level
+empty_level header around = record { header = header; around = around; content = []; seams = [] }
+
+abbrev pub stack_of : Option Held → Option Held → List Wrapper → Stack
+stack_of inside pending around = record { inside = inside; pending = pending; around = around }
+
+-- ---- a level that is opened
+
+-- nothing or these bytes were added
+pub grown : (ok : Bool) (s t pad : List ℕ) → t ≡ (if ok then s ++ pad else s) → (x : List ℕ) × (t ≡ s ++ x)
+grown true s t pad e = (pad, e)
+grown false s t pad e = ([], e ∙ sym (append-nil s))
+
+module _ (m : Mark) (b q pad : List ℕ) (at : m.at ≡ length b) (start : m.start ≡ length b + length pad)
+    (seams : m.first_seam ≡ length q) where
+  no_seams : drop m.first_seam q ≡ []
+  no_seams = drop_all m.first_seam q (omega (arith, seams))
+
+  pub fresh_level : level_at m (held_of (b ++ pad) q) ≡ record {
+    header = m.header;
+    around = wrappers m.around;
+    content = [];
+    seams = [];
+  }
+  fresh_level =
+      let none : drop m.start (b ++ pad) ≡ [] =
+      drop_all m.start (b ++ pad) (omega (arith, start, length-append b pad)) in
+      ap₂ (λ c s. record { header = m.header; around = wrappers m.around; content = c; seams = s }) none no_seams
+
+  pub fresh_front : first m.at m.first_seam (held_of (b ++ pad) q) ≡ held_of b q
+  fresh_front =
+      let front : take m.at (b ++ pad) ≡ b = ap (λ k. take k (b ++ pad)) at ∙ take-append_seam b pad in
+      ap₂ held_of front (take_all m.first_seam q (omega (arith, seams)))
+
+  pub fresh_mark : is_open m.place ≡ true → CanAllBeOpen (wrappers m.around) → HasNumber m.header
+      → (m.is_ready ≡ true → is_set m.header ≡ false) → (m.has_tag ≡ true → HasTag m (held_of (b ++ pad) q))
+      → IsMark m (held_of (b ++ pad) q)
+  fresh_mark is numbers number ready tag = record {
+    opened = is;
+    numbers = numbers;
+    number = number;
+    room = omega (arith, at, start);
+    within_seams = omega (arith, seams);
+    within = omega (arith, start, length-append b pad, ap (last_seam 0) no_seams);
+    ascending = subst (AreSeams 0) (sym no_seams) tt;
+    ready = ready;
+    has_tag = tag;
+  }
+
+inside-whole : (p : Place) (n f : ℕ) (h : Held) → pending_at p h ≡ None
+    → (inside_at p n f h ≡ None) ⊎ (inside_at p n f h ≡ Some h)
+inside-whole place.Member n f h e = inr refl
+inside-whole place.WrappedMember n f h e = inr refl
+inside-whole place.OpenMember n f h e = absurd (cc)
+inside-whole place.Sink n f h e = inl refl
+inside-whole place.WrappedSink n f h e = inl refl
+inside-whole place.OpenSink n f h e = inl refl
+
+-- there is nothing around what is there, whatever it is
+pub inside-none : (p r : Place) (n f n' f' : ℕ) (h h' : Held) → r ≡ p → inside_at p n f h ≡ None
+    → inside_at r n' f' h' ≡ None
+inside-none place.Member r n f n' f' h h' e x = absurd (cc)
+inside-none place.WrappedMember r n f n' f' h h' e x = absurd (cc)
+inside-none place.OpenMember r n f n' f' h h' e x = absurd (cc)
+inside-none place.Sink r n f n' f' h h' e x = ap (λ s. inside_at s n' f' h') e
+inside-none place.WrappedSink r n f n' f' h h' e x = ap (λ s. inside_at s n' f' h') e
+inside-none place.OpenSink r n f n' f' h h' e x = ap (λ s. inside_at s n' f' h') e
+
+-- what is ready isn't a set
+pub unset : (b s r : Bool) → b ≡ s → r ≡ not b → r ≡ true → s ≡ false
+unset true s r e is ready = absurd (false≢true (sym is ∙ ready))
+unset false s r e is ready = sym e
+
+-- there is something around a member
+pub inside-some : (p : Place) (n f : ℕ) (h : Held) (inside : Option Held) → p ≡ place.Member
+    → inside ≡ inside_at p n f h → inside ≢ None
+inside-some p n f h inside e was x =
+    let some : Some h ≡ None = sym (ap (λ r. inside_at r n f h) e) ∙ sym was ∙ x in
     cc
 
-module _ {m : Mark} {vs ms : List Mark} (seams : List ℕ) (w : List Wrapper) (was : vs ≡ m ∷ ms) where
-  -- what was pending is enclosed, and goes to the level around it
-  pub stack-enclosed : (pending : Bool) (s t : List ℕ) (a : List Wrapper) (o l : Level) (ls : List Level)
-      → AreMarks vs (length s) seams w → pending_of pending vs s seams w ≡ Some o
-      → inside_of pending vs s seams w ≡ l ∷ ls
-      → t ≡ take m.at s ++ der (under (drop m.first_wrapper w) (tree_of m.header (drop m.start s)))
-      → stack_at false ms t (take m.first_seam seams) (take m.first_wrapper w) a ≡ record {
-        inside =
-            with_bytes l (der (under o.around (tree_of o.header o.content))) ∷ ls;
-        pending = None;
-        around = a;
-      }
-  stack-enclosed false s t a o l ls marks e f g = cc
-  stack-enclosed true s t a o l ls marks e f g =
-      let before : AreMarks (m ∷ ms) (length s) seams w = subst (λ x. AreMarks x (length s) seams w) was marks in
-      let level : level_at m s seams w ≡ o = let some : Some (level_at m s seams w) ≡ Some o =
-      ap (λ x. pending_of true x s seams w) (sym was) ∙ e in cc in
-      let inside : levels_of ms (take m.at s) (take m.first_seam seams) (take m.first_wrapper w) ≡ l ∷ ls =
-      ap (λ x. inside_of true x s seams w) (sym was) ∙ f in
-      ap (λ x. stack_at false ms x (take m.first_seam seams) (take m.first_wrapper w) a) g
-      ∙ stack-merged m ms s seams _ w a l ls before inside
-      ∙ ap (λ (x : Level). record {
-        inside = with_bytes l (der (under x.around (tree_of x.header x.content))) ∷ ls;
-        pending = None;
-        around = a;
-      }) level
+-- where there was room, these bytes were added
+pub grown_all : (ok : Bool) (s t pad : List ℕ) → ok ≡ true → t ≡ (if ok then s ++ pad else s) → t ≡ s ++ pad
+grown_all ok s t pad e is = is ∙ ap (λ b. if b then s ++ pad else s) e
 
-  -- the same of one that has no seams and no wrappers, where none is open
-  pub stack-enclosed_uncut : (pending : Bool) (s t : List ℕ) (a : List Wrapper) (o l : Level) (ls : List Level)
-      → AreMarks vs (length s) seams w → length seams ≤ m.first_seam → length w ≤ m.first_wrapper → a ≡ []
-      → pending_of pending vs s seams w ≡ Some o → inside_of pending vs s seams w ≡ l ∷ ls
-      → t ≡ take m.at s ++ der (under (drop m.first_wrapper w) (tree_of m.header (drop m.start s)))
-      → stack_at false ms t seams w a ≡ record {
-        inside =
-            with_bytes l (der (under o.around (tree_of o.header (final_content o)))) ∷ ls;
-        pending = None;
-        around = [];
-      }
-  stack-enclosed_uncut false s t a o l ls marks none outer bare e f g = cc
-  stack-enclosed_uncut true s t a o l ls marks none outer bare e f g =
-      let level : level_at m s seams w ≡ o = let some : Some (level_at m s seams w) ≡ Some o =
-      ap (λ x. pending_of true x s seams w) (sym was) ∙ e in cc in
-      let uncut : o.seams ≡ [] = ap (λ (x : Level). x.seams) (sym level) ∙ drop_all m.first_seam seams none in
-      let all : seams ≡ take m.first_seam seams = sym (take_all m.first_seam seams none) in
-      let around : w ≡ take m.first_wrapper w = sym (take_all m.first_wrapper w outer) in
-      ap₂ (λ r v. stack_at false ms t r v a) all around ∙ stack-enclosed true s t a o l ls marks e f g
-      ∙ ap₂ (λ c b. record {
-        inside = with_bytes l (der (under o.around (tree_of o.header c))) ∷ ls;
-        pending =
-            None;
-        around = b;
-      }) (sym (final_content-uncut o uncut)) bare
+-- a tag, before a byte for the length
+pub tag_there : (m : Mark) (b q : List ℕ) (tag : ℕ) → m.at ≡ length b → is_inside m.place ≡ true
+    → is_some m.around ≡ false → m.start ≡ m.at + 2 → own_tag true m.header ≡ Some tag
+    → HasTag m (held_of (b ++ (tag ∷ 0x00 ∷ [])) q)
+tag_there m b q tag at inside bare room own = record {
+  inside = inside;
+  bare = bare;
+  room = room;
+  tag = ap tags own
+      ∙ sym (ap (λ n. take 1 (drop n (b ++ (tag ∷ 0x00 ∷ [])))) at
+      ∙ ap (take 1) (drop-append_seam b (tag ∷ 0x00 ∷ [])));
+}
 
--- how long it is then
-pub count-uncut : (pending : Bool) {m : Mark} {vs ms : List Mark} (s q : List ℕ) (w : List Wrapper) (n : ℕ)
-    → vs ≡ m ∷ ms → length q ≤ m.first_seam
-    → n ≡ length (der (under (drop m.first_wrapper w) (tree_of m.header (drop m.start s))))
-    → IfSome (pending_of pending vs s q w) (λ l. n ≡ length (der (under l.around (tree_of l.header (final_content l)))))
-count-uncut false s q w n was none count = tt
-count-uncut true {m} {vs} {ms} s q w n was none count =
-    let own : final_content (level_at m s q w) ≡ drop m.start s =
-    final_content-uncut (level_at m s q w) (drop_all m.first_seam q none) in
-    rw was (count ∙ ap (λ c. length (der (under (drop m.first_wrapper w) (tree_of m.header c)))) (sym own))
+-- in place of none
+module _ (m : Mark) (old : Stack) (p : Place) (n f : ℕ) (w : Wrapper) (b q pad bytes : List ℕ)
+    (more : bytes ≡ b ++ pad) (at : m.at ≡ length b) (start : m.start ≡ length bytes) (seams : m.first_seam ≡ length q)
+    (none : pending_at p (held_of b q) ≡ None) (was : old.inside ≡ inside_at p n f (held_of b q))
+    (around : wrappers m.around ≡ old.around) (numbers : CanAllBeOpen (wrappers m.around)) (number : HasNumber m.header)
+    (ready : m.is_ready ≡ true → is_set m.header ≡ false)
+    (tagged : m.has_tag ≡ true → HasTag m (held_of (b ++ pad) q)) where
+  wide : m.start ≡ length b + length pad
+  wide = omega (arith, start, ap length more, length-append b pad)
 
--- ---- a room that is widened: what was from `m.at` on has moved by k bytes, and its content by n more
-module _ (m : Mark) (s t u : List ℕ) (end k n : ℕ) (room : m.at ≤ m.start) (within : m.start ≤ end)
-    (moved : drop (m.at + k) t ≡ drop m.at s) (front : take (m.start + k) u ≡ take (m.start + k) t)
-    (after : drop (m.start + k + n) u ≡ drop (m.start + k) t) where
-  -- what was from the content on
-  content-moved : drop (m.start + k + n) u ≡ drop m.start s
-  content-moved =
-      let r = m.start - m.at in
-      let there : m.start + k ≡ (m.at + k) + r = omega (arith, room) in
-      let was : m.at + r ≡ m.start = omega (arith, room) in
-      after ∙ ap (λ x. drop x t) there ∙ sym (drop-drop r (m.at + k) t) ∙ ap (drop r) moved ∙ drop-drop r m.at s
-      ∙ ap (λ x. drop x s) was
+  abbrev opened_held : Held
+  opened_held = held_of bytes q
 
-  pub widened-after : drop (end + (k + n)) u ≡ drop end s
-  widened-after =
-      let c = end - m.start in
-      let there : end + (k + n) ≡ (m.start + k + n) + c = omega (arith, within) in
-      let was : m.start + c ≡ end = omega (arith, within) in
-      ap (λ x. drop x u) there ∙ sym (drop-drop c (m.start + k + n) u) ∙ ap (drop c) content-moved
-      ∙ drop-drop c m.start s ∙ ap (λ x. drop x s) was
+  abbrev opened_stack : Stack
+  opened_stack = record {
+    inside = outside m opened_held;
+    pending = pending_at m.place opened_held;
+    around = around_at m.place w;
+  }
 
-  pub widened-levels : (ms ns : List Mark) (q : List ℕ) (w : List Wrapper)
-      → levels_of ns (take (m.at + k) t) (take m.first_seam q) (take m.first_wrapper w) ≡ levels_of ms (take m.at s)
-      (take m.first_seam q) (take m.first_wrapper w)
-      → levels_of (record m { at = m.at + k; start = m.start + k + n } ∷ ns) (take (end + (k + n)) u) q w ≡ levels_of
-      (m ∷ ms) (take end s) q w
-  widened-levels ms ns q w same =
-      let c = end - m.start in
-      let outer = take m.first_seam q in
-      let around = take m.first_wrapper w in
-      let there : end + (k + n) ≡ (m.start + k + n) + c = omega (arith, within) in
-      let was : end ≡ m.start + c = omega (arith, within) in
-      let own : drop (m.start + k + n) (take (end + (k + n)) u) ≡ drop m.start (take end s) =
-      ap (λ x. drop (m.start + k + n) (take x u)) there ∙ drop-take (m.start + k + n) c u ∙ ap (take c) content-moved
-      ∙ sym (drop-take m.start c s) ∙ ap (λ x. drop m.start (take x s)) (sym was) in
-      let before : take (m.at + k) (take (end + (k + n)) u) ≡ take (m.at + k) t =
-      take-take (m.at + k) (end + (k + n)) u (omega (arith, room, within))
-      ∙ sym (take-take (m.at + k) (m.start + k) u (omega (arith, room))) ∙ ap (take (m.at + k)) front
-      ∙ take-take (m.at + k) (m.start + k) t (omega (arith, room)) in
-      let others : levels_of ns (take (m.at + k) (take (end + (k + n)) u)) outer around
-      ≡ levels_of ms (take m.at (take end s)) outer around =
-      ap (λ x. levels_of ns x outer around) before ∙ same
-      ∙ ap (λ x. levels_of ms x outer around) (sym (take-take m.at end s (omega (arith, room, within)))) in
-      ap₂ (λ x ls. record (level_at m (take end s) q w) { content = x } ∷ ls) own others
+  opens_by : is_open m.place ≡ true → opened_stack ≡ stack_of old.inside (Some opened_held) []
+      → old.inside ≡ outside m opened_held → Opens m.header old m opened_stack
+  opens_by is stacked outer = record {
+    held = opened_held;
+    is = stacked;
+    outer = outer;
+    mark = subst (λ x. IsMark m (held_of x q)) (sym more) (fresh_mark m b q pad at wide seams is numbers number ready
+        tagged);
+    level = ap (λ x. level_at m (held_of x q)) more ∙ fresh_level m b q pad at wide seams
+        ∙ ap (empty_level m.header) around;
+  }
+
+  pub opens_member : old.inside ≢ None → m.place ≡ place.OpenMember → Opens m.header old m opened_stack
+  opens_member some e =
+      let front : first m.at m.first_seam opened_held ≡ held_of b q =
+      ap (λ x. first m.at m.first_seam (held_of x q)) more ∙ fresh_front m b q pad at wide seams in
+      let inside : old.inside ≡ Some (held_of b q) =
+      elim (inside-whole p n f (held_of b q) none) [ inl x ↦ absurd (some (was ∙ x)) | inr x ↦ was ∙ x ] in
+      let outer : old.inside ≡ outside m opened_held =
+      inside ∙ sym (ap Some front) ∙ ap (λ k. inside_at k m.at m.first_seam opened_held) (sym e) in
+      let stacked : opened_stack ≡ stack_of old.inside (Some opened_held) [] =
+      ap (λ v. stack_of (inside_at v m.at m.first_seam opened_held) (pending_at v opened_held) (around_at v w)) e
+      ∙ ap (λ i. stack_of i (Some opened_held) []) (ap Some front ∙ sym inside) in
+      opens_by (ap is_open e) stacked outer
+
+  pub opens_outside : old.inside ≡ None → m.place ≡ place.OpenSink → Opens m.header old m opened_stack
+  opens_outside empty e =
+      let outer : old.inside ≡ outside m opened_held =
+      empty ∙ ap (λ k. inside_at k m.at m.first_seam opened_held) (sym e) in
+      let stacked : opened_stack ≡ stack_of old.inside (Some opened_held) [] =
+      ap (λ v. stack_of (inside_at v m.at m.first_seam opened_held) (pending_at v opened_held) (around_at v w)) e
+      ∙ ap (λ i. stack_of i (Some opened_held) []) (sym empty) in
+      opens_by (ap is_open e) stacked outer
+
+-- ---- another member
+
+module _ (m : Mark) (start : ℕ) (ready : Bool) (b q pad p : List ℕ) (k : IsMark m (held_of b q))
+    (room : m.at ≤ start) (fits : start ≤ length (b ++ pad)) (same : drop start (b ++ pad) ≡ drop m.start b)
+    (lists : ready ≡ true → is_set m.header ≡ false) (tagged : m.has_tag ≡ true → start ≡ m.start)
+    (next : p ≡ next_seams m.header q (length (b ++ pad) - start)) where
+  abbrev now : Mark
+  now = record m { start = start; is_ready = ready }
+
+  abbrev own : List ℕ
+  own = drop m.first_seam q
+
+  count : length (b ++ pad) - start ≡ length (drop m.start b)
+  count = omega (arith, ap length same, length-drop start (b ++ pad))
+
+  own_next : drop m.first_seam p ≡ next_seams m.header own (length (drop m.start b))
+  own_next = ap (drop m.first_seam) next
+      ∙ drop-next_seams m.header m.first_seam q (length (b ++ pad) - start) k.within_seams
+      ∙ ap (next_seams m.header own) count
+
+  fitting : last_seam 0 own ≤ length (drop m.start b)
+  fitting = omega (arith, k.within, length-drop m.start b)
+
+  pub entered_mark : IsMark now (held_of (b ++ pad) p)
+  entered_mark = record {
+    opened = k.opened;
+    numbers = k.numbers;
+    number = k.number;
+    room = room;
+    within_seams =
+        omega (
+          arith,
+          k.within_seams,
+          length-next_seams m.header q (length (b ++ pad) - start),
+          ap length next,
+        );
+    within =
+        omega (
+          arith,
+          fits,
+          count,
+          last_seam-next m.header own (length (drop m.start b)) fitting,
+          ap (last_seam 0) own_next,
+        );
+    ascending =
+        subst (AreSeams 0) (sym own_next)
+        (seams-next m.header own (length (drop m.start b)) fitting k.ascending);
+    ready = lists;
+    has_tag = λ e. let t = tag-more pad (within k) (k.has_tag e) in record {
+      inside = t.inside;
+      bare = t.bare;
+      room = tagged e ∙ t.room;
+      tag = t.tag;
+    };
+  }
+
+  pub entered_level : level_at now (held_of (b ++ pad) p) ≡ at_next_member (level_at m (held_of b q))
+  entered_level =
+      ap₂ (λ c s. record { header = m.header; around = wrappers m.around; content = c; seams = s }) same own_next
+
+  pub entered_outside : outside now (held_of (b ++ pad) p) ≡ outside m (held_of b q)
+  entered_outside = outside_next m.place m.at m.first_seam
+      (λ e. take-append-le m.at b pad (omega (arith, k.room, within k)))
+      (ap (take m.first_seam) next
+      ∙ take-next_seams m.header m.first_seam q (length (b ++ pad) - start) k.within_seams) k.opened
+    where
+      outside_next : (p' : Place) (n f : ℕ) → (is_open p' ≡ true → take n (b ++ pad) ≡ take n b)
+          → take f p ≡ take f q → is_open p' ≡ true
+          → inside_at p' n f (held_of (b ++ pad) p) ≡ inside_at p' n f (held_of b q)
+      outside_next place.Member n f x y o = cc
+      outside_next place.WrappedMember n f x y o = cc
+      outside_next place.OpenMember n f x y o = ap₂ (λ c s. Some (held_of c s)) (x refl) y
+      outside_next place.Sink n f x y o = cc
+      outside_next place.WrappedSink n f x y o = cc
+      outside_next place.OpenSink n f x y o = refl
+
+  pub enters : (old : Stack) → old.pending ≡ Some (held_of b q) → old.inside ≡ outside m (held_of b q)
+      → Enters m old now (record { inside = Some (held_of (b ++ pad) p); pending = None; around = [] })
+  enters old was outer = record {
+    before = held_of b q;
+    was = was;
+    held = held_of (b ++ pad) p;
+    is = refl;
+    outer = outer ∙ sym entered_outside;
+    mark = entered_mark;
+    level = entered_level;
+  }
+
+pub enters_by : (m n : Mark) (b q pad bytes p : List ℕ) (old : Stack) → IsMark m (held_of b q)
+    → n ≡ record m { start = n.start; is_ready = n.is_ready } → bytes ≡ b ++ pad → m.at ≤ n.start
+    → n.start ≤ length bytes → drop n.start bytes ≡ drop m.start b → (n.is_ready ≡ true → is_set m.header ≡ false)
+    → (m.has_tag ≡ true → n.start ≡ m.start) → p ≡ next_seams m.header q (length bytes - n.start)
+    → old.pending ≡ Some (held_of b q) → old.inside ≡ outside m (held_of b q)
+    → Enters m old n (record { inside = Some (held_of bytes p); pending = None; around = [] })
+enters_by m n b q pad bytes p old k is more room fits same lists tagged next was outer =
+    let wide : n.start ≤ length (b ++ pad) = omega (arith, fits, ap length more) in
+    let whole = enters m n.start n.is_ready b q pad p k room wide (ap (drop n.start) (sym more) ∙ same) lists tagged
+    (next ∙ ap (λ x. next_seams m.header q (length x - n.start)) more) old was outer in
+    subst (λ r. Enters m old r (record { inside = Some (held_of bytes p); pending = None; around = [] })) (sym is)
+    (subst (λ x. Enters m old (record m { start = n.start; is_ready = n.is_ready })
+    (record { inside = Some (held_of x p); pending = None; around = [] })) (sym more) whole)
+
+-- ---- the level that was opened last
+
+-- where it is open, all that is held is with it
+pub opened-by : (m : Mark) (p : Place) (h : Held) (inside pending : Option Held) → pending_at p h ≡ pending
+    → IsOpen m inside pending → (pending ≡ Some h) × (IsMark m h × (inside ≡ outside m h))
+opened-by m place.Member h inside pending e k = absurd (subst (IsOpen m inside) (sym e) k)
+opened-by m place.WrappedMember h inside pending e k = absurd (subst (IsOpen m inside) (sym e) k)
+opened-by m place.OpenMember h inside pending e k =
+    let j : IsOpen m inside (Some h) = subst (IsOpen m inside) (sym e) k in (sym e, j)
+opened-by m place.Sink h inside pending e k = absurd (subst (IsOpen m inside) (sym e) k)
+opened-by m place.WrappedSink h inside pending e k = absurd (subst (IsOpen m inside) (sym e) k)
+opened-by m place.OpenSink h inside pending e k =
+    let j : IsOpen m inside (Some h) = subst (IsOpen m inside) (sym e) k in (sym e, j)
+
+pub held_is : {h i : Held} → Some h ≡ Some i → h ≡ i
+held_is e = cc
+
+-- an open place in which something is held
+pub open_member : (p : Place) (n f : ℕ) (h i : Held) → is_open p ≡ true → Some i ≡ inside_at p n f h
+    → inside_at p n f h ≡ Some (first n f h)
+open_member place.Member n f h i o e = absurd (cc)
+open_member place.WrappedMember n f h i o e = absurd (cc)
+open_member place.OpenMember n f h i o e = refl
+open_member place.Sink n f h i o e = absurd (cc)
+open_member place.WrappedSink n f h i o e = absurd (cc)
+open_member place.OpenSink n f h i o e = absurd (cc)
+
+-- with other bytes from its room on, the same is around it
+module _ (m : Mark) (h : Held) (k : IsMark m h) (bs : List ℕ) where
+  abbrev changed : Held
+  changed = held_of (take m.at h.bytes ++ bs) (take m.first_seam h.seams)
+
+  same_front : first m.at m.first_seam changed ≡ first m.at m.first_seam h
+  same_front =
+      let size : length (take m.at h.bytes) ≡ m.at = length-take-le m.at h.bytes (omega (arith, k.room, within k)) in
+      ap₂ held_of (take-append-le m.at (take m.at h.bytes) bs (omega (arith, size))
+      ∙ take_all m.at (take m.at h.bytes) (omega (arith, size)))
+      (take_all m.first_seam (take m.first_seam h.seams) (omega (
+        arith,
+        length-take-le m.first_seam h.seams k.within_seams,
+      )))
+
+  -- where the mark says what stays
+  pub changed_stack : (p : Place) (n f : ℕ) (w : Wrapper) (inside : Option Held) → inside_at p n f h ≡ inside
+      → inside ≡ outside m h → pending_at p h ≡ Some h
+      → ◌≡◌ {A = Stack}
+      (stack_of (inside_at p m.at m.first_seam changed) (pending_at p changed) (around_at p w))
+      (stack_of inside (Some changed) [])
+  changed_stack place.Member n f w inside e o is = absurd (cc)
+  changed_stack place.WrappedMember n f w inside e o is = absurd (cc)
+  changed_stack place.OpenMember n f w inside e o is =
+      let outer : inside_at m.place m.at m.first_seam h ≡ Some (first m.at m.first_seam h) =
+      open_member m.place m.at m.first_seam h (first n f h) k.opened (e ∙ o) in
+      ap (λ i. stack_of i (Some changed) []) (ap Some same_front ∙ sym outer ∙ sym o)
+  changed_stack place.Sink n f w inside e o is = absurd (cc)
+  changed_stack place.WrappedSink n f w inside e o is = absurd (cc)
+  changed_stack place.OpenSink n f w inside e o is =
+      ap (λ i. stack_of i (Some changed) []) e

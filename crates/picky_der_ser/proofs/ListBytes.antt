@@ -14,8 +14,8 @@ use Rattle.picky_der_core.specs.Encoding.{list_content, list_tag, tree_bytes, en
 use Rattle.picky_der_core.specs.Readable.{has_tag_numbers, have_tag_numbers, IsWritable}
 use Rattle.picky_der_core.specs.EncodingLaws.{encodings-trees, length-list_content}
 use Rattle.picky_der_ser.specs.declared.header.Header.TheVariants.{Tagged}
-use Rattle.picky_der_ser.specs.Headers.{headers, is_set}
-use Rattle.picky_der_ser.proofs.HeaderBytes.{der-headers}
+use Rattle.picky_der_ser.specs.Headers.{is_set}
+use Rattle.picky_der_ser.proofs.HeaderBytes.{der-holds}
 use Rattle.picky_der_ser.proofs.Alike.{past_under}
 use Rattle.std.proofs.lemmas.Bool.{lt-ltb}
 use Rattle.picky_der_core.specs.Order.{in_ascending_order, is_less}
@@ -24,7 +24,7 @@ use Rattle.picky_der_core.specs.OrderLaws.{in_ascending_order-same, in_ascending
 use Rattle.picky_der_core.specs.OrderLaws.{length-in_ascending_order}
 use Rattle.picky_der_ser.specs.declared.header.Header.{Header}
 use Rattle.picky_der_ser.specs.Seams.{cut_at_seams, AreSeams, last_seam, next_seams, cut_from}
-use Rattle.picky_der_ser.specs.State.{Level, with_member, with_members, final_content, in_order}
+use Rattle.picky_der_ser.specs.State.{Level, with_member, with_members, final_content}
 use Rattle.std.specs.declared.alloc.AllocError.{AllocError}
 use Rattle.std.specs.Cmp.Lexicographic.{slice_cmp}
 use Rattle.std.proofs.Math.Seq.{take-append_seam, drop-append_seam}
@@ -230,9 +230,6 @@ member_writable ws kind ts t us h =
     let numbers : IsTrue (have_tag_numbers all) = numbers_inside ws (Tree.list kind all) h.numbers in
     let same : der (under ws (Tree.primitive (Primitive.bytes (list_tag kind) c)))
     ≡ der (under ws (Tree.list kind all)) = der-alike _ _ (alike-under ws _ _ (alike_by kind all numbers)) in
-    let front = headers ws (Tagged (list_tag kind)) (length c) in
-    let whole : der (under ws (Tree.list kind all)) ≡ front ++ c =
-    sym same ∙ der-headers ws (Tagged (list_tag kind)) c in
     let fits : length (der (under ws (Tree.list kind all))) < 2 ^ 64 = h.fits in
     record {
       numbers = numbers_at ts t us numbers;
@@ -240,8 +237,8 @@ member_writable ws kind ts t us h =
           omega (
             arith,
             fits,
-            ap length whole,
-            length-append front c,
+            ap length same,
+            der-holds ws (Tagged (list_tag kind)) c,
             length-list_content kind (encodings all),
             size_at ts t us,
           );
@@ -252,9 +249,6 @@ member_writable ws kind ts t us h =
 -- what isn't cut stays as it is
 pub final_content-uncut : (l : Level) → l.seams ≡ [] → final_content l ≡ l.content
 final_content-uncut l e = in_ascending_order-uncut l.seams l.content (ap length e)
-
-pub in_order-uncut : (l : Level) → l.seams ≡ [] → l ≡ in_order l
-in_order-uncut l e = ap₂ (λ c ss. record l { content = c; seams = ss }) (sym (final_content-uncut l e)) e
 
 -- ---- the members of a set that aren't empty are the pieces between seams that aren't empty
 

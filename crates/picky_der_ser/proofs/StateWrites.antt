@@ -1,7 +1,6 @@
 -- What was written, seen from the state of a serializer.
 use Rattle.std.proofs.Common.{arith, ◌≡◌, ◌≢◌, ◌<◌, ◌^◌, Option, ℕ, List, [], ◌∷◌, length, None, Some, refl, sym, ap}
-use Rattle.std.proofs.Common.{◌∙◌, subst, Result, Ok, Err, IfOk, OnOk, IfErr, OnErr, ◌+◌, true, ◌++◌, le-leb}
-use Rattle.std.proofs.Common.{length-append, take, drop}
+use Rattle.std.proofs.Common.{◌∙◌, subst, Result, Ok, Err, IfOk, OnOk, IfErr, OnErr, true, le-leb, ap₂}
 use Rattle.std.specs.Io.KnownBytes.{Appends}
 use Rattle.picky_der_core.specs.OpenWrappers.{under}
 use Rattle.picky_der_core.specs.Failure.{failure_of}
@@ -14,18 +13,17 @@ use Rattle.picky_der_core.specs.declared.error.Asn1DerError.TheVariants.{OutOfMe
 use Rattle.picky_der_core.specs.Tree.{Tree}
 use Rattle.picky_der_core.specs.Encoding.{der}
 use Rattle.picky_der_core.specs.Readable.{IsWritable, has_tag_numbers}
-use Rattle.picky_der_ser.specs.Headers.{tree_of, HasNumber, CanAllBeOpen, headers}
-use Rattle.picky_der_ser.specs.State.{State, Level, with_bytes, Stack}
+use Rattle.picky_der_ser.specs.Headers.{tree_of, HasNumber, CanAllBeOpen}
+use Rattle.picky_der_ser.specs.State.{State, Stack, stack, Held, Writing, extended, beneath, final_content}
+use Rattle.picky_der_ser.specs.Marks.{Gains}
 use Rattle.picky_der_ser.specs.Calls.{AddsIn, UntouchedUnlessFailed, SinkWrites, SinkRefuses, RefusesIn, no_memory}
-use Rattle.picky_der_ser.specs.Calls.{no_room, Writes, RefusesWrite, WritesPlain, WritesContent, no_sink}
-use Rattle.std.proofs.Math.Seq.{take-append_seam, drop-append_seam}
-use Rattle.std.specs.Prelude.{IfSome, IsTrue}
+use Rattle.picky_der_ser.specs.Calls.{no_room, Writes, RefusesWrite, OnlySinkFails, WritesPlain, WritesContent, no_sink}
+use Rattle.std.specs.Prelude.{IsTrue}
 use Rattle.picky_der_core.specs.Tag.{number_of, is_tag_number}
 use Rattle.picky_der_core.specs.Wrapper.{has_tag_number}
 use Rattle.picky_der_core.specs.WrapperLaws.{has_tag_number-true}
 use Rattle.picky_der_ser.specs.declared.header.Header.{Header}
 use Rattle.picky_der_ser.specs.declared.header.Header.TheVariants.{Tagged, Application, Raw}
-use Rattle.picky_der_ser.proofs.HeaderBytes.{der-headers}
 
 -- ---- what can be written
 
@@ -46,77 +44,6 @@ writable_counted ws h c n fits = record {
   numbers = numbers_writable ws (tree_of h c) n.0 (number_writable h c n.1);
   fits = fits;
 }
-
-writable_headed : (ws : List Wrapper) (h : Header) (c : List ℕ) → CanAllBeOpen ws × HasNumber h
-    → length (headers ws h (length c)) + length c < 2 ^ 64 → IsWritable (under ws (tree_of h c))
-writable_headed ws h c n fits =
-    writable_counted ws h c n (rw (der-headers ws h c) (omega (arith, fits, length-append (headers ws h (length c)) c)))
-
--- ---- the level that was opened last, if there is one
-
--- what it will be, in its wrappers
-abbrev pub with_content : List ℕ → Level → Tree
-with_content c l = under l.around (tree_of l.header c)
-
-abbrev pub as_it_is : Level → Tree
-as_it_is l = under l.around (tree_of l.header l.content)
-
--- these bytes are its encoding
-abbrev pub AreEncoding : (Level → Tree) → Option Level → List ℕ → Type 0
-AreEncoding t p bs = IfSome p (λ l. IsWritable (t l) × (bs ≡ der (t l)))
-
-module _ (p : Option Level) (old new : Stack) (n : ℕ)
-    (numbers : IfSome p (λ l. CanAllBeOpen l.around × HasNumber l.header))
-    (added : IfSome p (λ l. new ≡ record old { pending = Some (with_bytes l (headers l.around l.header n)) })) where
-  -- what it holds, with the headers of n bytes after
-  held : (bs : List ℕ) → IfSome new.pending (λ l. bs ≡ l.content)
-      → IfSome p (λ l. bs ≡ l.content ++ headers l.around l.header n)
-  held bs h = by_level p added
-    where
-      by_level : (q : Option Level)
-          → IfSome q (λ l. new ≡ record old { pending = Some (with_bytes l (headers l.around l.header n)) })
-          → IfSome q (λ l. bs ≡ l.content ++ headers l.around l.header n)
-      by_level None a = tt
-      by_level (Some l) a = subst (λ o. IfSome o (λ m. bs ≡ m.content)) (ap (λ (s : Stack). s.pending) a) h
-
-  -- the headers, and a content that is borrowed
-  pub encoding_after : (front c : List ℕ) → n ≡ length c → IfSome p (λ l. l.content ≡ [])
-      → IfSome new.pending (λ l. front ≡ l.content) → length front + length c < 2 ^ 64
-      → AreEncoding (with_content c) p (front ++ c)
-  encoding_after front c count empty shown fits = by_level p numbers empty (held front shown)
-    where
-      by_level : (q : Option Level) → IfSome q (λ l. CanAllBeOpen l.around × HasNumber l.header)
-          → IfSome q (λ l. l.content ≡ []) → IfSome q (λ l. front ≡ l.content ++ headers l.around l.header n)
-          → AreEncoding (with_content c) q (front ++ c)
-      by_level None a b d = tt
-      by_level (Some l) a b d =
-          let is : front ≡ headers l.around l.header (length c) = d ∙ ap (λ x. x ++ headers l.around l.header n) b
-          ∙ ap (headers l.around l.header) count in (
-            writable_headed l.around l.header c a (omega (arith, ap length is, fits)),
-            ap (λ x. x ++ c) is
-                ∙ sym (der-headers l.around l.header c),
-          )
-
-  -- the headers, brought before its content
-  pub encoding_split : (all whole c hs : List ℕ) → n ≡ length whole → IfSome p (λ l. whole ≡ l.content)
-      → IfSome new.pending (λ l. all ≡ l.content) → c ≡ take n all → hs ≡ drop n all → length hs + length c < 2 ^ 64
-      → AreEncoding as_it_is p (hs ++ c)
-  encoding_split all whole c hs count was shown front back fits = by_level p numbers was (held all shown)
-    where
-      by_level : (q : Option Level) → IfSome q (λ l. CanAllBeOpen l.around × HasNumber l.header)
-          → IfSome q (λ l. whole ≡ l.content) → IfSome q (λ l. all ≡ l.content ++ headers l.around l.header n)
-          → AreEncoding as_it_is q (hs ++ c)
-      by_level None a b d = tt
-      by_level (Some l) a b d =
-          let size : n ≡ length l.content = count ∙ ap length b in
-          let first : c ≡ l.content = front ∙ ap (λ m. take m all) size ∙ ap (take (length l.content)) d
-          ∙ take-append_seam l.content (headers l.around l.header n) in
-          let last : hs ≡ headers l.around l.header (length l.content) =
-          back ∙ ap (λ m. drop m all) size ∙ ap (drop (length l.content)) d
-          ∙ drop-append_seam l.content (headers l.around l.header n) ∙ ap (headers l.around l.header) size in (
-            writable_headed l.around l.header l.content a (omega (arith, ap length last, ap length first, fits)),
-            rw (last, first) (sym (der-headers l.around l.header l.content)),
-          )
 
 module _ {W : Type 0} (g : Ghosts W) where
   pub wrote_by : (t : Tree) (bs : List ℕ) (old new : W) (r : Result ℕ Asn1DerError) → IsWritable t → bs ≡ der t
@@ -140,31 +67,16 @@ module _ {W : Type 0} (g : Ghosts W) where
       subst (AppendsTooFew (g.written old) (g.written new)) is begins in
       record { begins = b.begins; excuse = no_sink w b.missing fault }
 
-  pub wrote_level : (t : Level → Tree) (p : Option Level) (bs : List ℕ) (old new : W) (r : Result ℕ Asn1DerError)
-      → AreEncoding t p bs → IfOk r (λ n. n ≡ length bs) → OnOk r (Appends (g.written old) (g.written new) bs)
-      → IfOk r (λ n. IfSome p (λ l. SinkWrites g (t l) old n new))
-  wrote_level t p bs old new (Err e) is count appends = tt
-  wrote_level t None bs old new (Ok n) is count appends = tt
-  wrote_level t (Some l) bs old new (Ok n) is count appends = wrote_by (t l) bs old new (Ok n) is.0 is.1 count appends
-
-  pub refused_level : (t : Level → Tree) (p : Option Level) (bs : List ℕ) (old new : W) (r : Result ℕ Asn1DerError)
-      → AreEncoding t p bs → OnErr r (AppendsTooFew (g.written old) (g.written new) bs)
-      → IfErr r (λ e. WriterFails g old e new) → IfErr r (λ e. IfSome p (λ l. SinkRefuses g (t l) old e new))
-  refused_level t p bs old new (Ok n) is begins fault = tt
-  refused_level t None bs old new (Err e) is begins fault = tt
-  refused_level t (Some l) bs old new (Err e) is begins fault =
-      refused_by (t l) bs old new (Err e) is.0 is.1 begins fault
-
 -- ---- the state of a serializer
 
 module _ {W : Type 0} (g : Ghosts W) where
-  adds_outside : (inside levels : List Level) (old new : W) (bs : List ℕ) → inside ≡ [] → levels ≡ []
-      → Appends (g.written old) (g.written new) bs → AddsIn g inside levels old new bs
-  adds_outside inside levels old new bs e f h = subst (λ l. AddsIn g l levels old new bs) (sym e) (f, h)
+  adds_outside : (inside now : Option Held) (old new : W) (bs : List ℕ) → inside ≡ None → now ≡ None
+      → Appends (g.written old) (g.written new) bs → AddsIn g inside now old new bs
+  adds_outside inside now old new bs e f h = subst (λ l. AddsIn g l now old new bs) (sym e) (f, h)
 
   -- outside levels
-  pub writes_outside : (t : Tree) (old new : State W) (n : ℕ) → old.failed ≡ None → old.inside ≡ [] → new.inside ≡ []
-      → new.around ≡ [] → new.failed ≡ None → SinkWrites g (under old.around t) old.sink n new.sink
+  pub writes_outside : (t : Tree) (old new : State W) (n : ℕ) → old.failed ≡ None → old.inside ≡ None
+      → new.inside ≡ None → new.around ≡ [] → new.failed ≡ None → SinkWrites g (under old.around t) old.sink n new.sink
       → g.faults new.sink ≡ g.faults old.sink → Writes g t old n new
   writes_outside t old new n f i j a b h q =
       record {
@@ -179,7 +91,7 @@ module _ {W : Type 0} (g : Ghosts W) where
             q;
       }
 
-  pub fails_outside : (t : Tree) (old new : State W) (e : Asn1DerError) → old.failed ≡ None → old.inside ≡ []
+  pub fails_outside : (t : Tree) (old new : State W) (e : Asn1DerError) → old.failed ≡ None → old.inside ≡ None
       → new.failed ≡ Some (failure_of e) → SinkRefuses g (under old.around t) old.sink e new.sink
       → RefusesWrite g t old e new
   fails_outside t old new e f i b h =
@@ -189,17 +101,15 @@ module _ {W : Type 0} (g : Ghosts W) where
       record { failed = b; again = rw f tt; reason = rw f first }
 
   -- inside one
-  adds_inside : (inside levels : List Level) (old new : W) (bs : List ℕ) → inside ≢ []
-      → ((l : Level) (ls : List Level) → inside ≡ l ∷ ls → levels ≡ with_bytes l bs ∷ ls) → new ≡ old
-      → AddsIn g inside levels old new bs
-  adds_inside [] levels old new bs some h s = absurd (some refl)
-  adds_inside (l ∷ ls) levels old new bs some h s = (h l ls refl, s)
+  adds_inside : (inside now : Option Held) (old new : W) (bs : List ℕ) → inside ≢ None
+      → ((h : Held) → inside ≡ Some h → now ≡ Some (extended h bs)) → new ≡ old → AddsIn g inside now old new bs
+  adds_inside None now old new bs some h s = absurd (some refl)
+  adds_inside (Some k) now old new bs some h s = (h k refl, s)
 
-  pub writes_inside : (t : Tree) (old new : State W) (n : ℕ) → old.failed ≡ None → old.inside ≢ []
-      → ((l : Level) (ls : List Level) → old.inside ≡ l ∷ ls
-      → new.inside ≡ with_bytes l (der (under old.around t)) ∷ ls) → new.sink ≡ old.sink
-      → new.around ≡ [] → new.failed ≡ None → IsWritable (under old.around t) → n ≡ length (der (under old.around t))
-      → Writes g t old n new
+  pub writes_inside : (t : Tree) (old new : State W) (n : ℕ) → old.failed ≡ None → old.inside ≢ None
+      → ((h : Held) → old.inside ≡ Some h → new.inside ≡ Some (extended h (der (under old.around t))))
+      → new.sink ≡ old.sink → new.around ≡ [] → new.failed ≡ None → IsWritable (under old.around t)
+      → n ≡ length (der (under old.around t)) → Writes g t old n new
   writes_inside t old new n f some h s a b w count =
       record {
         had_not_failed = f;
@@ -214,9 +124,9 @@ module _ {W : Type 0} (g : Ghosts W) where
       }
 
   -- anywhere: out of memory
-  pub refused_memory : (inside : List Level) (t : Tree) (sink : W) → RefusesIn g inside t sink OutOfMemory sink
-  refused_memory [] t sink = record { begins = beginning_none (g.written sink) (der t); excuse = no_memory refl }
-  refused_memory (l ∷ ls) t sink = (no_room refl, refl)
+  pub refused_memory : (inside : Option Held) (t : Tree) (sink : W) → RefusesIn g inside t sink OutOfMemory sink
+  refused_memory None t sink = record { begins = beginning_none (g.written sink) (der t); excuse = no_memory refl }
+  refused_memory (Some h) t sink = (no_room refl, refl)
 
   pub fails_memory : (t : Tree) (old new : State W) (e : Asn1DerError) → old.failed ≡ None → e ≡ OutOfMemory
       → new.failed ≡ Some (failure_of e) → new.sink ≡ old.sink → RefusesWrite g t old e new
@@ -228,16 +138,16 @@ module _ {W : Type 0} (g : Ghosts W) where
   -- ---- plain values
 
   -- the sink accepted these bytes, and then the outcome was settled
-  pub plain_outside : (t : Tree) (old new : State W) (mid : W) (levels : List Level) (r s : Result ℕ Asn1DerError)
-      → s ≡ r → new.sink ≡ mid → new.inside ≡ levels → IsWritable t → old.failed ≡ None → old.inside ≡ []
-      → OnOk r (levels ≡ []) → OnOk r ((new.around ≡ []) × (new.failed ≡ old.failed))
+  pub plain_outside : (t : Tree) (old new : State W) (mid : W) (now : Option Held) (r s : Result ℕ Asn1DerError)
+      → s ≡ r → new.sink ≡ mid → new.inside ≡ now → IsWritable t → old.failed ≡ None → old.inside ≡ None
+      → OnOk r (now ≡ None) → OnOk r ((new.around ≡ []) × (new.failed ≡ old.failed))
       → IfErr r (λ e. new.failed ≡ Some (failure_of e))
       → IfOk r (λ n. SinkWrites g (under old.around t) old.sink n mid)
       → IfErr r (λ e. SinkRefuses g (under old.around t) old.sink e mid)
       → IfErr r (λ e. old.around ≡ [] → WriterFails g old.sink e mid)
       → IfErr r (λ e. UntouchedUnlessFailed g old.sink e mid) → OnOk r (g.faults mid ≡ g.faults old.sink)
       → IsOnceAtMost (g.faults old.sink) (g.faults mid) → g.later old.sink mid → WritesPlain g t old s new
-  plain_outside t old new mid levels (Ok n) s is same x w f i j a b h k m u q c l = rw is (record {
+  plain_outside t old new mid now (Ok n) s is same x w f i j a b h k m u q c l = rw is (record {
     wrote = writes_outside t old new n f i (x ∙ j) a.0 (a.1 ∙ f)
         (subst (λ v. SinkWrites g (under old.around t) old.sink n v) (sym same) h) (ap g.faults same ∙ q);
     failed = tt;
@@ -247,7 +157,7 @@ module _ {W : Type 0} (g : Ghosts W) where
     counted = subst (λ v. IsOnceAtMost (g.faults old.sink) (g.faults v)) (sym same) c;
     continues = subst (g.later old.sink) (sym same) l;
   })
-  plain_outside t old new mid levels (Err e) s is same x w f i j a b h k m u q c l = rw is (record {
+  plain_outside t old new mid now (Err e) s is same x w f i j a b h k m u q c l = rw is (record {
     wrote = tt;
     failed = fails_outside t old new e f i b (subst (λ v. SinkRefuses g (under old.around t) old.sink e v) (sym same)
         k);
@@ -272,20 +182,39 @@ module _ {W : Type 0} (g : Ghosts W) where
     continues = l;
   }
 
-  pub plain_refused : (t : Tree) (old new : State W) (e : Asn1DerError) → IsWritable t → old.inside ≢ []
+  pub plain_refused : (t : Tree) (old new : State W) (e : Asn1DerError) → IsWritable t → OnlySinkFails g t old e new
       → RefusesWrite g t old e new → new.sink ≡ old.sink → IsOnceAtMost (g.faults old.sink) (g.faults new.sink)
       → g.later old.sink new.sink → WritesPlain g t old (Err e) new
-  plain_refused t old new e w some h same c l =
+  plain_refused t old new e w outside h same c l =
       record {
         wrote = tt;
         failed = h;
-        outside = λ x y inside around. absurd (some inside);
+        outside = outside;
         untouched =
             record { same = λ well. same };
         refuses_unwritable = λ no. absurd (no w);
         counted = c;
         continues = l;
       }
+
+  -- a level gained these bytes
+  pub plain_gained : (t : Tree) (bs : List ℕ) (old new : State W) (n : ℕ) → IsWritable t → bs ≡ der t → n ≡ length bs
+      → old.failed ≡ None → Gains bs (stack old) (stack new) → new.sink ≡ old.sink → new.failed ≡ old.failed
+      → g.later old.sink new.sink → WritesPlain g t old (Ok n) new
+  plain_gained t bs old new n w is count f k same still later =
+      let inside : old.inside ≡ Some k.held = ap (λ (s : Stack). s.inside) k.was in
+      let bare : old.around ≡ [] = ap (λ (s : Stack). s.around) k.was in
+      let whole : bs ≡ der (under old.around t) = is ∙ ap (λ ws. der (under ws t)) (sym bare) in
+      let some : old.inside ≢ None = λ e. let q : Some k.held ≡ None = sym inside ∙ e in cc in
+      let gained : (h : Held) → old.inside ≡ Some h → new.inside ≡ Some (extended h (der (under old.around t))) =
+      λ h e. let same_held : k.held ≡ h = cc in
+      ap (λ (s : Stack). s.inside) k.is ∙ ap₂ (λ x y. Some (extended x y)) same_held whole in
+      let writable : IsWritable (under old.around t) = subst (λ ws. IsWritable (under ws t)) (sym bare) w in
+      let faults = ap g.faults same in
+      plain_inside t old new n w
+      (writes_inside t old new n f some gained same (ap (λ (s : Stack). s.around) k.is) (still ∙ f) writable
+      (count ∙ ap length whole))
+      (omega (arith, faults), omega (arith, faults)) later
 
   -- without wrappers, the sink accepted an element
   pub bare_wrote : (t : Tree) (ws : List Wrapper) (bs : List ℕ) (old new : W) (r : Result ℕ Asn1DerError) → ws ≡ []
@@ -325,37 +254,53 @@ module _ {W : Type 0} (g : Ghosts W) where
 
   -- ---- levels
 
-  -- the level that was opened last was added to the one around it, with this content
-  module _ (content : Level → List ℕ) where
-    abbrev ended : Level → List ℕ
-    ended l = der (under l.around (tree_of l.header (content l)))
+  -- the sink accepted the level, and then the outcome was settled
+  pub ends_outside : (old : Writing W) (new : State W) (mid : W) (r s : Result ℕ Asn1DerError)
+      (t : Tree) → t ≡ tree_of old.level.header (final_content old.level) → s ≡ r → new.sink ≡ mid
+      → old.failed ≡ None → old.inside ≡ None → OnOk r (new.inside ≡ None)
+      → OnOk r ((new.around ≡ []) × (new.failed ≡ None)) → IfErr r (λ e. new.failed ≡ Some (failure_of e))
+      → IfOk r (λ n. SinkWrites g (under old.level.around t) old.sink n mid)
+      → IfErr r (λ e. SinkRefuses g (under old.level.around t) old.sink e mid)
+      → IfErr r (λ e. WriterFails g old.sink e mid) → OnOk r (g.faults mid ≡ g.faults old.sink)
+      → IsOnceAtMost (g.faults old.sink) (g.faults mid) → g.later old.sink mid
+      → WritesContent g old.level.header (final_content old.level) (beneath old) s new
+  ends_outside old new mid (Ok n) s t tree is same f i j a b h k m q c l = rw (is, sym tree) (record {
+    wrote = writes_outside t (beneath old) new n f i j a.0 a.1
+        (subst (λ v. SinkWrites g (under old.level.around t) old.sink n v) (sym same) h) (ap g.faults same ∙ q);
+    failed = tt;
+    untouched = tt;
+    counted = subst (λ v. IsOnceAtMost (g.faults old.sink) (g.faults v)) (sym same) c;
+    continues = subst (g.later old.sink) (sym same) l;
+  })
+  ends_outside old new mid (Err e) s t tree is same f i j a b h k m q c l = rw (is, sym tree) (record {
+    wrote = tt;
+    failed = fails_outside t (beneath old) new e f i b
+        (subst (λ v. SinkRefuses g (under old.level.around t) old.sink e v) (sym same) k);
+    untouched = subst (λ v. UntouchedUnlessFailed g old.sink e v) (sym same)
+        (record { same = λ well. absurd (well m) });
+    counted = subst (λ v. IsOnceAtMost (g.faults old.sink) (g.faults v)) (sym same) c;
+    continues = subst (g.later old.sink) (sym same) l;
+  })
 
-    pub ends_inside : (old new : State W) (n : ℕ) → n < 2 ^ 64 → old.failed ≡ None → old.inside ≢ []
-        → IfSome old.pending (λ l. CanAllBeOpen l.around × HasNumber l.header)
-        → IfSome old.pending (λ l. n ≡ length (ended l))
-        → ((p l : Level) (ls : List Level) → old.pending ≡ Some p → old.inside ≡ l ∷ ls
-        → new.inside ≡ with_bytes l (ended p) ∷ ls) → new.sink ≡ old.sink → new.around ≡ [] → new.failed ≡ None
-        → g.later old.sink old.sink
-        → IfSome old.pending (λ l. WritesContent g l.header (content l) (record old { around = l.around }) (Ok n) new)
-    ends_inside old new n small f some numbers count added s a b later =
-        by_level old.pending numbers count (λ l k ks. added l k ks)
-      where
-        by_level : (p : Option Level) → IfSome p (λ l. CanAllBeOpen l.around × HasNumber l.header)
-            → IfSome p (λ l. n ≡ length (ended l)) → ((l k : Level) (ks : List Level) → p ≡ Some l → old.inside ≡ k ∷ ks
-            → new.inside ≡ with_bytes k (ended l) ∷ ks)
-            → IfSome p (λ l. WritesContent g l.header (content l) (record old { around = l.around }) (Ok n) new)
-        by_level None x y z = tt
-        by_level (Some l) x y z =
-            let fits : length (ended l) < 2 ^ 64 = omega (arith, y) in
-            let writable = writable_counted l.around l.header (content l) x fits in
-            record {
-              wrote = writes_inside (tree_of l.header (content l)) (record old { around = l.around }) new n f some
-                  (λ k ks e. z l k ks refl e) s a b writable y;
-              failed = tt;
-              untouched = tt;
-              counted = let same = ap g.faults s in (omega (arith, same), omega (arith, same));
-              continues = subst (g.later old.sink) (sym s) later;
-            }
+  -- the level was added to what is held around it
+  pub ends_inside : (old : Writing W) (new : State W) (n : ℕ) → n < 2 ^ 64 → old.failed ≡ None → old.inside ≢ None
+      → CanAllBeOpen old.level.around × HasNumber old.level.header
+      → n ≡ length (der (under old.level.around (tree_of old.level.header (final_content old.level))))
+      → ((h : Held) → old.inside ≡ Some h → new.inside
+      ≡ Some (extended h (der (under old.level.around (tree_of old.level.header (final_content old.level))))))
+      → new.sink ≡ old.sink → new.around ≡ [] → new.failed ≡ None → g.later old.sink old.sink
+      → WritesContent g old.level.header (final_content old.level) (beneath old) (Ok n) new
+  ends_inside old new n small f some numbers count added s a b later =
+      let t = tree_of old.level.header (final_content old.level) in
+      let fits : length (der (under old.level.around t)) < 2 ^ 64 = omega (arith, count) in
+      let writable = writable_counted old.level.around old.level.header (final_content old.level) numbers fits in
+      record {
+        wrote = writes_inside t (beneath old) new n f some added s a b writable count;
+        failed = tt;
+        untouched = tt;
+        counted = let same = ap g.faults s in (omega (arith, same), omega (arith, same));
+        continues = subst (g.later old.sink) (sym s) later;
+      }
 
 pub on_ok : {A E : Type 0} {P : Type 0} (r : Result A E) → P → OnOk r P
 on_ok (Ok v) h = h

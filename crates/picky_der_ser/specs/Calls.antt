@@ -1,8 +1,7 @@
 -- What the calls of a serializer do.
-use Rattle.std.specs.Prelude.{◌≡◌, ℕ, List, [], ◌∷◌, length, None, Some, IfSome, IfNone, Result, Err, IfOk, IfErr, ⊤}
-use Rattle.std.specs.Prelude.{◌<◌}
+use Rattle.std.specs.Prelude.{◌≡◌, ℕ, List, [], length, None, Some, IfSome, IfNone, Result, Err, IfOk, IfErr, ⊤}
+use Rattle.std.specs.Prelude.{◌<◌, Option}
 use Rattle.picky_der_core.specs.OpenWrappers.{under}
-use Rattle.picky_der_core.specs.declared.asn1.wrapper.Wrapper.{Wrapper}
 use Rattle.std.specs.Io.KnownBytes.{Appends}
 use Rattle.picky_der_core.specs.Writer.{AppendsBeginning}
 use Rattle.picky_der_core.specs.WriterFaults.{WriterFails, IsOnceAtMost}
@@ -15,10 +14,12 @@ use Rattle.picky_der_core.specs.Primitive.{Primitive}
 use Rattle.picky_der_core.specs.Tree.{Tree, Trees}
 use Rattle.picky_der_core.specs.Encoding.{encodings, der}
 use Rattle.picky_der_core.specs.Readable.{IsWritable}
-use Rattle.picky_der_core.specs.Wrapper.{HasTagNumber}
 use Rattle.picky_der_ser.specs.declared.header.Header.{Header}
 use Rattle.picky_der_ser.specs.Headers.{tree_of}
-use Rattle.picky_der_ser.specs.State.{State, Level, with_bytes, with_member, with_members, final_content}
+use Rattle.picky_der_ser.specs.declared.levels.Mark.{Mark}
+use Rattle.picky_der_ser.specs.Marks.{Enters}
+use Rattle.picky_der_ser.specs.State.{stack, State, Held, Writing, extended, beneath, with_member, with_members}
+use Rattle.picky_der_ser.specs.State.{final_content}
 
 -- each of the trees can be written
 abbrev pub AreWritable : Trees → Type 0
@@ -41,10 +42,10 @@ pub record HadFailed {W : Type 0} (old : State W) (e : Asn1DerError) (new : Stat
   pub same : new ≡ old
 
 module _ {W : Type 0} (g : Ghosts W) where
-  -- these bytes were added to what was written, or inside a level to what the innermost one holds
-  abbrev pub AddsIn : List Level → List Level → W → W → List ℕ → Type 0
-  AddsIn [] levels old new bs = (levels ≡ []) × Appends (g.written old) (g.written new) bs
-  AddsIn (l ∷ ls) levels old new bs = (levels ≡ with_bytes l bs ∷ ls) × (new ≡ old)
+  -- these bytes were added to what was written, or inside a level to what is held
+  abbrev pub AddsIn : Option Held → Option Held → W → W → List ℕ → Type 0
+  AddsIn None inside old new bs = (inside ≡ None) × Appends (g.written old) (g.written new) bs
+  AddsIn (Some h) inside old new bs = (inside ≡ Some (extended h bs)) × (new ≡ old)
 
   abbrev pub Adds : State W → State W → List ℕ → Type 0
   Adds old new bs = AddsIn old.inside new.inside old.sink new.sink bs
@@ -73,9 +74,9 @@ module _ {W : Type 0} (g : Ghosts W) where
     pub excuse : Excuse t begins.rest old e new
 
   -- the tree wasn't written, and why: inside a level nothing reaches the sink
-  abbrev pub RefusesIn : List Level → Tree → W → Asn1DerError → W → Type 0
-  RefusesIn [] t old e new = SinkRefuses t old e new
-  RefusesIn (l ∷ ls) t old e new = MemoryExcuse (IsWritable t) e × (new ≡ old)
+  abbrev pub RefusesIn : Option Held → Tree → W → Asn1DerError → W → Type 0
+  RefusesIn None t old e new = SinkRefuses t old e new
+  RefusesIn (Some h) t old e new = MemoryExcuse (IsWritable t) e × (new ≡ old)
 
   -- the call wrote the tree in the open wrappers, and closed them; no I/O error of the sink was passed over
   pub record Writes (t : Tree) (old : State W) (n : ℕ) (new : State W) : Type 0 where
@@ -95,7 +96,7 @@ module _ {W : Type 0} (g : Ghosts W) where
 
   -- outside wrappers and levels only the sink can refuse a plain value that can be written, since nothing is allocated
   abbrev pub OnlySinkFails : Tree → State W → Asn1DerError → State W → Type 0
-  OnlySinkFails t old e new = IsWritable t → old.failed ≡ None → old.inside ≡ [] → old.around ≡ []
+  OnlySinkFails t old e new = IsWritable t → old.failed ≡ None → old.inside ≡ None → old.around ≡ []
       → WriterFails g old.sink e new.sink
 
   -- a plain value that can't be written is refused before anything else is done, whatever is open
@@ -127,6 +128,13 @@ module _ {W : Type 0} (g : Ghosts W) where
 
   -- ---- levels
 
+  -- another member of the level of the mark is being written from here on
+  pub record EntersLevel (m : Mark) (old : State W) (n : Mark) (new : State W) : Type 0 where
+    pub had_not_failed : old.failed ≡ None
+    pub not_failed : new.failed ≡ None
+    pub same : new.sink ≡ old.sink
+    pub entered : Enters m (stack old) n (stack new)
+
   -- it stopped with this error: it had failed so, or an allocation failed; nothing was written
   pub record RefusesToEnter (old : State W) (e : Asn1DerError) (new : State W) : Type 0 where
     pub failed : new.failed ≡ Some (failure_of e)
@@ -135,72 +143,66 @@ module _ {W : Type 0} (g : Ghosts W) where
     pub reason : IfNone old.failed (e ≡ OutOfMemory)
 
   -- a level was opened under this header, and the open wrappers became its own
-  pub record OpensLevel (header : Header) (old new : State W) : Type 0 where
+  pub record OpensLevel (header : Header) (old : State W) (new : Writing W) : Type 0 where
     pub opened : new ≡ record {
       sink = old.sink;
-      around = [];
       failed = old.failed;
       inside = old.inside;
-      pending =
-          Some (record { header = header; around = old.around; content = []; seams = [] });
+      level = record { header = header; around = old.around; content = []; seams = [] };
     }
 
-  -- the tree was added as a member to the level that was opened last
-  pub record AddsMember (t : Tree) (old new : State W) : Type 0 where
+  -- the tree was added to the level as a member
+  pub record AddsMember (t : Tree) (old new : Writing W) : Type 0 where
     pub had_not_failed : old.failed ≡ None
     pub writable : IsWritable t
-    pub added : IfSome old.pending (λ l. new ≡ record {
+    pub added : new ≡ record {
       sink = old.sink;
-      around = [];
       failed = None;
-      inside =
-          old.inside;
-      pending = Some (with_member l (der t));
-    })
+      inside = old.inside;
+      level = with_member old.level (der t);
+    }
 
   -- It stopped with this error, and nothing was written: it had failed so, an allocation failed, or what was to be
   -- added can't be written.
-  pub record RefusesBefore (Possible : Type 0) (old : State W) (e : Asn1DerError) (new : State W) : Type 0 where
+  pub record RefusesBefore (Possible : Type 0) (old : Writing W) (e : Asn1DerError) (new : Writing W) : Type 0 where
     pub failed : new.failed ≡ Some (failure_of e)
     pub same : new.sink ≡ old.sink
     pub again : IfSome old.failed (λ f. failure_of e ≡ f)
     pub reason : IfNone old.failed (MemoryExcuse Possible e)
 
   -- the tree wasn't added
-  abbrev pub RefusesToAdd : Tree → State W → Asn1DerError → State W → Type 0
+  abbrev pub RefusesToAdd : Tree → Writing W → Asn1DerError → Writing W → Type 0
   RefusesToAdd t = RefusesBefore (IsWritable t)
 
-  -- all the trees were added as members to the level that was opened last, in their order
-  pub record AddsMembers (ts : Trees) (old new : State W) : Type 0 where
+  -- all the trees were added to the level as members, in their order
+  pub record AddsMembers (ts : Trees) (old new : Writing W) : Type 0 where
     pub had_not_failed : old.failed ≡ None
     pub writable : AreWritable ts
-    pub added : IfSome old.pending (λ l. new ≡ record {
+    pub added : new ≡ record {
       sink = old.sink;
-      around = [];
       failed = None;
-      inside =
-          old.inside;
-      pending = Some (with_members l (encodings ts));
-    })
+      inside = old.inside;
+      level = with_members old.level (encodings ts);
+    }
 
   -- all of these members were added; without any, nothing was done
-  abbrev pub AddsAll : Trees → State W → State W → Type 0
+  abbrev pub AddsAll : Trees → Writing W → Writing W → Type 0
   AddsAll Trees.none old new = new ≡ old
   AddsAll (Trees.more t ts) old new = AddsMembers (Trees.more t ts) old new
 
   -- one of them wasn't added
-  abbrev pub RefusesToAddAll : Trees → State W → Asn1DerError → State W → Type 0
+  abbrev pub RefusesToAddAll : Trees → Writing W → Asn1DerError → Writing W → Type 0
   RefusesToAddAll Trees.none old e new = ⊥
   RefusesToAddAll (Trees.more t ts) old e new = RefusesBefore (AreWritable (Trees.more t ts)) old e new
 
   -- What comes before members was added: they are added, or refused, as it and they together are.
-  pub record AddsPrepended (prepend : Trees → Trees) (old new : State W) : Type 0 where
-    pub added : (ts : Trees) (last : State W) → AddsAll ts new last → AddsAll (prepend ts) old last
-    pub refused : (ts : Trees) (e : Asn1DerError) (last : State W) → RefusesToAddAll ts new e last
+  pub record AddsPrepended (prepend : Trees → Trees) (old new : Writing W) : Type 0 where
+    pub added : (ts : Trees) (last : Writing W) → AddsAll ts new last → AddsAll (prepend ts) old last
+    pub refused : (ts : Trees) (e : Asn1DerError) (last : Writing W) → RefusesToAddAll ts new e last
         → RefusesToAddAll (prepend ts) old e last
 
   -- It wasn't added, and so no members are that begin with it.
-  abbrev pub RefusesPrepended : (Trees → Trees) → State W → Asn1DerError → State W → Type 0
+  abbrev pub RefusesPrepended : (Trees → Trees) → Writing W → Asn1DerError → Writing W → Type 0
   RefusesPrepended prepend old e new = (ts : Trees) → RefusesToAddAll (prepend ts) old e new
 
   -- one that had failed returned one of that kind again, and wrote nothing
@@ -224,19 +226,7 @@ module _ {W : Type 0} (g : Ghosts W) where
   abbrev pub WritesContent : Header → List ℕ → State W → Result ℕ Asn1DerError → State W → Type 0
   WritesContent header content = WritesWhole (tree_of header content)
 
-  -- the level that was opened last has ended
-  pub record EndsLevel (old : State W) (r : Result ℕ Asn1DerError) (new : State W) : Type 0 where
-    pub ended : IfSome old.pending (λ l. WritesContent l.header (final_content l) (record old { around = l.around }) r
-        new)
+  -- the level has ended
+  pub record EndsLevel (old : Writing W) (r : Result ℕ Asn1DerError) (new : State W) : Type 0 where
+    pub ended : WritesContent old.level.header (final_content old.level) (beneath old) r new
     pub again : IfSome old.failed (λ f. AnswersAgain old.sink f r new)
-
-  -- ---- wrappers
-
-  -- It stopped with this error before a wrapper was opened, and nothing was written. A tag that can't be written is
-  -- refused first.
-  pub record RefusesWrapper (w : Wrapper) (old : State W) (e : Asn1DerError) (new : State W) : Type 0 where
-    pub failed : new.failed ≡ Some (failure_of e)
-    pub same : new.sink ≡ old.sink
-    pub again : IfSome old.failed (λ f. failure_of e ≡ f)
-    pub past : old.failed ≡ None → ¬ HasTagNumber w → e ≡ UnsupportedValue
-    pub memory : old.failed ≡ None → HasTagNumber w → e ≡ OutOfMemory

@@ -1,11 +1,12 @@
 pub mod Headers
 pub mod Seams
-pub mod Marks
 pub mod State
+pub mod Marks
 pub mod Calls
 pub mod Entry
 pub mod Meaning
 pub mod Sequences
+pub mod MarkProps
 pub mod SequenceState
 pub mod Lending
 pub mod Defaults

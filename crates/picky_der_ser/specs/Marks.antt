@@ -1,93 +1,160 @@
--- How marks divide one list of bytes, one of seams and one of wrappers among the levels.
-use Rattle.std.specs.Prelude.{ℕ, ◌≢◌, ◌+◌, ◌<◌, ◌≤◌, ⊤, Bool, true, false, List, [], ◌∷◌, length, take, drop, Option}
-use Rattle.std.specs.Prelude.{None, Some, refl}
+-- What a mark says of a level, where the bytes that are held are known.
+use Rattle.std.specs.Prelude.{◌≡◌, ℕ, ◌+◌, ◌≤◌, Bool, true, false, List, [], ◌∷◌, ◌++◌, length, take, drop, Option}
+use Rattle.std.specs.Prelude.{None}
+use Rattle.std.specs.Prelude.{Some}
+use Rattle.std.specs.Option.{is_some}
+use Rattle.picky_der_ser.specs.declared.header.Header.{Header}
 use Rattle.picky_der_core.specs.declared.asn1.wrapper.Wrapper.{Wrapper}
-use Rattle.picky_der_ser.specs.declared.marks.Mark.{Mark}
-use Rattle.picky_der_ser.specs.State.{Level}
-use Rattle.picky_der_ser.specs.Headers.{HasNumber, CanAllBeOpen}
+use Rattle.picky_der_core.specs.Encoding.{der}
+use Rattle.picky_der_core.specs.OpenWrappers.{under}
+use Rattle.picky_der_ser.specs.declared.levels.Mark.{Mark}
+use Rattle.picky_der_ser.specs.declared.levels.Place.{Place}
+use Rattle.picky_der_ser.specs.declared.levels.Place.TheVariants.{Member, WrappedMember, OpenMember, Sink, WrappedSink}
+use Rattle.picky_der_ser.specs.declared.levels.Place.TheVariants.{OpenSink}
+use Rattle.picky_der_ser.specs.Headers.{tree_of, is_set, wrappers, own_tag, HasNumber, CanAllBeOpen}
 use Rattle.picky_der_ser.specs.Seams.{AreSeams, last_seam}
-use Rattle.std.specs.Coded.{Coded, code_by, coded×, coded_list, coded_ℕ}
-use Rattle.picky_der_ser.specs.declared.header.Header.TheVariants.{Raw}
-use Rattle.picky_der_ser.specs.contracts.marks.Mark as mark
-use Rattle.picky_der_core.specs.contracts.asn1.wrapper.Wrapper as wrapper
+use Rattle.picky_der_ser.specs.State.{Level, Held, extended, Stack, State, Writing, at_next_member, final_content}
 
--- the level of a mark, which is the last one, where these are all bytes, seams and wrappers
-abbrev pub level_at : Mark → List ℕ → List ℕ → List Wrapper → Level
-level_at m s seams ws = record {
+-- the level of a mark, which is the innermost one
+abbrev pub level_at : Mark → Held → Level
+level_at m h = record {
   header = m.header;
-  around = drop m.first_wrapper ws;
-  content = drop m.start s;
-  seams =
-      drop m.first_seam seams;
+  around = wrappers m.around;
+  content = drop m.start h.bytes;
+  seams = drop m.first_seam h.seams;
 }
 
--- the levels of these marks, innermost first
-abbrev pub levels_of : List Mark → List ℕ → List ℕ → List Wrapper → List Level
-levels_of [] s seams ws = []
-levels_of (m ∷ ms) s seams ws = level_at m s seams ws ∷ levels_of ms (take m.at s) (take m.first_seam seams)
-    (take m.first_wrapper ws)
+abbrev pub held_of : List ℕ → List ℕ → Held
+held_of bytes seams = record { bytes = bytes; seams = seams }
 
--- the levels of which a member is being written: all but the innermost one, if that is pending
-abbrev pub inside_of : Bool → List Mark → List ℕ → List ℕ → List Wrapper → List Level
-inside_of false ms s seams ws = levels_of ms s seams ws
-inside_of true [] s seams ws = []
-inside_of true (m ∷ ms) s seams ws = levels_of ms (take m.at s) (take m.first_seam seams) (take m.first_wrapper ws)
+-- so many of the first bytes and seams
+abbrev pub first : ℕ → ℕ → Held → Held
+first bytes seams h = record { bytes = take bytes h.bytes; seams = take seams h.seams }
 
--- the innermost one, if it is pending
-abbrev pub pending_of : Bool → List Mark → List ℕ → List ℕ → List Wrapper → Option Level
-pending_of false ms s seams ws = None
-pending_of true [] s seams ws = None
-pending_of true (m ∷ ms) s seams ws = Some (level_at m s seams ws)
+-- ---- the places where the next value goes
 
--- Each tag number is at most 30, the room for the headers is before the content, and the last member begins in it.
-pub record IsMark (m : Mark) (n : ℕ) (seams : List ℕ) (ws : List Wrapper) : Type 0 where
-  pub numbers : CanAllBeOpen (drop m.first_wrapper ws)
+-- what is held before it; so many bytes and seams stay of a level that it replaces
+abbrev pub inside_at : Place → ℕ → ℕ → Held → Option Held
+inside_at Member bytes seams h = Some h
+inside_at WrappedMember bytes seams h = Some h
+inside_at OpenMember bytes seams h = Some (first bytes seams h)
+inside_at Sink bytes seams h = None
+inside_at WrappedSink bytes seams h = None
+inside_at OpenSink bytes seams h = None
+
+-- the same with that level
+abbrev pub pending_at : Place → Held → Option Held
+pending_at Member h = None
+pending_at WrappedMember h = None
+pending_at OpenMember h = Some h
+pending_at Sink h = None
+pending_at WrappedSink h = None
+pending_at OpenSink h = Some h
+
+abbrev pub around_at : Place → Wrapper → List Wrapper
+around_at Member w = []
+around_at WrappedMember w = w ∷ []
+around_at OpenMember w = []
+around_at Sink w = []
+around_at WrappedSink w = w ∷ []
+around_at OpenSink w = []
+
+-- a level was opened there
+abbrev pub is_open : Place → Bool
+is_open Member = false
+is_open WrappedMember = false
+is_open OpenMember = true
+is_open Sink = false
+is_open WrappedSink = false
+is_open OpenSink = true
+
+-- it is in a level
+abbrev pub is_inside : Place → Bool
+is_inside Member = true
+is_inside WrappedMember = true
+is_inside OpenMember = true
+is_inside Sink = false
+is_inside WrappedSink = false
+is_inside OpenSink = false
+
+-- ---- marks
+
+abbrev pub tags : Option ℕ → List ℕ
+tags None = []
+tags (Some tag) = tag ∷ []
+
+-- what is held around the level
+abbrev pub outside : Mark → Held → Option Held
+outside m h = inside_at m.place m.at m.first_seam h
+
+-- it is in another level and in no wrapper, and its tag is there, before a byte for the length
+pub record HasTag (m : Mark) (h : Held) : Type 0 where
+  pub inside : is_inside m.place ≡ true
+  pub bare : is_some m.around ≡ false
+  pub room : m.start ≡ m.at + 2
+  pub tag : tags (own_tag true m.header) ≡ take 1 (drop m.at h.bytes)
+
+-- the room for the headers is before the content, and its members begin in it
+pub record IsMark (m : Mark) (h : Held) : Type 0 where
+  pub opened : is_open m.place ≡ true
+  pub numbers : CanAllBeOpen (wrappers m.around)
   pub number : HasNumber m.header
   pub room : m.at ≤ m.start
-  pub outer : m.first_wrapper ≤ length ws
-  pub within_seams : m.first_seam ≤ length seams
-  pub within : m.start + last_seam 0 (drop m.first_seam seams) ≤ n
-  pub ascending : AreSeams 0 (drop m.first_seam seams)
+  pub within_seams : m.first_seam ≤ length h.seams
+  pub within : m.start + last_seam 0 (drop m.first_seam h.seams) ≤ length h.bytes
+  pub ascending : AreSeams 0 (drop m.first_seam h.seams)
+  pub ready : m.is_ready ≡ true → is_set m.header ≡ false
+  pub has_tag : m.has_tag ≡ true → HasTag m h
 
--- the marks are within n bytes, each before the one further in
-abbrev pub AreMarks : List Mark → ℕ → List ℕ → List Wrapper → Type 0
-AreMarks [] n seams ws = ⊤
-AreMarks (m ∷ ms) n seams ws = IsMark m n seams ws
-    × AreMarks ms m.at (take m.first_seam seams) (take m.first_wrapper ws)
+-- it is that of the level that was opened last
+abbrev pub IsOpen : Mark → Option Held → Option Held → Type 0
+IsOpen m inside None = ⊥
+IsOpen m inside (Some h) = IsMark m h × (inside ≡ outside m h)
 
--- the rooms and the contents after them are within n bytes, each before the ones further in
-abbrev pub AreRooms : List Mark → ℕ → Type 0
-AreRooms [] n = ⊤
-AreRooms (m ∷ ms) n = (m.at ≤ m.start) × (m.start ≤ n) × AreRooms ms m.at
+-- a member of its level is being written
+abbrev pub IsEntered : Mark → Option Held → Type 0
+IsEntered m None = ⊥
+IsEntered m (Some h) = IsMark m h
 
--- What is pending has a mark. Else there is room for one more, so that opening a level asks for no memory.
-abbrev pub HasMark : Bool → List Mark → ℕ → Type 0
-HasMark true ms spare = ms ≢ []
-HasMark false ms spare = 0 < spare
+-- ---- what becomes of levels
 
--- ---- what a serializer keeps
+-- a level was opened under this header
+pub record Opens (header : Header) (old : Stack) (m : Mark) (new : Stack) : Type 0 where
+  pub held : Held
+  pub is : new ≡ record { inside = old.inside; pending = Some held; around = [] }
+  pub outer : old.inside ≡ outside m held
+  pub mark : IsMark m held
+  pub level : level_at m held ≡ record { header = header; around = old.around; content = []; seams = [] }
 
--- the marks of all levels, innermost first, and for how many more there is room
-pub record KeptMarks : Type 0 where
-  pub marks : List Mark
-  pub spare : ℕ
+-- another member of the level is being written from here on
+pub record Enters (m : Mark) (old : Stack) (n : Mark) (new : Stack) : Type 0 where
+  pub before : Held
+  pub was : old.pending ≡ Some before
+  pub held : Held
+  pub is : new ≡ record { inside = Some held; pending = None; around = [] }
+  pub outer : old.inside ≡ outside n held
+  pub mark : IsMark n held
+  pub level : level_at n held ≡ at_next_member (level_at m before)
 
-abbrev pub kept_marks_code : Coded KeptMarks
-kept_marks_code = code_by (List Mark × ℕ) (coded× (coded_list mark.the_row.coded) coded_ℕ) (λ k. (k.marks, k.spare))
-    (λ p. record { marks = p.0; spare = p.1 }) (λ _. refl)
+-- once its level has its headers, and a set is in order
+abbrev pub enclosed : Mark → Held → Held
+enclosed m h = record {
+  bytes = take m.at h.bytes ++ der (under (wrappers m.around) (tree_of m.header (final_content (level_at m h))));
+  seams = take m.first_seam h.seams;
+}
 
--- that of a root, before whose content nothing is
-abbrev pub root_mark : Mark
-root_mark = record { at = 0; start = 0; first_seam = 0; first_wrapper = 0; header = Raw }
+-- the bytes that are added to what is held
+pub record Gains (bs : List ℕ) (old new : Stack) : Type 0 where
+  pub held : Held
+  pub was : old ≡ record { inside = Some held; pending = None; around = [] }
+  pub is : new ≡ record { inside = Some (extended held bs); pending = None; around = [] }
 
--- ---- the wrappers that it keeps
+-- ---- a sequence
 
--- the wrappers around the levels, the outermost first, and the open ones
-pub record KeptWrappers : Type 0 where
-  pub of_levels : List Wrapper
-  pub around : List Wrapper
+abbrev pub level_in : Mark → Option Held → Level
+level_in m None = level_at m (record { bytes = []; seams = [] })
+level_in m (Some h) = level_at m h
 
-abbrev pub kept_wrappers_code : Coded KeptWrappers
-kept_wrappers_code =
-    code_by (List Wrapper × List Wrapper) (coded× (coded_list wrapper.the_row.coded) (coded_list wrapper.the_row.coded))
-    (λ k. (k.of_levels, k.around)) (λ p. record { of_levels = p.0; around = p.1 }) (λ _. refl)
+-- the level of this mark is being written with a serializer
+abbrev pub writing : {W : Type 0} → Mark → State W → Writing W
+writing m s = record { sink = s.sink; failed = s.failed; inside = s.inside; level = level_in m s.pending }

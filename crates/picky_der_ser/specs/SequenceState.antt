@@ -3,12 +3,13 @@ use Rattle.std.specs.Borrow.{GName}
 use Rattle.std.specs.declared.io.Write as write
 use Rattle.picky_der_core.specs.declared.misc.writer.WriteExt as writer
 use Rattle.picky_der_ser.specs.declared.sequence.Sequence.{Sequence}
-use Rattle.picky_der_ser.specs.State.{State}
+use Rattle.picky_der_ser.specs.State.{Writing}
+use Rattle.picky_der_ser.specs.Marks.{writing}
 
 module _ {W : Type 0} {g : writer.Ghosts W} {h : write.Ghosts W} where
-  -- the state of the serializer
-  abbrev pub state_of : Sequence W g h → State W
-  state_of sequence = sequence.ser.now
+  -- its level, and the serializer that it writes to
+  abbrev pub state_of : Sequence W g h → Writing W
+  state_of sequence = writing sequence.mark sequence.ser.now
 
   -- which serializer it is
   abbrev pub borrowed_by : Sequence W g h → GName

@@ -1,5 +1,5 @@
 -- What a serializer is to its callers.
-use Rattle.std.specs.Prelude.{◌≡◌, ℕ, List, [], ◌∷◌, ◌++◌, length, Option, None, IfSome, refl}
+use Rattle.std.specs.Prelude.{ℕ, List, [], ◌∷◌, ◌++◌, length, Option, None, refl}
 use Rattle.std.specs.List.{concat}
 use Rattle.std.specs.Coded.{Coded, code_by, coded×, coded_list, coded_option, coded_ℕ}
 use Rattle.picky_der_core.specs.Order.{in_ascending_order}
@@ -8,9 +8,6 @@ use Rattle.picky_der_core.specs.contracts.failure.Failure as failure
 use Rattle.picky_der_core.specs.declared.asn1.wrapper.Wrapper.{Wrapper}
 use Rattle.picky_der_core.specs.contracts.asn1.wrapper.Wrapper as wrapper
 use Rattle.picky_der_ser.specs.declared.header.Header.{Header}
-use Rattle.picky_der_ser.specs.declared.header.Header.TheVariants.{Raw}
-use Rattle.picky_der_ser.specs.contracts.header.Header as header
-use Rattle.picky_der_ser.specs.Headers.{HasNumber, CanAllBeOpen}
 use Rattle.picky_der_ser.specs.Seams.{cut_at_seams, next_seams}
 
 -- a level: a sequence, set or application tag that is open
@@ -22,19 +19,6 @@ pub record Level : Type 0 where
   pub content : List ℕ
   -- for a set, how many bytes of the content are before each member but the first
   pub seams : List ℕ
-
-abbrev pub level_code : Coded Level
-level_code =
-    code_by (Header × (List Wrapper × (List ℕ × List ℕ)))
-    (coded× header.the_row.coded
-    (coded× (coded_list wrapper.the_row.coded) (coded× (coded_list coded_ℕ) (coded_list coded_ℕ))))
-    (λ l. (l.header, (l.around, (l.content, l.seams))))
-    (λ p. record { header = p.0; around = p.1.0; content = p.1.1.0; seams = p.1.1.1 })
-    (λ _. refl)
-
--- the level around all that `to_vec` writes: it has no header, so what it holds is what was written
-abbrev pub root : Level
-root = record { header = Raw; around = []; content = []; seams = [] }
 
 -- a level whose innermost member grew by these bytes
 abbrev pub with_bytes : Level → List ℕ → Level
@@ -57,33 +41,34 @@ with_members l (b ∷ members) = with_members (with_member l b) members
 abbrev pub final_content : Level → List ℕ
 final_content l = concat (in_ascending_order (cut_at_seams l.seams l.content))
 
--- the level once its content is that
-abbrev pub in_order : Level → Level
-in_order l = record l { content = final_content l; seams = [] }
+-- the bytes of all levels that are open, and their seams
+pub record Held : Type 0 where
+  pub bytes : List ℕ
+  pub seams : List ℕ
 
--- The levels of a serializer: the levels of which a member is being written, innermost first; and the one that was
--- opened last, until it ends or another call is made. Then the open wrappers, outermost first.
+abbrev pub held_code : Coded Held
+held_code =
+    code_by (List ℕ × List ℕ) (coded× (coded_list coded_ℕ) (coded_list coded_ℕ)) (λ h. (h.bytes, h.seams))
+    (λ p. record { bytes = p.0; seams = p.1 }) (λ _. refl)
+
+-- the same, and more bytes
+abbrev pub extended : Held → List ℕ → Held
+extended h bs = record h { bytes = h.bytes ++ bs }
+
+-- What is held in memory before the next value, if a member of a level is being written; the same with the level that
+-- was opened last, until that ends or another value is written; and the open wrapper.
 pub record Stack : Type 0 where
-  pub inside : List Level
-  pub pending : Option Level
+  pub inside : Option Held
+  pub pending : Option Held
   pub around : List Wrapper
 
 abbrev pub stack_code : Coded Stack
 stack_code =
-    code_by (List Level × (Option Level × List Wrapper))
-    (coded× (coded_list level_code) (coded× (coded_option level_code) (coded_list wrapper.the_row.coded)))
+    code_by (Option Held × (Option Held × List Wrapper))
+    (coded× (coded_option held_code) (coded× (coded_option held_code) (coded_list wrapper.the_row.coded)))
     (λ s. (s.inside, (s.pending, s.around)))
     (λ p. record { inside = p.0; pending = p.1.0; around = p.1.1 })
     (λ _. refl)
-
--- a member of the level that was opened last is being written from here on
-abbrev pub EntersLevel : Stack → Stack → Type 0
-EntersLevel old new =
-    IfSome old.pending (λ l. new ≡ record old { inside = at_next_member l ∷ old.inside; pending = None })
-
--- the tag numbers of the level that was opened last, and of the wrappers around it, are at most 30
-abbrev pub HasLevelNumbers : Stack → Type 0
-HasLevelNumbers s = IfSome s.pending (λ l. CanAllBeOpen l.around × HasNumber l.header)
 
 pub record State (W : Type 0) : Type 0 where
   pub sink : W
@@ -91,17 +76,34 @@ pub record State (W : Type 0) : Type 0 where
   pub around : List Wrapper
   -- the kind of the error that it has failed with
   pub failed : Option Failure
-  -- the levels of which a member is being written, innermost first
-  pub inside : List Level
-  -- the level that was opened last, until it ends or another call is made
-  pub pending : Option Level
+  -- what is held in memory, if a member of a level is being written
+  pub inside : Option Held
+  -- the same with the level that was opened last, until that ends or another value is written
+  pub pending : Option Held
 
 abbrev pub state_code : {W : Type 0} → Coded W → Coded (State W)
 state_code {W} sink =
-    code_by (W × (List Wrapper × (Option Failure × (List Level × Option Level))))
+    code_by (W × (List Wrapper × (Option Failure × (Option Held × Option Held))))
     (coded× sink
     (coded× (coded_list wrapper.the_row.coded)
-    (coded× (coded_option failure.the_row.coded) (coded× (coded_list level_code) (coded_option level_code)))))
+    (coded× (coded_option failure.the_row.coded) (coded× (coded_option held_code) (coded_option held_code)))))
     (λ s. (s.sink, (s.around, (s.failed, (s.inside, s.pending)))))
     (λ p. record { sink = p.0; around = p.1.0; failed = p.1.1.0; inside = p.1.1.1.0; pending = p.1.1.1.1 })
     (λ _. refl)
+
+-- what is open
+abbrev pub stack : {W : Type 0} → State W → Stack
+stack s = record { inside = s.inside; pending = s.pending; around = s.around }
+
+-- what a sequence is to its callers: its level, and the serializer that it writes to
+pub record Writing (W : Type 0) : Type 0 where
+  pub sink : W
+  -- the kind of the error that the serializer has failed with
+  pub failed : Option Failure
+  -- what is held in memory around the level
+  pub inside : Option Held
+  pub level : Level
+
+-- the serializer without the level, in whose wrappers it is
+abbrev pub beneath : {W : Type 0} → Writing W → State W
+beneath w = record { sink = w.sink; around = w.level.around; failed = w.failed; inside = w.inside; pending = None }

@@ -75,7 +75,7 @@ pub fn to_vec<T: Serialize>(alloc: Global, value: &T) -> Result<Vec<u8>>
         levels,
         alloc: _,
     } = serializer;
-    Ok(levels.into_content())
+    Ok(levels.into_bytes())
 }
 
 /// Writes the canonical encoding of a value to a writer, after what was written before, and returns its length in

@@ -1,16 +1,16 @@
-//! The bytes before a content that is being written: the headers of the wrappers around it, and its own.
-ghost use Rattle.std.specs.Prelude.{◌≡◌, ◌+◌, ◌^◌, ◌<◌, ◌≤◌, ◌∷◌, ◌++◌, reverse, take, drop, vec_len};
-ghost use Rattle.std.specs.Prelude.{[], true, false, length, vec_capacity, IfSome, IsSome, OnOk};
-ghost use Rattle.picky_der_core.specs.Element.{length_octets};
+//! The bytes before a content that is being written: the header of the wrapper around it, and its own.
+ghost use Rattle.std.specs.Prelude.{◌≡◌, ℕ, List, ◌+◌, ◌^◌, ◌<◌, ◌≤◌, ◌++◌, length, take, drop, vec_len, vec_capacity};
+ghost use Rattle.std.specs.Prelude.{None, OnOk};
+ghost use Rattle.picky_der_core.specs.Element.{tlv};
 ghost use Rattle.picky_der_core.specs.Equality.{IsEqualityOf, IsKept};
 ghost use Rattle.picky_der_core.specs.Encoding.{der};
 ghost use Rattle.picky_der_core.specs.OpenWrappers.{under};
 ghost use Rattle.picky_der_core.specs.Primitive.{Primitive};
 ghost use Rattle.picky_der_core.specs.Tree.{Tree};
-ghost use Rattle.picky_der_core.specs.Wrapper.{HasTagNumber};
-ghost use Rattle.picky_der_ser.specs.Headers.{is_set, tree_of, wrapper_opening, own_header, headers, joint_header};
-ghost use Rattle.picky_der_ser.specs.Headers.{innermost_joint_header, HasNumber, CanAllBeOpen};
+ghost use Rattle.picky_der_ser.specs.Headers.{is_set, tree_of, wrappers, keeps_headers, own_tag, front, HasNumber};
+ghost use Rattle.picky_der_ser.specs.Headers.{CanAllBeOpen};
 
+use arrayvec::ArrayVec;
 use picky_der_core::asn1::{Tag, Wrapper};
 use picky_der_core::misc::Length;
 use std::alloc::AllocError;
@@ -51,156 +51,161 @@ impl Header {
     }
 }
 
-// Adds a tag and a length, the last byte first.
-fn push_back_to_front(out: &mut Vec<u8>, tag: Tag, len: usize) -> Result<(), AllocError>
-    ensures ok { OnOk result (out.new.items ≡ out.old.items ++ reverse (tag ∷ length_octets len)) }
-    ensures grows { vec_len out.old ≤ vec_len out.new }
-{
-    let mut bytes = Length::bytes(len);
-    bytes.as_mut_slice().reverse();
-    out.extend_from_slice(&bytes)?;
-    out.push(tag.inner())?;
-    Ok(())
-}
-
-// Adds a tag and a length.
-fn push_tag_and_length(out: &mut Vec<u8>, tag: Tag, len: usize) -> Result<(), AllocError>
-    ensures ok { OnOk result (out.new.items ≡ out.old.items ++ (tag ∷ length_octets len)) }
-    ensures grows { vec_len out.old ≤ vec_len out.new }
-{
-    out.push(tag.inner())?;
-    out.extend_from_slice(&Length::bytes(len))?;
-    Ok(())
-}
-
-// Reverses the bytes from there on.
-fn reverse_from(out: &mut Vec<u8>, start: usize)
-    requires { start ≤ vec_len out.old }
-    ensures items { out.new.items ≡ take start out.old.items ++ reverse (drop start out.old.items) }
-    ensures len { vec_len out.new ≡ vec_len out.old }
-{
-    out[start..].reverse();
-}
-
-// Adds the bytes of the wrapper before a content of `len` bytes, the last byte first.
-fn push_opening(out: &mut Vec<u8>, wrapper: Wrapper, len: usize) -> Result<(), AllocError>
-    requires number { HasTagNumber wrapper }
-    requires fits { len + 1 < 2 ^ 64 }
-    ensures ok { OnOk result
-        (out.new.items ≡ out.old.items ++ reverse (wrapper_opening wrapper len)) }
-    ensures grows { vec_len out.old ≤ vec_len out.new }
-{
-    if !wrapper.counts_unused_bits() {
-        return push_back_to_front(out, wrapper.tag(), len);
-    }
-    out.push(0x00)?;
-    push_back_to_front(out, wrapper.tag(), len + 1)
-}
-
-// Adds the header of a content of `len` bytes, the last byte first.
-fn push_own_header(out: &mut Vec<u8>, header: Header, len: usize) -> Result<(), AllocError>
+// The tag in the content's own header. There is none before raw bytes, and directly under an implicit tag none before a
+// plain value.
+#[inline(always)]
+pub(crate) fn own_tag(around: Option<Wrapper>, header: Header) -> Option<Tag>
     requires { HasNumber header }
-    ensures ok { OnOk result (out.new.items ≡ out.old.items ++ reverse (own_header header len)) }
-    ensures grows { vec_len out.old ≤ vec_len out.new }
+    ensures { result ≡ own_tag (keeps_headers around) header }
 {
     match header {
-        Header::Tagged(tag) => push_back_to_front(out, tag, len),
-        Header::Application(number) => push_back_to_front(
-            out,
-            Tag::application_constructed(number),
-            len,
-        ),
-        Header::Raw => Ok(()),
-    }
-}
-
-// Adds the header of a content of `len` bytes that is in no wrapper.
-#[cold]
-#[inline(never)]
-fn push_lone_header(out: &mut Vec<u8>, header: Header, len: usize) -> Result<(), AllocError>
-    requires { HasNumber header }
-    ensures ok { OnOk result (out.new.items ≡ out.old.items ++ own_header header len) }
-    ensures grows { vec_len out.old ≤ vec_len out.new }
-{
-    match header {
-        Header::Tagged(tag) => push_tag_and_length(out, tag, len),
-        Header::Application(number) => push_tag_and_length(
-            out,
-            Tag::application_constructed(number),
-            len,
-        ),
-        Header::Raw => Ok(()),
-    }
-}
-
-// The header of an implicit tag directly around a tagged content, which replaces that content's own.
-fn joined(wrapper: Wrapper, header: &Header) -> Option<Header>
-    requires { HasTagNumber wrapper }
-    ensures { result ≡ joint_header wrapper header.now }
-{
-    match header {
-        Header::Tagged(_) if !wrapper.keeps_header() => Some(Header::Tagged(wrapper.tag())),
-        _ => None,
-    }
-}
-
-// The header that replaces both the innermost wrapper's and the content's own, or `None`.
-fn innermost_joined(around: &[Wrapper], header: &Header) -> Option<Header>
-    requires { CanAllBeOpen around.now }
-    ensures { result ≡ innermost_joint_header around.now header.now }
-{
-    match around.split_last() {
-        Some((wrapper, _)) => joined(*wrapper, header),
-        None => None,
-    }
-}
-
-// The identifier byte before a content of `len` bytes, if nothing but this byte and a length of one byte is before it
-// (X.690, 8.1.3.4). Nearly always it is so.
-pub(crate) fn short_identifier(around: &[Wrapper], header: &Header, len: usize) -> Option<u8>
-    requires { HasNumber header.now }
-    ensures header { IfSome result (λ identifier.
-        headers around.now header.now len ≡ identifier ∷ len ∷ []) }
-    ensures short { IsSome result → len < 0x80 }
-    ensures bare { IsSome result → around.now ≡ [] }
-{
-    if !around.is_empty() || len >= 0x80 {
-        return None;
-    }
-    match header {
-        Header::Tagged(tag) => Some(tag.inner()),
-        Header::Application(number) => Some(Tag::application_constructed(*number).inner()),
+        Header::Tagged(tag) => match around {
+            Some(wrapper) if !wrapper.keeps_header() => None,
+            _ => Some(tag),
+        },
+        Header::Application(number) => Some(Tag::application_constructed(number)),
         Header::Raw => None,
     }
 }
 
-// Writes the header of the content from `start` on into the room from `at` to `start`, if it is a short one that fits
-// exactly. Else nothing is done.
+// The most bytes of a header: a tag, a length, and a byte that counts unused bits.
+type Opening = ArrayVec<u8, 11>;
+
+// A tag, the length of `len` bytes, and in a bit string before them the byte that counts no unused bits.
 #[inline(always)]
-pub(crate) fn fill_short(
+fn opening(tag: Tag, has_front: bool, len: usize) -> Opening
+    requires { len + 1 < 2 ^ 64 }
+    ensures { (c : List ℕ) → length c ≡ len → result.items ++ c ≡ tlv tag (front has_front ++ c) }
+{
+    let mut bytes = Opening::new();
+    bytes.push(tag.inner());
+    let _ = bytes.try_extend_from_slice(&Length::bytes(usize::from(has_front) + len));
+    if has_front {
+        bytes.push(0x00);
+    }
+    bytes
+}
+
+// Adds all headers before a content of `len` bytes.
+pub(crate) fn push_headers(
+    out: &mut Vec<u8>,
+    around: Option<Wrapper>,
+    header: Header,
+    len: usize,
+) -> Result<(), AllocError>
+    requires numbers { CanAllBeOpen (wrappers around) × HasNumber header }
+    requires fits { len < 2 ^ 63 }
+    ensures ok { OnOk result ((c : List ℕ) → length c ≡ len
+        → out.new.items ++ c ≡ out.old.items ++ der (under (wrappers around) (tree_of header c))) }
+    ensures grows { vec_len out.old ≤ vec_len out.new }
+{
+    let own = own_tag(around, header);
+    if let Some(wrapper) = around {
+        let own_len = if own.is_some() {
+            1 + Length::encoded_len(len)
+        } else {
+            0
+        };
+        out.extend_from_slice(&opening(
+            wrapper.tag(),
+            wrapper.counts_unused_bits(),
+            own_len + len,
+        ))?;
+    }
+    if let Some(tag) = own {
+        out.extend_from_slice(&opening(tag, false, len))?;
+    }
+    Ok(())
+}
+
+// How many bytes the headers of a short content have.
+pub(crate) fn room_of(around: Option<Wrapper>, header: Header) -> usize
+    ensures { result ≤ 5 }
+{
+    match around {
+        None => 2,
+        Some(wrapper) if !wrapper.keeps_header() || header == Header::Raw => 2,
+        Some(wrapper) if wrapper.counts_unused_bits() => 5,
+        Some(_) => 4,
+    }
+}
+
+// The bytes in a room before its header comes.
+const BLANK: [u8; 11] = [0; 11];
+
+// Makes the room from `at` to `start` so many bytes wide.
+fn fit_room(out: &mut Vec<u8>, at: usize, start: usize, size: usize) -> Result<(), AllocError>
+    requires room { at ≤ start }
+    requires within { start ≤ vec_len out.old }
+    requires size { size ≤ 11 }
+    ensures before { OnOk result (take at out.new.items ≡ take at out.old.items) }
+    ensures after { OnOk result (drop (at + size) out.new.items ≡ drop start out.old.items) }
+    ensures len { OnOk result (at + size ≤ vec_len out.new) }
+{
+    let end = out.len();
+    let first = at + size;
+    if first > start {
+        out.extend_from_slice(&BLANK[..first - start])?;
+    }
+    if first != start {
+        out.copy_within(start..end, first);
+        out.truncate(first + (end - start));
+    }
+    Ok(())
+}
+
+// Puts a header before the content from `start` on, in place of the bytes from `at` to `start`.
+fn put_header(
     out: &mut Vec<u8>,
     at: usize,
     start: usize,
-    around: &[Wrapper],
-    header: &Header,
-) -> bool
-    requires number { HasNumber header.now }
+    tag: Tag,
+    has_front: bool,
+) -> Result<(), AllocError>
     requires room { at ≤ start }
     requires within { start ≤ vec_len out.old }
-    ensures yes { result ≡ true → out.new.items ≡ take at out.old.items ++ der
-        (under around.now (tree_of header.now (drop start out.old.items))) }
-    ensures bare { result ≡ true → around.now ≡ [] }
-    ensures len { vec_len out.new ≡ vec_len out.old }
-    ensures no { result ≡ false → out.new ≡ out.old }
+    ensures { OnOk result (out.new.items ≡ take at out.old.items
+        ++ tlv tag (front has_front ++ drop start out.old.items)) }
 {
     let len = out.len() - start;
-    match short_identifier(around, header, len) {
-        Some(identifier) if start - at == 2 => {
-            out[at..at + 2].copy_from_slice(&[identifier, len as u8]);
-            true
-        }
-        _ => false,
+    if !has_front && len < 0x80 && start - at == 2 {
+        out[at..start].copy_from_slice(&[tag.inner(), len as u8]);
+        return Ok(());
     }
+    let header = opening(tag, has_front, len);
+    fit_room(out, at, start, header.len())?;
+    out[at..at + header.len()].copy_from_slice(&header);
+    Ok(())
+}
+
+// Puts all headers before the content from `start` on, in place of the bytes from `at` to `start`.
+pub(crate) fn put_headers(
+    out: &mut Vec<u8>,
+    at: usize,
+    start: usize,
+    around: Option<Wrapper>,
+    header: Header,
+) -> Result<(), AllocError>
+    requires numbers { CanAllBeOpen (wrappers around) × HasNumber header }
+    requires room { at ≤ start }
+    requires within { start ≤ vec_len out.old }
+    ensures { OnOk result (out.new.items ≡ take at out.old.items
+        ++ der (under (wrappers around) (tree_of header (drop start out.old.items)))) }
+{
+    let own = own_tag(around, header);
+    let Some(wrapper) = around else {
+        return match own {
+            Some(tag) => put_header(out, at, start, tag, false),
+            None => fit_room(out, at, start, 0),
+        };
+    };
+    let mut own_at = start;
+    if let Some(tag) = own {
+        // Two bytes of the room are for the own header, if it has as many.
+        own_at = at.max(start.saturating_sub(2));
+        put_header(out, own_at, start, tag, false)?;
+    }
+    put_header(out, at, own_at, wrapper.tag(), wrapper.counts_unused_bits())
 }
 
 // Adds an element whose length is one byte, for which there is room.
@@ -228,53 +233,4 @@ pub(crate) fn push_few(out: &mut Vec<u8>, bytes: &[u8])
 {
     // There is room, so this doesn't fail.
     let _ = out.extend_from_slice(bytes);
-}
-
-// Adds all headers before a content of `len` bytes, the innermost first.
-#[cold]
-#[inline(never)]
-fn push_nested_headers(
-    out: &mut Vec<u8>,
-    around: &[Wrapper],
-    header: Header,
-    len: usize,
-) -> Result<(), AllocError>
-    requires numbers { CanAllBeOpen around.now × HasNumber header }
-    requires fits { len < 2 ^ 63 }
-    ensures ok { OnOk result (out.new.items ≡ out.old.items ++ headers around.now header len) }
-    ensures grows { vec_len out.old ≤ vec_len out.new }
-{
-    let start = out.len();
-    let joined = innermost_joined(around, &header);
-    let written = usize::from(joined.is_some());
-    push_own_header(out, joined.unwrap_or(header), len)?;
-    let mut rest = &around[..around.len() - written];
-    while let Some((wrapper, outer)) = rest.split_last() {
-        push_opening(out, *wrapper, len + (out.len() - start))?;
-        rest = outer;
-    }
-    reverse_from(out, start);
-    Ok(())
-}
-
-// Adds all headers before a content of `len` bytes.
-pub(crate) fn push_headers(
-    out: &mut Vec<u8>,
-    around: &[Wrapper],
-    header: Header,
-    len: usize,
-) -> Result<(), AllocError>
-    requires numbers { CanAllBeOpen around.now × HasNumber header }
-    requires fits { len < 2 ^ 63 }
-    ensures ok { OnOk result (out.new.items ≡ out.old.items ++ headers around.now header len) }
-    ensures grows { vec_len out.old ≤ vec_len out.new }
-{
-    if let Some(identifier) = short_identifier(around, &header, len) {
-        out.extend_from_slice(&[identifier, len as u8])?;
-        return Ok(());
-    }
-    if around.is_empty() {
-        return push_lone_header(out, header, len);
-    }
-    push_nested_headers(out, around, header, len)
 }

@@ -1,21 +1,17 @@
-//! The levels of a serializer, in one vector.
-ghost use Rattle.std.specs.Prelude.{◌≡◌, ◌≢◌, ◌<◌, ◌≤◌, ◌^◌, ◌+◌, List, [], ◌∷◌, ◌++◌};
-ghost use Rattle.std.specs.Prelude.{true, false, length, None, Some, IfSome, IfNone, IsSome, IfOk, OnOk};
+//! What a serializer holds in memory of the levels that are open, and where its next value goes.
+ghost use Rattle.std.specs.Prelude.{◌≡◌, ◌≢◌, ◌+◌, ◌≤◌, [], ◌∷◌, ◌++◌, true, false, length, take, None, Some, IfSome};
+ghost use Rattle.std.specs.Prelude.{IfNone, IfOk, OnOk, drop};
 ghost use Rattle.picky_der_core.specs.Primitive.{Primitive};
 ghost use Rattle.picky_der_core.specs.OpenWrappers.{under};
 ghost use Rattle.picky_der_core.specs.Encoding.{der};
 ghost use Rattle.picky_der_core.specs.Tree.{Tree};
-ghost use Rattle.picky_der_ser.specs.Headers.{tree_of, headers, HasNumber, CanBeOpen, CanAllBeOpen};
-ghost use Rattle.picky_der_ser.specs.State.{Level, root, with_bytes, at_next_member, in_order, final_content};
-ghost use Rattle.picky_der_ser.specs.State.{EntersLevel, HasLevelNumbers};
+ghost use Rattle.picky_der_ser.specs.Headers.{tree_of, wrappers, own_tag, HasNumber, CanBeOpen, CanAllBeOpen};
+ghost use Rattle.picky_der_ser.specs.State.{Held, extended, final_content};
+ghost use Rattle.picky_der_ser.specs.Marks.{level_at, outside, IsOpen, IsEntered, Opens, Enters, enclosed, Gains};
 
 use crate::Header;
-use crate::header::{fill_short, push_few, push_headers, push_short};
-use crate::header_insertion::{enclose, push_enclosed};
-use crate::header_room::widen_rooms;
-use crate::marks::{Mark, Marks};
+use crate::header::{own_tag, push_few, push_headers, push_short, put_headers, room_of};
 use crate::order::{arrange, begin_member};
-use crate::wrapper_stack::Wrappers;
 use picky_der_core::asn1::{Tag, Wrapper};
 use std::alloc::{AllocError, Global};
 use std::marker::Model;
@@ -28,307 +24,379 @@ pub(crate) const FIRST_ROOM: usize = 1_000;
 // headers around it grow.
 const SPARE_ROOM: usize = 128;
 
-// The contents of the levels are one after the other, the innermost last. The wrappers around them are too, and their
-// seams. The seams of a set say how many bytes of its content are before each member but the first.
-//
-// Vectors in each mark would be copied and dropped with most levels too, which have no seams and are in no wrapper.
-//
-// A flag alone says whether a member of the innermost level is being written, so that no mark moves at a member.
+// The bytes in a room before its headers come.
+const BLANK: [u8; 5] = [0; 5];
+
+// A level: where the room for its headers begins, and where its content.
+#[derive(Clone, Copy)]
+pub(crate) struct Mark {
+    pub(crate) at: usize,
+    pub(crate) start: usize,
+    // How many seams are of levels around it.
+    pub(crate) first_seam: usize,
+    pub(crate) header: Header,
+    pub(crate) around: Option<Wrapper>,
+    // What it is in.
+    pub(crate) place: Place,
+    // Whether a member can be written at once: the room is there, and no seam has to be kept.
+    pub(crate) is_ready: bool,
+    // Whether it is in another level and in no wrapper, with a room of two bytes of which the first is its tag.
+    pub(crate) has_tag: bool,
+}
+
+// Where the next value goes.
+#[derive(Clone, Copy, PartialEq, Eq)]
+pub(crate) enum Place {
+    // To the bytes that are held: it is a member of a level, or a part of one.
+    Member,
+
+    // The same in a wrapper.
+    WrappedMember,
+
+    // In place of a level that was opened as such a member and hasn't ended.
+    OpenMember,
+
+    // To the sink.
+    Sink,
+
+    // The same in a wrapper.
+    WrappedSink,
+
+    // In place of a level that was opened there and hasn't ended.
+    OpenSink,
+}
+
+// The bytes of all levels, one after the other, the innermost last. The seams of a set say how many bytes of its
+// content are before each member but the first.
 #[derive(Drop)]
 pub(crate) struct Levels {
-    scratch: Vec<u8>,
+    bytes: Vec<u8>,
     seams: Vec<usize>,
-    wrappers: Wrappers,
-    marks: Marks,
-    // Whether the innermost level was opened last, and no member of it is being written.
-    pending: bool,
+    place: Place,
+    // The open wrapper, if there is one.
+    wrapper: Wrapper,
+    // How many bytes and seams stay if the open level is dropped.
+    kept: usize,
+    kept_seams: usize,
 }
 
 impl Model for Levels {
-    ghost use Rattle.std.specs.Prelude.{length};
+    ghost use Rattle.picky_der_ser.specs.Headers.{CanAllBeOpen};
     ghost use Rattle.picky_der_ser.specs.State.{Stack, stack_code};
-    ghost use Rattle.picky_der_ser.specs.Marks.{inside_of, pending_of, AreMarks, HasMark};
+    ghost use Rattle.picky_der_ser.specs.Marks.{held_of, inside_at, pending_at, around_at};
 
     ghost Value = { Stack };
 
     ghost coded = { stack_code };
 
     ghost view = { λ s. record {
-      inside = inside_of s.pending s.marks.marks s.scratch.items s.seams.items s.wrappers.of_levels;
-      pending = pending_of s.pending s.marks.marks s.scratch.items s.seams.items s.wrappers.of_levels;
-      around = s.wrappers.around;
+      inside = inside_at s.place s.kept s.kept_seams (held_of s.bytes.items s.seams.items);
+      pending = pending_at s.place (held_of s.bytes.items s.seams.items);
+      around = around_at s.place s.wrapper;
     } };
 
-    ghost invariant = { λ s. AreMarks s.marks.marks (length s.scratch.items) s.seams.items s.wrappers.of_levels
-        × HasMark s.pending s.marks.marks s.marks.spare };
+    ghost invariant = { λ s. CanAllBeOpen (around_at s.place s.wrapper) };
 }
 
 impl Levels {
     pub(crate) fn new(alloc: Global) -> Levels
-        ensures { result ≡ record { inside = []; pending = None; around = [] } }
+        ensures { result ≡ record { inside = None; pending = None; around = [] } }
     {
         Levels {
-            scratch: Vec::new(alloc),
+            bytes: Vec::new(alloc),
             seams: Vec::new(alloc),
-            wrappers: Wrappers::new(alloc),
-            marks: Marks::new(alloc),
-            pending: false,
+            place: Place::Sink,
+            wrapper: Wrapper::OctetContainer,
+            kept: 0,
+            kept_seams: 0,
         }
     }
 
     // Levels within one that is around all, in this vector, which has no bytes. Inlined, so that they are made in their
     // final place.
     #[inline(always)]
-    pub(crate) fn new_in_root(alloc: Global, scratch: Vec<u8>) -> Levels
-        requires { scratch.items ≡ [] }
-        ensures { result ≡ record { inside = root ∷ []; pending = None; around = [] } }
+    pub(crate) fn new_in_root(alloc: Global, bytes: Vec<u8>) -> Levels
+        requires { bytes.items ≡ [] }
+        ensures { result ≡ record {
+          inside = Some (record { bytes = []; seams = [] });
+          pending = None;
+          around = [];
+        } }
     {
         Levels {
-            scratch,
+            bytes,
             seams: Vec::new(alloc),
-            wrappers: Wrappers::new(alloc),
-            marks: Marks::new_in_root(alloc),
-            pending: false,
+            place: Place::Member,
+            wrapper: Wrapper::OctetContainer,
+            kept: 0,
+            kept_seams: 0,
         }
     }
 
-    // Returns what is in the level of which a member was being written. Inlined, so that the levels aren't copied
-    // first.
+    // What is held before the next value. Inlined, so that the levels aren't copied first.
     #[inline(always)]
-    pub(crate) fn into_content(self) -> Vec<u8>
-        ensures { (l : Level) (ls : List Level) → self.inside ≡ l ∷ ls → result.items ≡ l.content }
-    {
-        if !self.marks.is_one_at_front() {
-            return self.into_inner_content();
-        }
-        let Levels {
-            scratch,
-            seams: _,
-            wrappers: _,
-            marks: _,
-            pending: _,
-        } = self;
-        scratch
-    }
-
-    // The same if another level is in it, or something is before its contents.
-    #[cold]
-    #[inline(never)]
-    fn into_inner_content(mut self) -> Vec<u8>
-        ensures { (l : Level) (ls : List Level) → self.inside ≡ l ∷ ls → result.items ≡ l.content }
+    pub(crate) fn into_bytes(mut self) -> Vec<u8>
+        ensures { (h : Held) → self.inside ≡ Some h → result.items ≡ h.bytes }
     {
         self.give_up();
-        let start = self.marks.last().map_or(0, |mark| mark.start);
         let Levels {
-            mut scratch,
+            bytes,
             seams: _,
-            wrappers: _,
-            marks: _,
-            pending: _,
+            place: _,
+            wrapper: _,
+            kept: _,
+            kept_seams: _,
         } = self;
-        scratch.drain(..start);
-        scratch
+        bytes
     }
 
     // Whether a member of some level is being written.
     pub(crate) fn is_inside(&self) -> bool
-        ensures no { result ≡ false → self.now.inside ≡ [] }
-        ensures yes { result ≡ true → self.now.inside ≢ [] }
+        ensures no { result ≡ false → self.now.inside ≡ None }
+        ensures yes { result ≡ true → self.now.inside ≢ None }
     {
-        self.marks.are_more_than(usize::from(self.pending))
+        matches!(
+            self.place,
+            Place::Member | Place::WrappedMember | Place::OpenMember
+        )
     }
 
-    // Drops the level that was opened last and hasn't ended. When a member is written there mostly is none.
+    // Drops the level that was opened last and hasn't ended. When a value is written there mostly is none.
+    #[inline(always)]
     pub(crate) fn give_up(&mut self)
         ensures { self.new ≡ record self.old { pending = None } }
     {
-        if self.pending {
-            self.drop_pending();
+        if matches!(self.place, Place::OpenMember | Place::OpenSink) {
+            self.drop_level();
         }
     }
 
     #[cold]
     #[inline(never)]
-    fn drop_pending(&mut self)
-        requires { IsSome self.old.pending }
+    fn drop_level(&mut self)
+        requires { self.old.pending ≢ None }
         ensures { self.new ≡ record self.old { pending = None } }
     {
-        if let Some(mark) = self.marks.pop() {
-            self.pending = false;
-            self.scratch.truncate(mark.at);
-            self.seams.truncate(mark.first_seam);
-            self.wrappers.drop_from(mark.first_wrapper);
+        self.bytes.truncate(self.kept);
+        self.seams.truncate(self.kept_seams);
+        self.place = if self.place == Place::OpenMember {
+            Place::Member
+        } else {
+            Place::Sink
+        };
+    }
+
+    // The open wrapper.
+    #[inline(always)]
+    pub(crate) fn around(&self) -> Option<Wrapper>
+        ensures around { wrappers result ≡ self.now.around }
+        ensures numbers { CanAllBeOpen (wrappers result) }
+    {
+        match self.place {
+            Place::WrappedMember | Place::WrappedSink => Some(self.wrapper),
+            _ => None,
         }
     }
 
-    // Opens a level in the open wrappers. It replaces one that was opened and hasn't ended.
-    pub(crate) fn open(&mut self, header: Header)
+    // Opens a level in the open wrapper. It replaces one that was opened and hasn't ended.
+    #[inline(always)]
+    pub(crate) fn open(&mut self, header: Header) -> Mark
         requires { HasNumber header }
-        ensures { self.new ≡ record self.old {
-          pending = Some
-              (record { header = header; around = self.old.around; content = []; seams = [] });
-          around = [];
-        } }
+        ensures { Opens header self.old result self.new }
     {
-        self.give_up();
-        let at = self.scratch.len();
-        // The room for a short header, if there is room for it, so that this doesn't fail.
-        if self.wrappers.is_bare() && self.scratch.capacity() - at >= 2 {
-            let _ = self.scratch.extend_from_slice(&[0; 2]);
-        }
-        let first_wrapper = self.wrappers.take();
-        self.marks.push(Mark {
+        let mut mark = Mark {
+            at: 0,
+            start: 0,
+            first_seam: 0,
             header,
-            at,
-            start: self.scratch.len(),
-            first_seam: self.seams.len(),
-            first_wrapper,
-        });
-        self.pending = true;
-    }
-
-    // Makes room for the headers of a level without members: as many bytes as the headers of an empty content have.
-    fn make_room(&mut self) -> Result<(), AllocError>
-        ensures { OnOk result (self.new ≡ self.old) }
-    {
-        if let Some(mark) = self.marks.last() {
-            if self.scratch.len() == mark.at {
-                let around = self.wrappers.around_from(mark.first_wrapper);
-                push_headers(&mut self.scratch, around, mark.header, 0)?;
-                self.marks.set_start(self.scratch.len());
-            }
+            around: None,
+            place: Place::OpenMember,
+            is_ready: false,
+            has_tag: false,
+        };
+        if !self.open_short(&mut mark) {
+            self.open_any(&mut mark);
         }
-        Ok(())
+        mark
     }
 
-    // Keeps where the next member begins in the level that was opened last, if it is a set.
-    fn begin_member(&mut self) -> Result<(), AllocError>
-        ensures { OnOk result (IfSome self.old.pending
-            (λ l. self.new ≡ record self.old { pending = Some (at_next_member l) })) }
+    // The same in another level and in no wrapper, where there is room for a short header. Else nothing is done.
+    #[inline(always)]
+    fn open_short(&mut self, mark: &mut Mark) -> bool
+        requires { HasNumber mark.old.header }
+        ensures yes { result ≡ true → Opens mark.old.header self.old mark.new self.new }
+        ensures no { result ≡ false → (self.new ≡ self.old) × (mark.new ≡ mark.old) }
     {
-        if let Some(mark) = self.marks.last() {
-            let held = self.scratch.len() - mark.start;
-            begin_member(&mut self.seams, mark.header, held)?;
-        }
-        Ok(())
-    }
-
-    // From here on a member of the level that was opened last is written. The first member of all makes some bytes of
-    // room at once, so that small values need no other allocation.
-    #[cold]
-    #[inline(never)]
-    pub(crate) fn enter(&mut self) -> Result<(), AllocError>
-        ensures { OnOk result (EntersLevel self.old self.new) }
-    {
-        if self.scratch.is_empty() {
-            self.scratch.reserve(FIRST_ROOM)?;
-        }
-        self.make_room()?;
-        self.begin_member()?;
-        self.marks.reserve_one()?;
-        self.pending = false;
-        Ok(())
-    }
-
-    // The same if no wrapper is open and nothing has to be prepared, as nearly always. Else nothing is done.
-    pub(crate) fn enter_short(&mut self) -> bool
-        ensures bare { result ≡ true → self.old.around ≡ [] }
-        ensures yes { result ≡ true → EntersLevel self.old self.new }
-        ensures no { result ≡ false → self.new ≡ self.old }
-    {
-        let Some(mark) = self.marks.last() else {
+        let header = mark.header;
+        let own = own_tag(None, header);
+        let Some(tag) = own else {
             return false;
         };
-        let len = self.scratch.len();
-        let has_seam = mark.header.is_set() && len > mark.start;
-        let is_bare = self.wrappers.is_bare();
-        if !is_bare || len == mark.at || has_seam || !self.pending || !self.marks.has_room() {
+        let Place::Member = self.place else {
+            return false;
+        };
+        let at = self.bytes.len();
+        if self.bytes.capacity() - at < 2 {
             return false;
         }
-        self.pending = false;
+        let first_seam = self.seams.len();
+        // There is room, so this doesn't fail.
+        let has_room = self.bytes.extend_from_slice(&[tag.inner(), 0]).is_ok();
+        self.place = Place::OpenMember;
+        self.kept = at;
+        self.kept_seams = first_seam;
+        *mark = Mark {
+            at,
+            start: self.bytes.len(),
+            first_seam,
+            header,
+            around: None,
+            place: Place::OpenMember,
+            is_ready: has_room && !header.is_set(),
+            has_tag: has_room,
+        };
         true
     }
 
-    // The member has been written.
-    pub(crate) fn leave(&mut self)
-        ensures { (l : Level) (ls : List Level) → self.old.inside ≡ l ∷ ls
-            → self.new ≡ record self.old { inside = ls; pending = Some l } }
+    // The same in any place.
+    #[inline(never)]
+    fn open_any(&mut self, mark: &mut Mark)
+        requires { HasNumber mark.old.header }
+        ensures { Opens mark.old.header self.old mark.new self.new }
     {
         self.give_up();
-        self.pending = self.is_inside();
+        let header = mark.header;
+        let around = self.around();
+        let at = self.bytes.len();
+        let first_seam = self.seams.len();
+        let has_room = self.bytes.capacity() - at >= BLANK.len();
+        if has_room {
+            let _ = self
+                .bytes
+                .extend_from_slice(&BLANK[..room_of(around, header)]);
+        }
+        let place = if self.is_inside() {
+            Place::OpenMember
+        } else {
+            Place::OpenSink
+        };
+        self.place = place;
+        self.kept = at;
+        self.kept_seams = first_seam;
+        *mark = Mark {
+            at,
+            start: self.bytes.len(),
+            first_seam,
+            header,
+            around,
+            place,
+            is_ready: has_room && !header.is_set(),
+            has_tag: false,
+        };
+    }
+
+    // From here on a member of the level that was opened last is written. Returns the level's mark.
+    #[inline(always)]
+    pub(crate) fn enter(&mut self, mark: &mut Mark) -> Result<(), AllocError>
+        requires { IsOpen mark.old self.old.inside self.old.pending }
+        ensures { OnOk result (Enters mark.old self.old mark.new self.new) }
+    {
+        if self.bytes.len() == mark.at {
+            if self.bytes.is_empty() {
+                self.bytes.reserve(FIRST_ROOM)?;
+            }
+            self.bytes
+                .extend_from_slice(&BLANK[..room_of(mark.around, mark.header)])?;
+            mark.start = self.bytes.len();
+            mark.is_ready = !mark.header.is_set();
+        }
+        begin_member(&mut self.seams, mark.header, self.bytes.len() - mark.start)?;
+        self.place = Place::Member;
+        Ok(())
+    }
+
+    // The same if nothing has to be prepared, as nearly always. Else nothing is done.
+    #[inline(always)]
+    pub(crate) fn enter_ready(&mut self, mark: &Mark) -> bool
+        requires { IsOpen mark.now self.old.inside self.old.pending }
+        ensures yes { result ≡ true → Enters mark.now self.old mark.now self.new }
+        ensures no { result ≡ false → self.new ≡ self.old }
+    {
+        if mark.is_ready {
+            self.place = Place::Member;
+        }
+        mark.is_ready
+    }
+
+    // The member of the level with this mark has been written.
+    #[inline(always)]
+    pub(crate) fn leave(&mut self, mark: &Mark)
+        requires entered { IsEntered mark.now self.old.inside }
+        requires bare { self.old.around ≡ [] }
+        ensures { (h : Held) → self.old.inside ≡ Some h
+            → self.new ≡ record { inside = outside mark.now h; pending = Some h; around = [] } }
+    {
+        if self.place != Place::Member {
+            self.drop_level();
+        }
+        self.place = mark.place;
+        self.kept = mark.at;
+        self.kept_seams = mark.first_seam;
     }
 
     // Adds an element with a length of one byte to the level of which a member is being written, if no wrapper is open,
     // no level was opened in it, and there is room for the element. Else nothing is done.
     #[inline(always)]
     pub(crate) fn append_short(&mut self, tag: Tag, content: &[u8]) -> bool
-        ensures inside { result ≡ true → self.old.inside ≢ [] }
         ensures count { result ≡ true → length
             (der (Tree.primitive (Primitive.bytes tag content.now))) ≡ 2 + length content.now }
-        ensures yes { result ≡ true → (l : Level) (ls : List Level) → self.old.inside ≡ l ∷ ls
-            → self.new ≡ record self.old {
-              inside = with_bytes l (der (Tree.primitive (Primitive.bytes tag content.now))) ∷ ls;
-              pending = None;
-            } }
-        ensures around { self.new.around ≡ self.old.around }
-        ensures bare { result ≡ true → self.old.around ≡ [] }
+        ensures yes { result ≡ true
+            → Gains (der (Tree.primitive (Primitive.bytes tag content.now))) self.old self.new }
         ensures no { result ≡ false → self.new ≡ self.old }
     {
         let len = content.len();
-        let room = self.scratch.capacity() - self.scratch.len();
-        let is_bare = self.wrappers.is_bare();
-        if !is_bare || self.pending || !self.is_inside() || len >= 0x80 || room < 2 + len {
+        let room = self.bytes.capacity() - self.bytes.len();
+        if self.place != Place::Member || len >= 0x80 || room < 2 + len {
             return false;
         }
-        push_short(&mut self.scratch, tag, content);
+        push_short(&mut self.bytes, tag, content);
         true
     }
 
-    // Adds less than 128 bytes as they are to the level of which a member is being written, if no wrapper is open, no
-    // level was opened in it, and there is room for them. Else nothing is done.
+    // Adds bytes as they are to the level of which a member is being written, if no wrapper is open, no level was
+    // opened in it, and there is room for them. Else nothing is done.
     #[inline(always)]
     pub(crate) fn append_few(&mut self, bytes: &[u8]) -> bool
-        ensures inside { result ≡ true → self.old.inside ≢ [] }
-        ensures yes { result ≡ true → (l : Level) (ls : List Level) → self.old.inside ≡ l ∷ ls
-            → self.new ≡ record self.old {
-              inside = with_bytes l bytes.now ∷ ls;
-              pending = None;
-            } }
-        ensures around { self.new.around ≡ self.old.around }
-        ensures bare { result ≡ true → self.old.around ≡ [] }
+        ensures yes { result ≡ true → Gains bytes.now self.old self.new }
         ensures no { result ≡ false → self.new ≡ self.old }
     {
-        let len = bytes.len();
-        let room = self.scratch.capacity() - self.scratch.len();
-        let is_bare = self.wrappers.is_bare();
-        if !is_bare || self.pending || !self.is_inside() || len >= 0x80 || room < len {
+        let room = self.bytes.capacity() - self.bytes.len();
+        if self.place != Place::Member || room < bytes.len() {
             return false;
         }
-        push_few(&mut self.scratch, bytes);
+        push_few(&mut self.bytes, bytes);
         true
     }
 
-    // Adds the encoding of a content under this header, in the open wrappers, to the level of which a member is being
-    // written. Returns the length of the encoding.
+    // Adds the encoding of a content under this header, in the open wrapper, to what is held. Returns the length of the
+    // encoding.
     pub(crate) fn append(&mut self, header: Header, content: &[u8]) -> Result<usize, AllocError>
         requires { HasNumber header }
         ensures numbers { CanAllBeOpen self.old.around }
         ensures count { IfOk result (λ n. n ≡ length
             (der (under self.old.around (tree_of header content.now)))) }
-        ensures ok { OnOk result ((l : Level) (ls : List Level) → self.old.inside ≡ l ∷ ls
-            → self.new ≡ record self.old {
-              inside = with_bytes l (der (under self.old.around (tree_of header content.now)))
-                  ∷ ls;
-              pending = None;
-            }) }
+        ensures ok { OnOk result ((h : Held) → self.old.inside ≡ Some h → self.new ≡ record self.old {
+          inside = Some (extended h (der (under self.old.around (tree_of header content.now))));
+          pending = None;
+        }) }
     {
         self.give_up();
-        let around = self.wrappers.open_wrappers();
-        self.scratch.reserve(SPARE_ROOM + content.len())?;
-        widen_rooms(&mut self.scratch, &mut self.marks, content.len());
-        let start = self.scratch.len();
-        push_enclosed(&mut self.scratch, around, header, content)?;
-        Ok(self.scratch.len() - start)
+        let around = self.around();
+        let at = self.bytes.len();
+        self.bytes.reserve(SPARE_ROOM + content.len())?;
+        push_headers(&mut self.bytes, around, header, content.len())?;
+        self.bytes.extend_from_slice(content)?;
+        Ok(self.bytes.len() - at)
     }
 
     // Whether no wrapper is open.
@@ -336,135 +404,100 @@ impl Levels {
         ensures yes { result ≡ true → self.now.around ≡ [] }
         ensures no { result ≡ false → self.now.around ≢ [] }
     {
-        self.wrappers.is_bare()
+        !matches!(self.place, Place::WrappedMember | Place::WrappedSink)
     }
 
-    // Opens a wrapper inside the open ones.
-    pub(crate) fn wrap(&mut self, wrapper: Wrapper) -> Result<(), AllocError>
-        requires { CanBeOpen wrapper }
-        ensures { OnOk result (self.new ≡ record self.old {
-          around = self.old.around ++
-              (wrapper ∷ []);
-        }) }
+    // Opens a wrapper.
+    pub(crate) fn wrap(&mut self, wrapper: Wrapper)
+        requires number { CanBeOpen wrapper }
+        requires bare { self.old.around ≡ [] }
+        ensures { self.new ≡ record { inside = self.old.inside; pending = None; around = wrapper ∷ [] } }
     {
-        self.wrappers.push(wrapper)
+        self.give_up();
+        self.wrapper = wrapper;
+        self.place = if self.place == Place::Member {
+            Place::WrappedMember
+        } else {
+            Place::WrappedSink
+        };
     }
 
-    // Closes the open wrappers.
-    pub(crate) fn close_wrappers(&mut self)
+    // Closes the open wrapper.
+    #[inline(always)]
+    pub(crate) fn close_wrapper(&mut self)
         ensures closed { self.new ≡ record self.old { around = [] } }
         ensures numbers { CanAllBeOpen self.old.around }
     {
-        self.wrappers.clear();
-    }
-
-    // Puts the members of the level that was opened last in ascending order, if it is a set.
-    pub(crate) fn arrange(&mut self, alloc: Global) -> Result<(), AllocError>
-        ensures { OnOk result (IfSome self.old.pending
-            (λ l. self.new ≡ record self.old { pending = Some (in_order l) })) }
-    {
-        if let Some(mark) = self.marks.last() {
-            if mark.first_seam < self.seams.len() {
-                let seams = &self.seams[mark.first_seam..];
-                arrange(&mut self.scratch, mark.start, seams, alloc)?;
-                self.seams.truncate(mark.first_seam);
-            }
+        match self.place {
+            Place::WrappedMember => self.place = Place::Member,
+            Place::WrappedSink => self.place = Place::Sink,
+            _ => {}
         }
-        Ok(())
     }
 
-    // Puts the headers of the level that was opened last before its content, and adds all this to the level around it.
-    // Returns the number of these bytes.
-    #[inline(always)]
-    pub(crate) fn merge(&mut self) -> Result<usize, AllocError>
-        requires { IsSome self.old.pending }
-        ensures numbers { HasLevelNumbers self.old }
-        ensures count { IfOk result (λ n. IfSome self.old.pending
-            (λ p. n ≡ length (der (under p.around (tree_of p.header p.content))))) }
-        ensures bare { OnOk result (self.new.around ≡ []) }
-        ensures ok { OnOk result ((p l : Level) (ls : List Level)
-            → self.old.pending ≡ Some p → self.old.inside ≡ l ∷ ls → self.new ≡ record {
-              inside = with_bytes l (der (under p.around (tree_of p.header p.content))) ∷ ls;
-              pending = None;
-              around = [];
-            }) }
+    // Puts the members of the level that was opened last in ascending order, if it is a set, and the headers before the
+    // content.
+    pub(crate) fn enclose(&mut self, mark: &Mark, alloc: Global) -> Result<(), AllocError>
+        requires { IsOpen mark.now self.old.inside self.old.pending }
+        ensures { OnOk result ((h : Held) → self.old.pending ≡ Some h → self.new ≡ record {
+          inside = self.old.inside;
+          pending = Some (enclosed mark.now h);
+          around = [];
+        }) }
     {
-        let Some(mark) = self.marks.pop() else {
-            return Ok(0);
-        };
-        self.pending = false;
-        self.seams.truncate(mark.first_seam);
-        let around = self.wrappers.around_from(mark.first_wrapper);
-        let outcome = enclose(&mut self.scratch, mark.at, mark.start, around, mark.header);
-        self.wrappers.truncate(mark.first_wrapper);
-        outcome?;
-        Ok(self.scratch.len() - mark.at)
+        if mark.first_seam < self.seams.len() {
+            let seams = &self.seams[mark.first_seam..];
+            arrange(&mut self.bytes, mark.start, seams, alloc)?;
+            self.seams.truncate(mark.first_seam);
+        }
+        self.kept = mark.at;
+        self.kept_seams = mark.first_seam;
+        put_headers(
+            &mut self.bytes,
+            mark.at,
+            mark.start,
+            mark.around,
+            mark.header,
+        )
     }
 
-    // Ends the level that was opened last as `arrange` and `merge` do. This is for a level in another one, without
-    // seams or open wrappers, whose header fits the two bytes before it, as most do. Else it does nothing and returns
+    // Adds the level that was opened last, with its headers, to what is held around it.
+    pub(crate) fn merge(&mut self)
+        requires inside { self.old.inside ≢ None }
+        requires opened { self.old.pending ≢ None }
+        ensures { self.new ≡ record { inside = self.old.pending; pending = None; around = [] } }
+    {
+        self.place = Place::Member;
+    }
+
+    // Ends the level that was opened last as `enclose` and `merge` do. This is for a level in another one, without
+    // seams or a wrapper, whose header fits the two bytes before it, as most do. Else it does nothing and returns
     // `None`.
     #[inline(always)]
-    pub(crate) fn merge_short(&mut self) -> Option<usize>
-        requires { IsSome self.old.pending }
-        ensures numbers { HasLevelNumbers self.old }
-        ensures inside { IsSome result → self.old.inside ≢ [] }
-        ensures count { IfSome result (λ n. IfSome self.old.pending
-            (λ p. n ≡ length (der (under p.around (tree_of p.header (final_content p)))))) }
-        ensures bare { IsSome result → self.new.around ≡ [] }
-        ensures some { IsSome result → (p l : Level) (ls : List Level)
-            → self.old.pending ≡ Some p → self.old.inside ≡ l ∷ ls → self.new ≡ record {
-              inside = with_bytes l (der (under p.around (tree_of p.header (final_content p)))) ∷ ls;
-              pending = None;
-              around = [];
-            } }
+    pub(crate) fn merge_short(&mut self, mark: &Mark) -> Option<usize>
+        requires { IsOpen mark.now self.old.inside self.old.pending }
+        ensures inside { IfSome result (λ n. self.old.inside ≢ None) }
+        ensures count { IfSome result (λ n. (h : Held) → self.old.pending ≡ Some h → n ≡ length
+            (der (under (wrappers mark.now.around) (tree_of mark.now.header (final_content (level_at mark.now h)))))) }
+        ensures some { IfSome result (λ n. (h : Held) → self.old.pending ≡ Some h
+            → self.new ≡ record { inside = Some (enclosed mark.now h); pending = None; around = [] }) }
         ensures none { IfNone result (self.new ≡ self.old) }
     {
-        if !self.is_inside() || !self.wrappers.is_bare() {
+        let len = self.bytes.len() - mark.start;
+        if !mark.has_tag || mark.first_seam < self.seams.len() || len >= 0x80 {
             return None;
         }
-        let Some(mark) = self.marks.last() else {
-            return None;
-        };
-        let has_seams = mark.first_seam < self.seams.len();
-        if has_seams {
-            return None;
-        }
-        let at = mark.at;
-        let around = self.wrappers.around_from(mark.first_wrapper);
-        if !fill_short(&mut self.scratch, at, mark.start, around, &mark.header) {
-            return None;
-        }
-        self.marks.pop();
-        self.pending = false;
-        Some(self.scratch.len() - at)
+        self.bytes[mark.at + 1] = len as u8;
+        self.place = Place::Member;
+        Some(2 + len)
     }
 
-    // Adds the headers of a content of `len` bytes to the level that was opened last.
-    pub(crate) fn add_headers(&mut self, len: usize) -> Result<(), AllocError>
-        requires fits { len < 2 ^ 63 }
-        ensures numbers { HasLevelNumbers self.old }
-        ensures around { self.new.around ≡ self.old.around }
-        ensures ok { OnOk result (IfSome self.old.pending
-            (λ p. self.new ≡ record self.old {
-              pending = Some
-                  (with_bytes p (headers p.around p.header len));
-            })) }
+    // What is held from there on.
+    pub(crate) fn bytes_from(&self, at: usize) -> &[u8]
+        requires within { IfSome self.now.pending (λ h. at ≤ length h.bytes) }
+        requires opened { self.now.pending ≢ None }
+        ensures { IfSome self.now.pending (λ h. result.now ≡ drop at h.bytes) }
     {
-        if let Some(mark) = self.marks.last() {
-            let around = self.wrappers.around_from(mark.first_wrapper);
-            push_headers(&mut self.scratch, around, mark.header, len)?;
-        }
-        Ok(())
-    }
-
-    // The content of the level that was opened last.
-    pub(crate) fn content(&self) -> &[u8]
-        ensures { IfSome self.now.pending (λ p. result.now ≡ p.content) }
-    {
-        match self.marks.last() {
-            Some(mark) => &self.scratch[mark.start..],
-            None => &[],
-        }
+        &self.bytes[at..]
     }
 }

@@ -30,8 +30,9 @@ pub trait SerializeMember {
 impl<T: Serialize> SerializeMember for T {
     ghost prepend = { λ value. Trees.more (T.meaning value) };
 
+    #[inline(always)]
     fn serialize_member<W: WriteExt>(&self, sequence: &mut Sequence<'_, W>) -> Result<()> {
-        sequence.ser.write_member(self)
+        sequence.serialize_element(self)
     }
 }
 
@@ -51,7 +52,7 @@ impl<T: Serialize> SerializeMember for Element<T> {
     ghost prepend = { λ element. Trees.more (T.meaning element.0) };
 
     fn serialize_member<W: WriteExt>(&self, sequence: &mut Sequence<'_, W>) -> Result<()> {
-        sequence.ser.write_member(&self.0)
+        sequence.serialize_element(&self.0)
     }
 }
 

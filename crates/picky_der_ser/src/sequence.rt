@@ -1,20 +1,26 @@
 //! Sequences and sets that are being written (X.690, 8.9 to 8.12).
 ghost use Rattle.std.specs.Prelude.{◌≡◌, IfErr, OnOk};
 ghost use Rattle.picky_der_ser.specs.Calls.{OpensLevel, AddsMember, RefusesToAdd, EndsLevel};
-ghost use Rattle.picky_der_ser.specs.Sequences.{IsListTag, HasOpenLevel, HasOpenLevel-prop};
+ghost use Rattle.picky_der_ser.specs.Sequences.{IsListTag, HasOpenLevel};
+ghost use Rattle.picky_der_ser.specs.MarkProps.{HasOpenLevel-prop};
 
+use crate::levels::Mark;
 use crate::{Header, Serialize, Serializer};
 use picky_der_core::Result;
 use picky_der_core::asn1::Tag;
 use picky_der_core::misc::WriteExt;
+use std::marker::PhantomData;
 
 /// A sequence or a set that is being written. If it is dropped without `end`, it writes nothing, and the wrappers that
 /// were open when it began are dropped.
 #[derive(Drop)]
 pub struct Sequence<'a, W: WriteExt> {
     pub(crate) ser: &'a mut Serializer<W>,
-    // Unless the serializer has failed, a level is open.
-    ghost open: { HasOpenLevel ser.now.failed ser.now.pending } by { HasOpenLevel-prop ser.now.failed ser.now.pending },
+    pub(crate) mark: Mark,
+    // No effect at run time. By this field the proof of `end` knows the type of the header in the mark.
+    pub(crate) header: PhantomData<Header>,
+    // Unless the serializer has failed, the level of the mark is the one that was opened last.
+    ghost opened: { HasOpenLevel mark ser.now.failed ser.now.inside ser.now.pending } by { HasOpenLevel-prop mark ser.now.failed ser.now.inside ser.now.pending },
 }
 
 impl<'a, W: WriteExt> Sequence<'a, W> {
@@ -28,14 +34,19 @@ impl<'a, W: WriteExt> Sequence<'a, W> {
         ensures same_reference { borrowed_by result ≡ ser.entry.ghost_name }
         ensures opened { OpensLevel W.WriteExt.own (Header.Tagged tag) ser.old (state_of result) }
     {
-        ser.levels.open(Header::Tagged(tag));
-        Sequence { ser }
+        let mark = ser.open(Header::Tagged(tag));
+        Sequence {
+            ser,
+            mark,
+            header: PhantomData,
+        }
     }
 
     /// Adds a member, in no wrapper but its own.
     ///
     /// If the serializer has failed before, its earlier error is returned. `UnsupportedValue` if the member can't be
     /// written, and `OutOfMemory` if an allocation fails. Nothing is written to the sink.
+    #[inline(always)]
     pub fn serialize_element<T: Serialize>(&mut self, value: &T) -> Result<()>
         ensures same_reference { borrowed_by self.new ≡ borrowed_by self.old }
         ensures added { OnOk result (AddsMember W.WriteExt.own (T.meaning value.now)
@@ -43,7 +54,7 @@ impl<'a, W: WriteExt> Sequence<'a, W> {
         ensures err { IfErr result (λ e. RefusesToAdd W.WriteExt.own (T.meaning value.now)
             (state_of self.old) e (state_of self.new)) }
     {
-        self.ser.write_member(value)
+        self.ser.write_member(&mut self.mark, value)
     }
 
     /// Adds a member, as `serialize_element` does. The key isn't written.
@@ -66,12 +77,8 @@ impl<'a, W: WriteExt> Sequence<'a, W> {
     pub fn end(self) -> Result<usize>
         ensures { EndsLevel W.WriteExt.own (state_of self.entry) result self.exit.0.now }
     {
+        let mark = self.mark;
         let ser: &mut Serializer<W> = self.ser;
-        if ser.failed.is_none() {
-            if let Some(count) = ser.levels.merge_short() {
-                return Ok(count);
-            }
-        }
-        ser.close()
+        ser.close(&mark)
     }
 }

@@ -89,7 +89,7 @@ impl<'a> Serializer<SliceSink<'a>> {
         ensures no_fault { faults_of result.sink ≡ 0 }
         ensures around { result.around ≡ [] }
         ensures failed { result.failed ≡ None }
-        ensures outside { result.inside ≡ [] }
+        ensures outside { result.inside ≡ None }
         ensures pending { result.pending ≡ None }
     {
         Serializer::new_to_writer(alloc, SliceSink::new(buf))
@@ -107,7 +107,7 @@ impl<'a> Serializer<BufSink<'a>> {
         ensures no_fault { faults_of result.sink ≡ 0 }
         ensures around { result.around ≡ [] }
         ensures failed { result.failed ≡ None }
-        ensures outside { result.inside ≡ [] }
+        ensures outside { result.inside ≡ None }
         ensures pending { result.pending ≡ None }
     {
         Serializer::new_to_writer(alloc, BufSink::new(buf))
@@ -120,7 +120,7 @@ impl<W: WriteExt> Serializer<W> {
         ensures same { result.sink ≡ writer }
         ensures around { result.around ≡ [] }
         ensures failed { result.failed ≡ None }
-        ensures outside { result.inside ≡ [] }
+        ensures outside { result.inside ≡ None }
         ensures pending { result.pending ≡ None }
     {
         Serializer {
@@ -180,7 +180,7 @@ impl<W: WriteExt> Serializer<W> {
     {
         match outcome {
             Ok(count) => {
-                self.levels.close_wrappers();
+                self.levels.close_wrapper();
                 Ok(count)
             }
             Err(error) => {

@@ -17,7 +17,6 @@ impl<W: WriteExt> Serializer<W> {
     ///
     /// `UnsupportedValue` for a number past 30: this is tested before the value, and nothing is written or allocated
     /// then. Any other error is the value's or the sink's, or `OutOfMemory`.
-    #[tactic(auto, using(crate::proofs::WrapWrites::application))]
     pub fn serialize_application<T: Serialize>(&mut self, number: u8, value: &T) -> Result<usize>
         ensures wrote { IfOk result (λ n. Writes W.WriteExt.own
             (Tree.wrapped (Application number) (T.meaning value.now)) self.old n self.new) }
@@ -36,8 +35,8 @@ impl<W: WriteExt> Serializer<W> {
         if number > Tag::MAX_NUMBER {
             return Err(self.fail(Asn1DerError::UnsupportedValue));
         }
-        self.open(Header::Application(number));
-        self.write_member(value)?;
-        self.close()
+        let mut mark = self.open(Header::Application(number));
+        self.write_member(&mut mark, value)?;
+        self.close(&mark)
     }
 }

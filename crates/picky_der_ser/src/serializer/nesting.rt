@@ -1,145 +1,135 @@
 //! Levels, as a serializer opens and ends them.
-ghost use Rattle.std.specs.Prelude.{◌≡◌, ◌≢◌, List, [], ◌∷◌, None, Some, IfSome, IfNone, IsSome, IfOk};
-ghost use Rattle.std.specs.Prelude.{IfErr, OnOk};
+ghost use Rattle.std.specs.Prelude.{◌≡◌, [], length, OnOk, IfOk, IfErr};
+ghost use Rattle.picky_der_core.specs.Encoding.{der};
 ghost use Rattle.picky_der_core.specs.OpenWrappers.{under};
-ghost use Rattle.picky_der_core.specs.WriterFaults.{IsOnceAtMost};
-ghost use Rattle.picky_der_ser.specs.Headers.{tree_of, HasNumber};
-ghost use Rattle.picky_der_ser.specs.State.{Level, at_next_member};
-ghost use Rattle.picky_der_ser.specs.Calls.{UntouchedUnlessFailed, SinkWrites, SinkRefuses, RefusesToEnter, OpensLevel};
-ghost use Rattle.picky_der_ser.specs.Calls.{AddsMember, RefusesToAdd, WritesContent, EndsLevel};
+ghost use Rattle.picky_der_ser.specs.Headers.{wrappers, HasNumber, CanAllBeOpen};
+ghost use Rattle.picky_der_ser.specs.Sequences.{HasOpenLevel};
+ghost use Rattle.picky_der_ser.specs.Marks.{writing};
+ghost use Rattle.picky_der_ser.specs.Calls.{OpensLevel, AddsMember, RefusesToAdd, EndsLevel, EntersLevel};
+ghost use Rattle.picky_der_ser.specs.Calls.{RefusesToEnter};
 
 use super::Serializer;
+use crate::levels::{Mark, Place};
 use crate::sink::put_headed;
 use crate::{Header, Serialize};
+use picky_der_core::asn1::Wrapper;
 use picky_der_core::misc::WriteExt;
 use picky_der_core::{Asn1DerError, Result};
 
 impl<W: WriteExt> Serializer<W> {
-    // Opens a level in the open wrappers.
-    pub(crate) fn open(&mut self, header: Header)
+    // Opens a level in the open wrapper, and returns its mark.
+    #[inline(always)]
+    pub(crate) fn open(&mut self, header: Header) -> Mark
         requires { HasNumber header }
-        ensures { OpensLevel W.WriteExt.own header self.old self.new }
+        ensures opened { OpensLevel W.WriteExt.own header self.old (writing result self.new) }
+        ensures still_open { HasOpenLevel result self.new.failed self.new.inside self.new.pending }
     {
-        self.levels.open(header);
+        self.levels.open(header)
     }
 
-    // Writes the headers of the level that was opened last, and this content, to the sink.
-    pub(crate) fn put_after_headers(&mut self, content: &[u8]) -> Result<usize>
-        requires opened { IsSome self.old.pending }
-        requires empty { IfSome self.old.pending (λ l. l.content ≡ []) }
-        requires outside { self.old.inside ≡ [] }
-        ensures kept { (self.new.around ≡ self.old.around) × (self.new.failed ≡ self.old.failed) }
-        ensures still_outside { OnOk result (self.new.inside ≡ []) }
-        ensures wrote { IfOk result (λ n. IfSome self.old.pending
-            (λ l. SinkWrites W.WriteExt.own (under l.around (tree_of l.header content.now)) self.old.sink
-            n self.new.sink)) }
-        ensures refused { IfErr result (λ e. IfSome self.old.pending
-            (λ l. SinkRefuses W.WriteExt.own (under l.around (tree_of l.header content.now))
-            self.old.sink e self.new.sink)) }
-        ensures untouched { IfErr result (λ e. UntouchedUnlessFailed W.WriteExt.own self.old.sink e
-            self.new.sink) }
-        ensures counted { IsOnceAtMost (W.faults self.old.sink) (W.faults self.new.sink) }
-        ensures no_fault { OnOk result (W.faults self.new.sink ≡ W.faults self.old.sink) }
-        ensures continues { W.later self.old.sink self.new.sink }
-    {
-        let Ok(()) = self.levels.add_headers(content.len()) else {
-            return Err(Asn1DerError::OutOfMemory);
-        };
-        let outcome = put_headed(&mut self.sink, self.levels.content(), content);
-        self.levels.give_up();
-        outcome
-    }
-
-    // Writes the level that was opened last to the sink.
-    fn put_level(&mut self) -> Result<usize>
-        requires opened { IsSome self.old.pending }
-        requires outside { self.old.inside ≡ [] }
-        ensures kept { (self.new.around ≡ self.old.around) × (self.new.failed ≡ self.old.failed) }
-        ensures still_outside { OnOk result (self.new.inside ≡ []) }
-        ensures wrote { IfOk result (λ n. IfSome self.old.pending
-            (λ l. SinkWrites W.WriteExt.own (under l.around (tree_of l.header l.content)) self.old.sink n
-            self.new.sink)) }
-        ensures refused { IfErr result (λ e. IfSome self.old.pending
-            (λ l. SinkRefuses W.WriteExt.own (under l.around (tree_of l.header l.content)) self.old.sink
-            e self.new.sink)) }
-        ensures untouched { IfErr result (λ e. UntouchedUnlessFailed W.WriteExt.own self.old.sink e
-            self.new.sink) }
-        ensures counted { IsOnceAtMost (W.faults self.old.sink) (W.faults self.new.sink) }
-        ensures no_fault { OnOk result (W.faults self.new.sink ≡ W.faults self.old.sink) }
-        ensures continues { W.later self.old.sink self.new.sink }
-    {
-        let held = self.levels.content().len();
-        let Ok(()) = self.levels.add_headers(held) else {
-            return Err(Asn1DerError::OutOfMemory);
-        };
-        let (content, headers) = self.levels.content().split_at(held);
-        let outcome = put_headed(&mut self.sink, headers, content);
-        self.levels.give_up();
-        outcome
-    }
-
-    // Writes the level that was opened last, in its wrappers, with the members of a set in order. If an allocation for
+    // Writes the level that was opened last, in its wrapper, with the members of a set in order. If an allocation for
     // this order fails, nothing of the set is written.
-    #[cold]
     #[inline(never)]
-    pub(crate) fn close(&mut self) -> Result<usize>
-        requires { IfNone self.old.failed (IsSome self.old.pending) }
-        ensures { EndsLevel W.WriteExt.own self.old result self.new }
+    fn close_any(&mut self, mark: &Mark) -> Result<usize>
+        requires { HasOpenLevel mark.now self.old.failed self.old.inside self.old.pending }
+        ensures { EndsLevel W.WriteExt.own (writing mark.now self.old) result self.new }
     {
         if let Some(error) = self.earlier() {
             return Err(error);
         }
-        let Ok(()) = self.levels.arrange(self.alloc) else {
+        let Ok(()) = self.levels.enclose(mark, self.alloc) else {
             return Err(self.fail(Asn1DerError::OutOfMemory));
         };
-        if !self.levels.is_inside() {
-            let outcome = self.put_level();
-            return self.settle(outcome);
+        if mark.place == Place::OpenMember {
+            let count = self.levels.bytes_from(mark.at).len();
+            self.levels.merge();
+            return Ok(count);
         }
-        match self.levels.merge() {
-            Ok(count) => Ok(count),
-            Err(_) => Err(self.fail(Asn1DerError::OutOfMemory)),
-        }
+        let outcome = put_headed(&mut self.sink, &[], self.levels.bytes_from(mark.at));
+        self.levels.give_up();
+        self.settle(outcome)
     }
 
-    // From here on a member of the level that was opened last is written.
-    #[cold]
+    // The same. Mostly it is a short level in another one.
+    #[inline(always)]
+    pub(crate) fn close(&mut self, mark: &Mark) -> Result<usize>
+        requires { HasOpenLevel mark.now self.old.failed self.old.inside self.old.pending }
+        ensures { EndsLevel W.WriteExt.own (writing mark.now self.old) result self.new }
+    {
+        if self.failed.is_none() {
+            if let Some(count) = self.levels.merge_short(mark) {
+                return Ok(count);
+            }
+        }
+        self.close_any(mark)
+    }
+
     #[inline(never)]
-    fn enter(&mut self) -> Result<()>
-        requires { IfNone self.old.failed (IsSome self.old.pending) }
-        ensures ok { OnOk result (IfSome self.old.pending
-            (λ l. self.new ≡ record self.old {
-              around = [];
-              inside = at_next_member l ∷ self.old.inside;
-              pending = None;
-            })) }
-        ensures had_not_failed { OnOk result (self.old.failed ≡ None) }
+    fn enter_any(&mut self, mark: &mut Mark) -> Result<()>
+        requires { HasOpenLevel mark.old self.old.failed self.old.inside self.old.pending }
+        ensures ok { OnOk result (EntersLevel W.WriteExt.own mark.old self.old mark.new self.new) }
         ensures err { IfErr result (λ e. RefusesToEnter W.WriteExt.own self.old e self.new) }
     {
         if let Some(error) = self.earlier() {
             return Err(error);
         }
-        let Ok(()) = self.levels.enter() else {
-            return Err(self.fail(Asn1DerError::OutOfMemory));
-        };
-        self.levels.close_wrappers();
-        Ok(())
+        match self.levels.enter(mark) {
+            Ok(()) => Ok(()),
+            Err(_) => Err(self.fail(Asn1DerError::OutOfMemory)),
+        }
     }
 
-    // Writes the value as a member of the level that was opened last.
-    pub(crate) fn write_member<T: Serialize>(&mut self, value: &T) -> Result<()>
-        requires { IfNone self.old.failed (IsSome self.old.pending) }
-        ensures added { OnOk result (AddsMember W.WriteExt.own
-            (T.meaning value.now) self.old self.new) }
-        ensures still_open { IfNone self.new.failed (IsSome self.new.pending) }
-        ensures err { IfErr result (λ e. RefusesToAdd W.WriteExt.own
-            (T.meaning value.now) self.old e self.new) }
+    // From here on another member of the level is written.
+    #[inline(always)]
+    pub(crate) fn enter(&mut self, mark: &mut Mark) -> Result<()>
+        requires { HasOpenLevel mark.old self.old.failed self.old.inside self.old.pending }
+        ensures ok { OnOk result (EntersLevel W.WriteExt.own mark.old self.old mark.new self.new) }
+        ensures err { IfErr result (λ e. RefusesToEnter W.WriteExt.own self.old e self.new) }
     {
-        if self.failed.is_some() || !self.levels.enter_short() {
-            self.enter()?;
+        if self.failed.is_none() && self.levels.enter_ready(mark) {
+            return Ok(());
         }
-        value.serialize(self)?;
-        self.levels.leave();
+        self.enter_any(mark)
+    }
+
+    // Writes the value in this wrapper, if there is one, as a member of the level. Returns how many bytes were written.
+    #[inline(always)]
+    pub(crate) fn write_member_in<T: Serialize>(
+        &mut self,
+        mark: &mut Mark,
+        around: Option<Wrapper>,
+        value: &T,
+    ) -> Result<usize>
+        requires still_open { HasOpenLevel mark.old self.old.failed self.old.inside self.old.pending }
+        requires numbers { CanAllBeOpen (wrappers around) }
+        ensures added { OnOk result (AddsMember W.WriteExt.own (under (wrappers around) (T.meaning value.now))
+            (writing mark.old self.old) (writing mark.new self.new)) }
+        ensures count { IfOk result (λ n. n ≡ length (der (under (wrappers around) (T.meaning value.now)))) }
+        ensures still_open { HasOpenLevel mark.new self.new.failed self.new.inside self.new.pending }
+        ensures bare { OnOk result (self.new.around ≡ []) }
+        ensures err { IfErr result (λ e. RefusesToAdd W.WriteExt.own (under (wrappers around) (T.meaning value.now))
+            (writing mark.old self.old) e (writing mark.new self.new)) }
+    {
+        self.enter(mark)?;
+        if let Some(wrapper) = around {
+            self.levels.wrap(wrapper);
+        }
+        let count = value.serialize(self)?;
+        self.levels.leave(mark);
+        Ok(count)
+    }
+
+    // Writes the value as a member of the level.
+    #[inline(always)]
+    pub(crate) fn write_member<T: Serialize>(&mut self, mark: &mut Mark, value: &T) -> Result<()>
+        requires { HasOpenLevel mark.old self.old.failed self.old.inside self.old.pending }
+        ensures added { OnOk result (AddsMember W.WriteExt.own (T.meaning value.now)
+            (writing mark.old self.old) (writing mark.new self.new)) }
+        ensures still_open { HasOpenLevel mark.new self.new.failed self.new.inside self.new.pending }
+        ensures err { IfErr result (λ e. RefusesToAdd W.WriteExt.own (T.meaning value.now)
+            (writing mark.old self.old) e (writing mark.new self.new)) }
+    {
+        self.write_member_in(mark, None, value)?;
         Ok(())
     }
 }

@@ -18,7 +18,7 @@ impl<W: WriteExt> Serializer<W> {
             return Err(error);
         }
         self.levels.give_up();
-        self.levels.close_wrappers();
+        self.levels.close_wrapper();
         Ok(0)
     }
 

@@ -1,5 +1,5 @@
 //! Plain values, written.
-ghost use Rattle.std.specs.Prelude.{◌≡◌, ◌≢◌, [], encode_utf8};
+ghost use Rattle.std.specs.Prelude.{◌≡◌, ◌≢◌, [], None, encode_utf8};
 ghost use Rattle.picky_der_core.specs.Primitive.{boolean_content, Primitive};
 ghost use Rattle.picky_der_core.specs.Tag.{number_of, IsTagNumber};
 ghost use Rattle.picky_der_core.specs.Integer.{integer_tree, int_tree};
@@ -8,8 +8,9 @@ ghost use Rattle.picky_der_ser.specs.Calls.{WritesPlain, WritesPrimitive};
 
 use super::Serializer;
 use crate::Header;
+use crate::header::push_headers;
 use crate::integer::UnsignedContent;
-use crate::sink::put_element;
+use crate::sink::{put_element, put_headed};
 use picky_der_core::asn1::Tag;
 use picky_der_core::integer::IntContent;
 use picky_der_core::misc::WriteExt;
@@ -58,12 +59,12 @@ impl<W: WriteExt> Serializer<W> {
     pub(crate) fn append_content(&mut self, header: Header, content: &[u8]) -> Result<usize>
         requires number { HasNumber header }
         requires had_not_failed { self.old.failed ≡ None }
-        requires inside { self.old.inside ≢ [] }
+        requires inside { self.old.inside ≢ None }
         ensures { WritesPlain W.WriteExt.own (tree_of header content.now) self.old result self.new }
     {
         match self.levels.append(header, content) {
             Ok(count) => {
-                self.levels.close_wrappers();
+                self.levels.close_wrapper();
                 Ok(count)
             }
             Err(_) => Err(self.fail(Asn1DerError::OutOfMemory)),
@@ -74,7 +75,7 @@ impl<W: WriteExt> Serializer<W> {
     fn put_plain(&mut self, tag: Tag, content: &[u8]) -> Result<usize>
         requires number { IsTagNumber (number_of tag) }
         requires had_not_failed { self.old.failed ≡ None }
-        requires outside { self.old.inside ≡ [] }
+        requires outside { self.old.inside ≡ None }
         requires bare { self.old.around ≡ [] }
         ensures { WritesPrimitive W.WriteExt.own (Primitive.bytes tag content.now) self.old result self.new }
     {
@@ -87,12 +88,16 @@ impl<W: WriteExt> Serializer<W> {
     pub(crate) fn put_wrapped(&mut self, header: Header, content: &[u8]) -> Result<usize>
         requires number { HasNumber header }
         requires had_not_failed { self.old.failed ≡ None }
-        requires outside { self.old.inside ≡ [] }
+        requires outside { self.old.inside ≡ None }
         requires wrapped { self.old.around ≢ [] }
         ensures { WritesPlain W.WriteExt.own (tree_of header content.now) self.old result self.new }
     {
-        self.open(header);
-        let outcome = self.put_after_headers(content);
+        let around = self.levels.around();
+        let mut headers = Vec::new(self.alloc);
+        let Ok(()) = push_headers(&mut headers, around, header, content.len()) else {
+            return Err(self.fail(Asn1DerError::OutOfMemory));
+        };
+        let outcome = put_headed(&mut self.sink, &headers, content);
         self.settle(outcome)
     }
 
@@ -214,12 +219,12 @@ impl<W: WriteExt> Serializer<W> {
     pub fn serialize_tagged_bytes(&mut self, tag: Tag, content: &[u8]) -> Result<usize>
         ensures { WritesPrimitive W.WriteExt.own (Primitive.bytes tag content.now) self.old result self.new }
     {
-        if let Some(error) = self.earlier() {
-            return Err(error);
+        if tag.number() <= Tag::MAX_NUMBER {
+            return self.write_plain(tag, content);
         }
-        if tag.number() > Tag::MAX_NUMBER {
-            return Err(self.fail(Asn1DerError::UnsupportedValue));
+        match self.earlier() {
+            Some(error) => Err(error),
+            None => Err(self.fail(Asn1DerError::UnsupportedValue)),
         }
-        self.write_plain(tag, content)
     }
 }

@@ -1,5 +1,5 @@
 //! Bytes that are written as they are.
-ghost use Rattle.std.specs.Prelude.{◌≡◌, []};
+ghost use Rattle.std.specs.Prelude.{◌≡◌, [], None};
 ghost use Rattle.picky_der_core.specs.Tree.{Tree};
 ghost use Rattle.picky_der_ser.specs.Calls.{WritesPlain};
 
@@ -13,7 +13,7 @@ impl<W: WriteExt> Serializer<W> {
     // Writes bytes to the sink.
     fn put_raw(&mut self, bytes: &[u8]) -> Result<usize>
         requires had_not_failed { self.old.failed ≡ None }
-        requires outside { self.old.inside ≡ [] }
+        requires outside { self.old.inside ≡ None }
         requires bare { self.old.around ≡ [] }
         ensures { WritesPlain W.WriteExt.own (Tree.raw bytes.now) self.old result self.new }
     {

@@ -1,15 +1,14 @@
 use Rattle.std.proofs.Common.{◌≡◌, ℕ, ◌<◌, List, [], ◌∷◌, ◌++◌, length, get_or, refl, sym, ◌∙◌, ap, append_assoc, arith}
 use Rattle.picky_der_core.specs.Primitive.{Primitive}
-use Rattle.picky_der_core.specs.ElementLaws.{length_octets-short}
+use Rattle.picky_der_core.specs.EncodingLaws.{der-primitive}
 use Rattle.picky_der_core.specs.Encoding.{der}
 use Rattle.picky_der_core.specs.Tree.{Tree}
-use Rattle.picky_der_ser.specs.declared.header.Header.TheVariants.{Tagged}
-use Rattle.picky_der_ser.proofs.HeaderBytes.{der-headers}
+use Rattle.picky_der_ser.proofs.HeaderBytes.{tlv-short}
 use Rattle.picky_der_ser.proofs.header.push_short.Goals as goal
 
 short : (tag : ℕ) (bs : List ℕ) → length bs < 0x80
     → der (Tree.primitive (Primitive.bytes tag bs)) ≡ tag ∷ length bs ∷ bs
-short tag bs h = der-headers [] (Tagged tag) bs ∙ ap (λ l. (tag ∷ l) ++ bs) (length_octets-short (length bs) h)
+short tag bs h = der-primitive (Primitive.bytes tag bs) ∙ tlv-short tag bs h
 
 single : (bs : List ℕ) → length bs ≡ 1 → bs ≡ get_or bs 0 0 ∷ []
 single [] e = absurd (omega arith)

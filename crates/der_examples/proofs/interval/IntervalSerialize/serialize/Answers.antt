@@ -1,4 +1,4 @@
-use Rattle.std.proofs.Common.{rules, refl, arith, ◌^◌, ◌-◌, [], ◌∷◌}
+use Rattle.std.proofs.Common.{rules, refl, ◌^◌, ◌-◌, [], ◌∷◌}
 use Rattle.std.proofs.lemmas.Result.{err_from_is_err_and}
 use Rattle.picky_der_core.specs.Tree.{ListKind, Trees, trees}
 use Rattle.picky_der_core.specs.Integer.{unsigned_tree}
@@ -14,8 +14,8 @@ pub returns-in_err-serialize_field-clause-failed :
 returns-in_err-serialize_field-clause-failed g c =
     let all = members c.args.self.now in
     let opened = list_opened g.W.WriteExt ListKind.sequence all _ _ c.in_ok-members.ensures.opened in
-    let refused = list_refused g.W.WriteExt ListKind.sequence _ all _ _ _ _ _ _ c.in_err-serialize_field.ensures.err
-    refl opened in
+    let refused = list_refused g.W.WriteExt ListKind.sequence _ all _ _ _ _ c.serialize_field.new.self.ser.now _ _
+    c.in_err-serialize_field.ensures.err refl refl refl opened in
     let error =
     err_from_is_err_and c.from_residual-in_err-serialize_field.result
     c.from_residual-in_err-serialize_field.ensures.1 in
@@ -28,8 +28,8 @@ returns-in_err-serialize_field-2-clause-failed g c =
     let opened = list_opened g.W.WriteExt ListKind.sequence all _ _ c.in_ok-members.ensures.opened in
     let gained = list_gained g.W.WriteExt ListKind.sequence _ all _ _ _ _ c.in_ok-serialize_field.ensures.added
     opened in
-    let refused = list_refused g.W.WriteExt ListKind.sequence _ all _ _ _ _ _ _ c.in_err-serialize_field-2.ensures.err
-    refl gained in
+    let refused = list_refused g.W.WriteExt ListKind.sequence _ all _ _ _ _ c.serialize_field-2.new.self.ser.now _ _
+    c.in_err-serialize_field-2.ensures.err refl refl refl gained in
     let error =
     err_from_is_err_and c.from_residual-in_err-serialize_field-2.result
     c.from_residual-in_err-serialize_field-2.ensures.1 in
@@ -43,7 +43,8 @@ returns-clause-wrote g c =
     opened in
     let whole = list_gained g.W.WriteExt ListKind.sequence _ all _ _ _ _ c.in_ok-serialize_field-2.ensures.added
     gained in
-    grind (arith, list_wrote, whole)
+    let wrote = list_wrote g.W.WriteExt ListKind.sequence all _ _ _ c.end.result c.end.ensures whole in
+    search (rules, wrote)
 
 pub returns-clause-failed : goal.returns-clause-failed
 returns-clause-failed g c =
@@ -53,4 +54,5 @@ returns-clause-failed g c =
     opened in
     let whole = list_gained g.W.WriteExt ListKind.sequence _ all _ _ _ _ c.in_ok-serialize_field-2.ensures.added
     gained in
-    grind (arith, list_failed, whole)
+    let failed = list_failed g.W.WriteExt ListKind.sequence all _ _ _ c.end.result c.end.ensures whole in
+    search (rules, failed)

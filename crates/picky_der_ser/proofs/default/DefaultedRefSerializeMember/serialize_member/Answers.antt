@@ -9,8 +9,7 @@ returns-then-is_default-clause-added g c =
 pub returns-clause-added : goal.returns-clause-added
 returns-clause-added g c =
     rw (sym c.is_default.ensures ∙ c.if-is_default.false)
-    (members_leads g.W.WriteExt c.serialize_element.result _ _ _ c.args.sequence.now.open
-    c.serialize_element.ensures.added)
+    (members_leads g.W.WriteExt c.serialize_element.result _ _ _ c.serialize_element.ensures.added)
 
 pub returns-clause-err : goal.returns-clause-err
 returns-clause-err g c =

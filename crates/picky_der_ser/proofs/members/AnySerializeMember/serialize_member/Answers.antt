@@ -2,5 +2,5 @@ use Rattle.picky_der_ser.proofs.MembersWrites.{members_leads}
 use Rattle.picky_der_ser.proofs.members.AnySerializeMember.serialize_member.Goals as goal
 
 pub returns-clause-added : goal.returns-clause-added
-returns-clause-added g c = members_leads g.W.WriteExt c.write_member.result _ _ _ c.args.sequence.now.open
-    c.write_member.ensures.added
+returns-clause-added g c = members_leads g.W.WriteExt c.serialize_element.result _ _ _
+    c.serialize_element.ensures.added

@@ -11,8 +11,8 @@ returns-in_err-serialize_members g c =
     let a = list_opened g.W.WriteExt ListKind.sequence all _ _ c.serialize_lazy-sequence.ensures.opened in
     let p = err_from_is_err_and c.from_residual.result c.from_residual.ensures.1 in
     let refused =
-    members_refused g.W.WriteExt ListKind.sequence all all _ _ _ _ _ c.in_err-serialize_members.ensures.err refl
-    a in
+    members_refused g.W.WriteExt ListKind.sequence all all _ _ _ c.serialize_members.new.sequence.ser.now _ _
+    c.in_err-serialize_members.ensures.err refl refl refl a in
     let same = members_untouched g.W.WriteExt ListKind.sequence all all _ _ _ _ c.in_err-serialize_members.ensures.err
     a in
     record {
@@ -25,13 +25,17 @@ returns-in_err-serialize_members g c =
 
 pub returns : goal.returns
 returns g c =
+    let w = g.W.WriteExt in
     let all = g.Self.SerializeMembers.members c.args.self.now in
-    let a = members_gained g.W.WriteExt ListKind.sequence all all _ _ _ c.in_ok-serialize_members.ensures.added
-    (list_opened g.W.WriteExt ListKind.sequence all _ _ c.serialize_lazy-sequence.ensures.opened) in
+    let a = members_gained w ListKind.sequence all all _ _ _ c.in_ok-serialize_members.ensures.added
+    (list_opened w ListKind.sequence all _ _ c.serialize_lazy-sequence.ensures.opened) in
+    let wrote = list_wrote w ListKind.sequence all _ _ _ c.end.result c.end.ensures a in
+    let failed = list_failed w ListKind.sequence all _ _ _ c.end.result c.end.ensures a in
+    let untouched = list_untouched w ListKind.sequence all _ _ _ c.end.result c.end.ensures a in
     record {
-      wrote = grind (arith, list_wrote, a);
-      failed = grind (arith, list_failed, a);
-      untouched = grind (arith, list_untouched, a);
+      wrote = search (rules, wrote);
+      failed = search (rules, failed);
+      untouched = search (rules, untouched);
       counted = grind (arith, a);
       continues = grind (arith, a);
     }

@@ -4,6 +4,5 @@ use Rattle.picky_der_ser.proofs.optional.OptionalRefSerializeMember.serialize_me
 
 pub returns-in-Some-clause-added : goal.returns-in-Some-clause-added
 returns-in-Some-clause-added g c =
-    let h = members_leads g.W.WriteExt c.serialize_element.result _ _ _ c.args.sequence.now.open
-    c.serialize_element.ensures.added in
+    let h = members_leads g.W.WriteExt c.serialize_element.result _ _ _ c.serialize_element.ensures.added in
     search (rules, h)

@@ -19,12 +19,12 @@ returns-in-Ok g c =
     let small : length (der (under ws t)) < 2 ^ 64 = omega (arith, count) in
     let writable = writable_counted ws c.args.header c.args.content.now (c.append.ensures.numbers, c.requires.number)
     small in
-    let closed = c.close_wrappers.ensures.closed in
+    let closed = c.close_wrapper.ensures.closed in
     let added = c.in-Ok.ensures.ok in
     rw (← c.self.view_is)
     (plain_inside w t _ _ _ fits
-    (writes_inside w t _ _ _ failed inside (λ l ls e. ap (λ (s : Stack). s.inside) closed
-    ∙ ap (λ (s : Stack). s.inside) (added l ls e)) refl (ap (λ (s : Stack). s.around) closed) failed writable count)
+    (writes_inside w t _ _ _ failed inside (λ h e. ap (λ (s : Stack). s.inside) closed
+    ∙ ap (λ (s : Stack). s.inside) (added h e)) refl (ap (λ (s : Stack). s.around) closed) failed writable count)
     (omega arith) (g.met.W.WriteExt.later_refl _))
 
 pub returns-in-Err : goal.returns-in-Err
@@ -35,5 +35,6 @@ returns-in-Err g c =
     let failed = rw (← c.self.view_is) at c.requires.had_not_failed in
     let inside = rw (← c.self.view_is) at c.requires.inside in
     rw (← c.self.view_is, c.fail.ensures.same, c.fail.ensures.error)
-    (plain_refused w t _ _ _ fits inside (fails_memory w t _ _ _ failed refl refl refl) refl (omega arith)
+    (plain_refused w t _ _ _ fits (λ x y outside z. absurd (inside outside))
+    (fails_memory w t _ _ _ failed refl refl refl) refl (omega arith)
     (g.met.W.WriteExt.later_refl _))
