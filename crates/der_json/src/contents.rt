@@ -22,6 +22,7 @@ use der_types::{
     Arcs, BitString, Contents, ObjectIdentifier, RelativeOid, is_generalized_time, is_utc_time,
 };
 use hex::encode_upper;
+use picky_der_core::Asn1DerError;
 use picky_der_core::asn1::Tag;
 use serde_json::{Map, Value, put};
 use std::alloc::{AllocError, Global};
@@ -126,8 +127,10 @@ fn bits_value(alloc: Global, content: Part<'_>) -> Result<Value, JsonError>
     let [unused, bytes @ ..] = content.bytes else {
         return Err(JsonError::OtherContent(content.place));
     };
-    let Ok(bits) = BitString::from_bytes(alloc, bytes, *unused) else {
-        return Err(JsonError::OtherContent(content.place));
+    let bits = match BitString::from_bytes(alloc, bytes, *unused) {
+        Ok(bits) => bits,
+        Err(Asn1DerError::OutOfMemory) => return Err(JsonError::OutOfMemory),
+        Err(_) => return Err(JsonError::OtherContent(content.place)),
     };
     let Ok(len) = u64::try_from(bits.len()) else {
         return Err(JsonError::TooLarge(content.place));
@@ -160,8 +163,10 @@ fn identifier_value(alloc: Global, content: Part<'_>) -> Result<Value, JsonError
     ensures { IfOk result (λ value. IsArcsJson (is_object_identifier content.entry.bytes.now)
         (arcs_of content.entry.bytes.now) (view value)) }
 {
-    let Ok(identifier) = ObjectIdentifier::from_bytes(alloc, content.bytes) else {
-        return Err(JsonError::OtherContent(content.place));
+    let identifier = match ObjectIdentifier::from_bytes(alloc, content.bytes) {
+        Ok(identifier) => identifier,
+        Err(Asn1DerError::OutOfMemory) => return Err(JsonError::OutOfMemory),
+        Err(_) => return Err(JsonError::OtherContent(content.place)),
     };
     if has_wide_arc(identifier.arcs()) {
         return Err(JsonError::TooLarge(content.place));

@@ -10,6 +10,7 @@ use crate::JsonError;
 use crate::part::Part;
 use der_types::character_sets::{Bmp, Ia5, Numeric, Printable, Universal, Visible};
 use der_types::{CharacterSet, RestrictedString, Unicode, Width};
+use picky_der_core::Asn1DerError;
 use serde_json::Value;
 use std::alloc::{AllocError, Global};
 
@@ -73,8 +74,10 @@ fn characters_of<S: Unicode>(alloc: Global, content: Part<'_>) -> Result<String,
     ensures { IfOk result (λ text. string_bytes text
         ≡ encode_utf8_all (characters S.WIDTH content.entry.bytes.now)) }
 {
-    let Ok(string) = RestrictedString::<S>::from_bytes(alloc, content.bytes) else {
-        return Err(JsonError::OtherContent(content.place));
+    let string = match RestrictedString::<S>::from_bytes(alloc, content.bytes) {
+        Ok(string) => string,
+        Err(Asn1DerError::OutOfMemory) => return Err(JsonError::OutOfMemory),
+        Err(_) => return Err(JsonError::OtherContent(content.place)),
     };
     Ok(string.to_string(alloc)?)
 }
