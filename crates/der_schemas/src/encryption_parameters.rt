@@ -17,7 +17,7 @@ pub fn aes_iv() -> Schema
     ensures { notation_of result.nodes.now result.root ≡ ⟦<AesIv as Notated>⟧.notation }
 {
     Schema {
-        nodes: &NODES,
+        nodes: nodes(),
         root: 20,
     }
 }
@@ -27,7 +27,7 @@ pub fn gcm_parameters() -> Schema
     ensures { notation_of result.nodes.now result.root ≡ ⟦<GcmParameters as Notated>⟧.notation }
 {
     Schema {
-        nodes: &NODES,
+        nodes: nodes(),
         root: 25,
     }
 }
@@ -37,7 +37,7 @@ pub fn pbe_parameter() -> Schema
     ensures { notation_of result.nodes.now result.root ≡ ⟦<PbeParameter as Notated>⟧.notation }
 {
     Schema {
-        nodes: &NODES,
+        nodes: nodes(),
         root: 18,
     }
 }
@@ -47,7 +47,7 @@ pub fn pbes2_params() -> Schema
     ensures { notation_of result.nodes.now result.root ≡ ⟦<Pbes2Params as Notated>⟧.notation }
 {
     Schema {
-        nodes: &NODES,
+        nodes: nodes(),
         root: 19,
     }
 }
@@ -57,7 +57,7 @@ pub fn pbkdf2_params() -> Schema
     ensures { notation_of result.nodes.now result.root ≡ ⟦<Pbkdf2Params as Notated>⟧.notation }
 {
     Schema {
-        nodes: &NODES,
+        nodes: nodes(),
         root: 16,
     }
 }
@@ -67,7 +67,7 @@ pub fn rc2_cbc_parameter() -> Schema
     ensures { notation_of result.nodes.now result.root ≡ ⟦<Rc2CbcParameter as Notated>⟧.notation }
 {
     Schema {
-        nodes: &NODES,
+        nodes: nodes(),
         root: 21,
     }
 }
@@ -77,7 +77,7 @@ pub fn rsaes_oaep_params() -> Schema
     ensures { notation_of result.nodes.now result.root ≡ ⟦<RsaesOaepParams as Notated>⟧.notation }
 {
     Schema {
-        nodes: &NODES,
+        nodes: nodes(),
         root: 10,
     }
 }
@@ -87,7 +87,7 @@ pub fn rsassa_pss_params() -> Schema
     ensures { notation_of result.nodes.now result.root ≡ ⟦<RsassaPssParams as Notated>⟧.notation }
 {
     Schema {
-        nodes: &NODES,
+        nodes: nodes(),
         root: 8,
     }
 }
@@ -97,9 +97,24 @@ pub fn scrypt_params() -> Schema
     ensures { notation_of result.nodes.now result.root ≡ ⟦<ScryptParams as Notated>⟧.notation }
 {
     Schema {
-        nodes: &NODES,
+        nodes: nodes(),
         root: 22,
     }
+}
+
+// the nodes, and which of them is each type
+fn nodes() -> &'static [Node]
+    ensures aes_iv { notation_of result.now 20 ≡ ⟦<AesIv as Notated>⟧.notation }
+    ensures gcm_parameters { notation_of result.now 25 ≡ ⟦<GcmParameters as Notated>⟧.notation }
+    ensures pbe_parameter { notation_of result.now 18 ≡ ⟦<PbeParameter as Notated>⟧.notation }
+    ensures pbes2_params { notation_of result.now 19 ≡ ⟦<Pbes2Params as Notated>⟧.notation }
+    ensures pbkdf2_params { notation_of result.now 16 ≡ ⟦<Pbkdf2Params as Notated>⟧.notation }
+    ensures rc2_cbc_parameter { notation_of result.now 21 ≡ ⟦<Rc2CbcParameter as Notated>⟧.notation }
+    ensures rsaes_oaep_params { notation_of result.now 10 ≡ ⟦<RsaesOaepParams as Notated>⟧.notation }
+    ensures rsassa_pss_params { notation_of result.now 8 ≡ ⟦<RsassaPssParams as Notated>⟧.notation }
+    ensures scrypt_params { notation_of result.now 22 ≡ ⟦<ScryptParams as Notated>⟧.notation }
+{
+    &NODES
 }
 
 // each type comes after those that it names
@@ -242,10 +257,7 @@ static NODES: [Node; 26] = [
     },
     Node {
         name: None,
-        kind: Kind::AtLeast {
-            least: 1,
-            node: 5,
-        },
+        kind: Kind::AtLeast { least: 1, node: 5 },
     },
     Node {
         name: Some("PBKDF2-params"),

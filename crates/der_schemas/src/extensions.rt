@@ -18,7 +18,7 @@ pub fn base_crl_number() -> Schema
     ensures { notation_of result.nodes.now result.root ≡ ⟦<BaseCrlNumber as Notated>⟧.notation }
 {
     Schema {
-        nodes: &NODES,
+        nodes: nodes(),
         root: 39,
     }
 }
@@ -28,7 +28,7 @@ pub fn basic_constraints() -> Schema
     ensures { notation_of result.nodes.now result.root ≡ ⟦<BasicConstraints as Notated>⟧.notation }
 {
     Schema {
-        nodes: &NODES,
+        nodes: nodes(),
         root: 29,
     }
 }
@@ -38,7 +38,7 @@ pub fn certificate_policies() -> Schema
     ensures { notation_of result.nodes.now result.root ≡ ⟦<CertificatePolicies as Notated>⟧.notation }
 {
     Schema {
-        nodes: &NODES,
+        nodes: nodes(),
         root: 10,
     }
 }
@@ -48,7 +48,7 @@ pub fn crl_number() -> Schema
     ensures { notation_of result.nodes.now result.root ≡ ⟦<CrlNumber as Notated>⟧.notation }
 {
     Schema {
-        nodes: &NODES,
+        nodes: nodes(),
         root: 38,
     }
 }
@@ -58,7 +58,7 @@ pub fn crl_reason() -> Schema
     ensures { notation_of result.nodes.now result.root ≡ ⟦<CrlReason as Notated>⟧.notation }
 {
     Schema {
-        nodes: &NODES,
+        nodes: nodes(),
         root: 40,
     }
 }
@@ -68,7 +68,7 @@ pub fn ext_key_usage_syntax() -> Schema
     ensures { notation_of result.nodes.now result.root ≡ ⟦<ExtKeyUsageSyntax as Notated>⟧.notation }
 {
     Schema {
-        nodes: &NODES,
+        nodes: nodes(),
         root: 36,
     }
 }
@@ -78,7 +78,7 @@ pub fn inhibit_any_policy() -> Schema
     ensures { notation_of result.nodes.now result.root ≡ ⟦<InhibitAnyPolicy as Notated>⟧.notation }
 {
     Schema {
-        nodes: &NODES,
+        nodes: nodes(),
         root: 37,
     }
 }
@@ -88,7 +88,7 @@ pub fn invalidity_date() -> Schema
     ensures { notation_of result.nodes.now result.root ≡ ⟦<InvalidityDate as Notated>⟧.notation }
 {
     Schema {
-        nodes: &NODES,
+        nodes: nodes(),
         root: 42,
     }
 }
@@ -98,7 +98,7 @@ pub fn policy_constraints() -> Schema
     ensures { notation_of result.nodes.now result.root ≡ ⟦<PolicyConstraints as Notated>⟧.notation }
 {
     Schema {
-        nodes: &NODES,
+        nodes: nodes(),
         root: 33,
     }
 }
@@ -108,7 +108,7 @@ pub fn policy_mappings() -> Schema
     ensures { notation_of result.nodes.now result.root ≡ ⟦<PolicyMappings as Notated>⟧.notation }
 {
     Schema {
-        nodes: &NODES,
+        nodes: nodes(),
         root: 26,
     }
 }
@@ -118,7 +118,7 @@ pub fn subject_key_identifier() -> Schema
     ensures { notation_of result.nodes.now result.root ≡ ⟦<SubjectKeyIdentifier as Notated>⟧.notation }
 {
     Schema {
-        nodes: &NODES,
+        nodes: nodes(),
         root: 1,
     }
 }
@@ -128,9 +128,27 @@ pub fn user_notice() -> Schema
     ensures { notation_of result.nodes.now result.root ≡ ⟦<UserNotice as Notated>⟧.notation }
 {
     Schema {
-        nodes: &NODES,
+        nodes: nodes(),
         root: 23,
     }
+}
+
+// the nodes, and which of them is each type
+fn nodes() -> &'static [Node]
+    ensures base_crl_number { notation_of result.now 39 ≡ ⟦<BaseCrlNumber as Notated>⟧.notation }
+    ensures basic_constraints { notation_of result.now 29 ≡ ⟦<BasicConstraints as Notated>⟧.notation }
+    ensures certificate_policies { notation_of result.now 10 ≡ ⟦<CertificatePolicies as Notated>⟧.notation }
+    ensures crl_number { notation_of result.now 38 ≡ ⟦<CrlNumber as Notated>⟧.notation }
+    ensures crl_reason { notation_of result.now 40 ≡ ⟦<CrlReason as Notated>⟧.notation }
+    ensures ext_key_usage_syntax { notation_of result.now 36 ≡ ⟦<ExtKeyUsageSyntax as Notated>⟧.notation }
+    ensures inhibit_any_policy { notation_of result.now 37 ≡ ⟦<InhibitAnyPolicy as Notated>⟧.notation }
+    ensures invalidity_date { notation_of result.now 42 ≡ ⟦<InvalidityDate as Notated>⟧.notation }
+    ensures policy_constraints { notation_of result.now 33 ≡ ⟦<PolicyConstraints as Notated>⟧.notation }
+    ensures policy_mappings { notation_of result.now 26 ≡ ⟦<PolicyMappings as Notated>⟧.notation }
+    ensures subject_key_identifier { notation_of result.now 1 ≡ ⟦<SubjectKeyIdentifier as Notated>⟧.notation }
+    ensures user_notice { notation_of result.now 23 ≡ ⟦<UserNotice as Notated>⟧.notation }
+{
+    &NODES
 }
 
 // each type comes after those that it names
@@ -349,10 +367,7 @@ static NODES: [Node; 43] = [
     },
     Node {
         name: None,
-        kind: Kind::AtLeast {
-            least: 0,
-            node: 20,
-        },
+        kind: Kind::AtLeast { least: 0, node: 20 },
     },
     Node {
         name: Some("BasicConstraints"),
@@ -371,10 +386,7 @@ static NODES: [Node; 43] = [
     },
     Node {
         name: Some("SkipCerts"),
-        kind: Kind::AtLeast {
-            least: 0,
-            node: 20,
-        },
+        kind: Kind::AtLeast { least: 0, node: 20 },
     },
     Node {
         name: None,
@@ -427,10 +439,7 @@ static NODES: [Node; 43] = [
     },
     Node {
         name: Some("CRLNumber"),
-        kind: Kind::AtLeast {
-            least: 0,
-            node: 20,
-        },
+        kind: Kind::AtLeast { least: 0, node: 20 },
     },
     Node {
         name: Some("BaseCRLNumber"),

@@ -18,7 +18,7 @@ pub fn authority_info_access_syntax() -> Schema
     ensures { notation_of result.nodes.now result.root ≡ ⟦<AuthorityInfoAccessSyntax as Notated>⟧.notation }
 {
     Schema {
-        nodes: &NODES,
+        nodes: nodes(),
         root: 58,
     }
 }
@@ -28,7 +28,7 @@ pub fn authority_key_identifier() -> Schema
     ensures { notation_of result.nodes.now result.root ≡ ⟦<AuthorityKeyIdentifier as Notated>⟧.notation }
 {
     Schema {
-        nodes: &NODES,
+        nodes: nodes(),
         root: 32,
     }
 }
@@ -38,7 +38,7 @@ pub fn certificate_issuer() -> Schema
     ensures { notation_of result.nodes.now result.root ≡ ⟦<CertificateIssuer as Notated>⟧.notation }
 {
     Schema {
-        nodes: &NODES,
+        nodes: nodes(),
         root: 67,
     }
 }
@@ -48,7 +48,7 @@ pub fn crl_distribution_points() -> Schema
     ensures { notation_of result.nodes.now result.root ≡ ⟦<CrlDistributionPoints as Notated>⟧.notation }
 {
     Schema {
-        nodes: &NODES,
+        nodes: nodes(),
         root: 54,
     }
 }
@@ -58,7 +58,7 @@ pub fn freshest_crl() -> Schema
     ensures { notation_of result.nodes.now result.root ≡ ⟦<FreshestCrl as Notated>⟧.notation }
 {
     Schema {
-        nodes: &NODES,
+        nodes: nodes(),
         root: 55,
     }
 }
@@ -68,7 +68,7 @@ pub fn issuer_alt_name() -> Schema
     ensures { notation_of result.nodes.now result.root ≡ ⟦<IssuerAltName as Notated>⟧.notation }
 {
     Schema {
-        nodes: &NODES,
+        nodes: nodes(),
         root: 34,
     }
 }
@@ -78,7 +78,7 @@ pub fn issuing_distribution_point() -> Schema
     ensures { notation_of result.nodes.now result.root ≡ ⟦<IssuingDistributionPoint as Notated>⟧.notation }
 {
     Schema {
-        nodes: &NODES,
+        nodes: nodes(),
         root: 66,
     }
 }
@@ -88,7 +88,7 @@ pub fn name_constraints() -> Schema
     ensures { notation_of result.nodes.now result.root ≡ ⟦<NameConstraints as Notated>⟧.notation }
 {
     Schema {
-        nodes: &NODES,
+        nodes: nodes(),
         root: 44,
     }
 }
@@ -98,7 +98,7 @@ pub fn subject_alt_name() -> Schema
     ensures { notation_of result.nodes.now result.root ≡ ⟦<SubjectAltName as Notated>⟧.notation }
 {
     Schema {
-        nodes: &NODES,
+        nodes: nodes(),
         root: 33,
     }
 }
@@ -108,9 +108,25 @@ pub fn subject_info_access_syntax() -> Schema
     ensures { notation_of result.nodes.now result.root ≡ ⟦<SubjectInfoAccessSyntax as Notated>⟧.notation }
 {
     Schema {
-        nodes: &NODES,
+        nodes: nodes(),
         root: 59,
     }
+}
+
+// the nodes, and which of them is each type
+fn nodes() -> &'static [Node]
+    ensures authority_info_access_syntax { notation_of result.now 58 ≡ ⟦<AuthorityInfoAccessSyntax as Notated>⟧.notation }
+    ensures authority_key_identifier { notation_of result.now 32 ≡ ⟦<AuthorityKeyIdentifier as Notated>⟧.notation }
+    ensures certificate_issuer { notation_of result.now 67 ≡ ⟦<CertificateIssuer as Notated>⟧.notation }
+    ensures crl_distribution_points { notation_of result.now 54 ≡ ⟦<CrlDistributionPoints as Notated>⟧.notation }
+    ensures freshest_crl { notation_of result.now 55 ≡ ⟦<FreshestCrl as Notated>⟧.notation }
+    ensures issuer_alt_name { notation_of result.now 34 ≡ ⟦<IssuerAltName as Notated>⟧.notation }
+    ensures issuing_distribution_point { notation_of result.now 66 ≡ ⟦<IssuingDistributionPoint as Notated>⟧.notation }
+    ensures name_constraints { notation_of result.now 44 ≡ ⟦<NameConstraints as Notated>⟧.notation }
+    ensures subject_alt_name { notation_of result.now 33 ≡ ⟦<SubjectAltName as Notated>⟧.notation }
+    ensures subject_info_access_syntax { notation_of result.now 59 ≡ ⟦<SubjectInfoAccessSyntax as Notated>⟧.notation }
+{
+    &NODES
 }
 
 // each type comes after those that it names
@@ -386,10 +402,7 @@ static NODES: [Node; 68] = [
     },
     Node {
         name: Some("BaseDistance"),
-        kind: Kind::AtLeast {
-            least: 0,
-            node: 35,
-        },
+        kind: Kind::AtLeast { least: 0, node: 35 },
     },
     Node {
         name: None,

@@ -16,7 +16,7 @@ pub fn ad_if_relevant() -> Schema
     ensures { notation_of result.nodes.now result.root ≡ ⟦<AdIfRelevant as Notated>⟧.notation }
 {
     Schema {
-        nodes: &NODES,
+        nodes: nodes(),
         root: 27,
     }
 }
@@ -26,7 +26,7 @@ pub fn authorization_data() -> Schema
     ensures { notation_of result.nodes.now result.root ≡ ⟦<AuthorizationData as Notated>⟧.notation }
 {
     Schema {
-        nodes: &NODES,
+        nodes: nodes(),
         root: 5,
     }
 }
@@ -36,7 +36,7 @@ pub fn etype_info2() -> Schema
     ensures { notation_of result.nodes.now result.root ≡ ⟦<EtypeInfo2 as Notated>⟧.notation }
 {
     Schema {
-        nodes: &NODES,
+        nodes: nodes(),
         root: 26,
     }
 }
@@ -46,7 +46,7 @@ pub fn method_data() -> Schema
     ensures { notation_of result.nodes.now result.root ≡ ⟦<MethodData as Notated>⟧.notation }
 {
     Schema {
-        nodes: &NODES,
+        nodes: nodes(),
         root: 9,
     }
 }
@@ -56,7 +56,7 @@ pub fn pa_enc_timestamp() -> Schema
     ensures { notation_of result.nodes.now result.root ≡ ⟦<PaEncTimestamp as Notated>⟧.notation }
 {
     Schema {
-        nodes: &NODES,
+        nodes: nodes(),
         root: 13,
     }
 }
@@ -66,9 +66,21 @@ pub fn pa_enc_ts_enc() -> Schema
     ensures { notation_of result.nodes.now result.root ≡ ⟦<PaEncTsEnc as Notated>⟧.notation }
 {
     Schema {
-        nodes: &NODES,
+        nodes: nodes(),
         root: 20,
     }
+}
+
+// the nodes, and which of them is each type
+fn nodes() -> &'static [Node]
+    ensures ad_if_relevant { notation_of result.now 27 ≡ ⟦<AdIfRelevant as Notated>⟧.notation }
+    ensures authorization_data { notation_of result.now 5 ≡ ⟦<AuthorizationData as Notated>⟧.notation }
+    ensures etype_info2 { notation_of result.now 26 ≡ ⟦<EtypeInfo2 as Notated>⟧.notation }
+    ensures method_data { notation_of result.now 9 ≡ ⟦<MethodData as Notated>⟧.notation }
+    ensures pa_enc_timestamp { notation_of result.now 13 ≡ ⟦<PaEncTimestamp as Notated>⟧.notation }
+    ensures pa_enc_ts_enc { notation_of result.now 20 ≡ ⟦<PaEncTsEnc as Notated>⟧.notation }
+{
+    &NODES
 }
 
 // each type comes after those that it names

@@ -1,4 +1,5 @@
-//! The schemas of certificates and their extensions, of names, and of messages of PKCS, OCSP, RFC 3161 and Kerberos with what is in them.
+//! The schemas of certificates and their extensions, of names, and of messages of PKCS, OCSP, RFC 3161 and Kerberos
+//! with what is in them.
 #![tactic(auto)]
 
 pub mod algorithms;

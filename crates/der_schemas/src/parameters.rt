@@ -16,7 +16,7 @@ pub fn characteristic_two() -> Schema
     ensures { notation_of result.nodes.now result.root ≡ ⟦<CharacteristicTwo as Notated>⟧.notation }
 {
     Schema {
-        nodes: &NODES,
+        nodes: nodes(),
         root: 14,
     }
 }
@@ -26,7 +26,7 @@ pub fn curve() -> Schema
     ensures { notation_of result.nodes.now result.root ≡ ⟦<Curve as Notated>⟧.notation }
 {
     Schema {
-        nodes: &NODES,
+        nodes: nodes(),
         root: 10,
     }
 }
@@ -36,7 +36,7 @@ pub fn domain_parameters() -> Schema
     ensures { notation_of result.nodes.now result.root ≡ ⟦<DomainParameters as Notated>⟧.notation }
 {
     Schema {
-        nodes: &NODES,
+        nodes: nodes(),
         root: 4,
     }
 }
@@ -46,7 +46,7 @@ pub fn dss_sig_value() -> Schema
     ensures { notation_of result.nodes.now result.root ≡ ⟦<DssSigValue as Notated>⟧.notation }
 {
     Schema {
-        nodes: &NODES,
+        nodes: nodes(),
         root: 1,
     }
 }
@@ -56,7 +56,7 @@ pub fn ec_parameters() -> Schema
     ensures { notation_of result.nodes.now result.root ≡ ⟦<EcParameters as Notated>⟧.notation }
 {
     Schema {
-        nodes: &NODES,
+        nodes: nodes(),
         root: 12,
     }
 }
@@ -66,7 +66,7 @@ pub fn field_id() -> Schema
     ensures { notation_of result.nodes.now result.root ≡ ⟦<FieldId as Notated>⟧.notation }
 {
     Schema {
-        nodes: &NODES,
+        nodes: nodes(),
         root: 8,
     }
 }
@@ -76,7 +76,7 @@ pub fn pentanomial() -> Schema
     ensures { notation_of result.nodes.now result.root ≡ ⟦<Pentanomial as Notated>⟧.notation }
 {
     Schema {
-        nodes: &NODES,
+        nodes: nodes(),
         root: 16,
     }
 }
@@ -86,7 +86,7 @@ pub fn prime_p() -> Schema
     ensures { notation_of result.nodes.now result.root ≡ ⟦<PrimeP as Notated>⟧.notation }
 {
     Schema {
-        nodes: &NODES,
+        nodes: nodes(),
         root: 13,
     }
 }
@@ -96,9 +96,24 @@ pub fn trinomial() -> Schema
     ensures { notation_of result.nodes.now result.root ≡ ⟦<Trinomial as Notated>⟧.notation }
 {
     Schema {
-        nodes: &NODES,
+        nodes: nodes(),
         root: 15,
     }
+}
+
+// the nodes, and which of them is each type
+fn nodes() -> &'static [Node]
+    ensures characteristic_two { notation_of result.now 14 ≡ ⟦<CharacteristicTwo as Notated>⟧.notation }
+    ensures curve { notation_of result.now 10 ≡ ⟦<Curve as Notated>⟧.notation }
+    ensures domain_parameters { notation_of result.now 4 ≡ ⟦<DomainParameters as Notated>⟧.notation }
+    ensures dss_sig_value { notation_of result.now 1 ≡ ⟦<DssSigValue as Notated>⟧.notation }
+    ensures ec_parameters { notation_of result.now 12 ≡ ⟦<EcParameters as Notated>⟧.notation }
+    ensures field_id { notation_of result.now 8 ≡ ⟦<FieldId as Notated>⟧.notation }
+    ensures pentanomial { notation_of result.now 16 ≡ ⟦<Pentanomial as Notated>⟧.notation }
+    ensures prime_p { notation_of result.now 13 ≡ ⟦<PrimeP as Notated>⟧.notation }
+    ensures trinomial { notation_of result.now 15 ≡ ⟦<Trinomial as Notated>⟧.notation }
+{
+    &NODES
 }
 
 // each type comes after those that it names

@@ -17,7 +17,7 @@ pub fn authenticated_safe() -> Schema
     ensures { notation_of result.nodes.now result.root ≡ ⟦<AuthenticatedSafe as Notated>⟧.notation }
 {
     Schema {
-        nodes: &NODES,
+        nodes: nodes(),
         root: 10,
     }
 }
@@ -27,7 +27,7 @@ pub fn cert_bag() -> Schema
     ensures { notation_of result.nodes.now result.root ≡ ⟦<CertBag as Notated>⟧.notation }
 {
     Schema {
-        nodes: &NODES,
+        nodes: nodes(),
         root: 33,
     }
 }
@@ -37,7 +37,7 @@ pub fn key_bag() -> Schema
     ensures { notation_of result.nodes.now result.root ≡ ⟦<KeyBag as Notated>⟧.notation }
 {
     Schema {
-        nodes: &NODES,
+        nodes: nodes(),
         root: 30,
     }
 }
@@ -47,7 +47,7 @@ pub fn mac_data() -> Schema
     ensures { notation_of result.nodes.now result.root ≡ ⟦<MacData as Notated>⟧.notation }
 {
     Schema {
-        nodes: &NODES,
+        nodes: nodes(),
         root: 6,
     }
 }
@@ -57,7 +57,7 @@ pub fn pkcs8_shrouded_key_bag() -> Schema
     ensures { notation_of result.nodes.now result.root ≡ ⟦<Pkcs8ShroudedKeyBag as Notated>⟧.notation }
 {
     Schema {
-        nodes: &NODES,
+        nodes: nodes(),
         root: 32,
     }
 }
@@ -67,7 +67,7 @@ pub fn pkcs12_pbe_params() -> Schema
     ensures { notation_of result.nodes.now result.root ≡ ⟦<Pkcs12PbeParams as Notated>⟧.notation }
 {
     Schema {
-        nodes: &NODES,
+        nodes: nodes(),
         root: 35,
     }
 }
@@ -77,7 +77,7 @@ pub fn safe_bag() -> Schema
     ensures { notation_of result.nodes.now result.root ≡ ⟦<SafeBag as Notated>⟧.notation }
 {
     Schema {
-        nodes: &NODES,
+        nodes: nodes(),
         root: 14,
     }
 }
@@ -87,7 +87,7 @@ pub fn safe_contents() -> Schema
     ensures { notation_of result.nodes.now result.root ≡ ⟦<SafeContents as Notated>⟧.notation }
 {
     Schema {
-        nodes: &NODES,
+        nodes: nodes(),
         root: 15,
     }
 }
@@ -97,9 +97,24 @@ pub fn secret_bag() -> Schema
     ensures { notation_of result.nodes.now result.root ≡ ⟦<SecretBag as Notated>⟧.notation }
 {
     Schema {
-        nodes: &NODES,
+        nodes: nodes(),
         root: 34,
     }
+}
+
+// the nodes, and which of them is each type
+fn nodes() -> &'static [Node]
+    ensures authenticated_safe { notation_of result.now 10 ≡ ⟦<AuthenticatedSafe as Notated>⟧.notation }
+    ensures cert_bag { notation_of result.now 33 ≡ ⟦<CertBag as Notated>⟧.notation }
+    ensures key_bag { notation_of result.now 30 ≡ ⟦<KeyBag as Notated>⟧.notation }
+    ensures mac_data { notation_of result.now 6 ≡ ⟦<MacData as Notated>⟧.notation }
+    ensures pkcs8_shrouded_key_bag { notation_of result.now 32 ≡ ⟦<Pkcs8ShroudedKeyBag as Notated>⟧.notation }
+    ensures pkcs12_pbe_params { notation_of result.now 35 ≡ ⟦<Pkcs12PbeParams as Notated>⟧.notation }
+    ensures safe_bag { notation_of result.now 14 ≡ ⟦<SafeBag as Notated>⟧.notation }
+    ensures safe_contents { notation_of result.now 15 ≡ ⟦<SafeContents as Notated>⟧.notation }
+    ensures secret_bag { notation_of result.now 34 ≡ ⟦<SecretBag as Notated>⟧.notation }
+{
+    &NODES
 }
 
 // each type comes after those that it names

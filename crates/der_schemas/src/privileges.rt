@@ -14,7 +14,7 @@ pub fn ietf_attr_syntax() -> Schema
     ensures { notation_of result.nodes.now result.root ≡ ⟦<IetfAttrSyntax as Notated>⟧.notation }
 {
     Schema {
-        nodes: &NODES,
+        nodes: nodes(),
         root: 45,
     }
 }
@@ -24,7 +24,7 @@ pub fn role_syntax() -> Schema
     ensures { notation_of result.nodes.now result.root ≡ ⟦<RoleSyntax as Notated>⟧.notation }
 {
     Schema {
-        nodes: &NODES,
+        nodes: nodes(),
         root: 46,
     }
 }
@@ -34,9 +34,18 @@ pub fn target_information() -> Schema
     ensures { notation_of result.nodes.now result.root ≡ ⟦<TargetInformation as Notated>⟧.notation }
 {
     Schema {
-        nodes: &NODES,
+        nodes: nodes(),
         root: 40,
     }
+}
+
+// the nodes, and which of them is each type
+fn nodes() -> &'static [Node]
+    ensures ietf_attr_syntax { notation_of result.now 45 ≡ ⟦<IetfAttrSyntax as Notated>⟧.notation }
+    ensures role_syntax { notation_of result.now 46 ≡ ⟦<RoleSyntax as Notated>⟧.notation }
+    ensures target_information { notation_of result.now 40 ≡ ⟦<TargetInformation as Notated>⟧.notation }
+{
+    &NODES
 }
 
 // each type comes after those that it names
