@@ -18,12 +18,7 @@ pub(crate) fn answer(alloc: Global, row: &str) -> Result<String, AllocError> {
 }
 
 // The result of these words for bytes and a type.
-fn answer_as(
-    alloc: Global,
-    words: &str,
-    bytes: Vec<u8>,
-    name: &str,
-) -> Result<String, AllocError> {
+fn answer_as(alloc: Global, words: &str, bytes: Vec<u8>, name: &str) -> Result<String, AllocError> {
     match words {
         "copy" => growths::answer(alloc, copies::copy(alloc, name, &bytes)),
         "signed" => signed(alloc, name, &bytes),
