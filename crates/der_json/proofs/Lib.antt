@@ -1,2 +1,5 @@
+pub mod Forms
 pub mod NumberLemmas
+pub mod OneContent
+pub mod OneMessage
 pub mod ValueLemmas
