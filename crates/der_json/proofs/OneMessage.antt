@@ -194,7 +194,7 @@ mutual
       → AreMembers nodes ms s before d → HasNames nodes → AreDifferent (member_names ms)
       → (t : List ℕ) (earlier : Members) (e : Data) → d ≡ e → AreBytes s → AreBytes t → Lack ms before → Lack ms earlier
       → AreMembers nodes ms t earlier e → s ≡ t
-    one_members nodes ms s before d (AreMembers.end-of-members _ _) names other t earlier e same p q l k
+  one_members nodes ms s before d (AreMembers.end-of-members _ _) names other t earlier e same p q l k
       (AreMembers.end-of-members _ _) =
       refl
   one_members nodes ms s before d (AreMembers.there _ m others first rest v _ _ x xs) names other t earlier e same p q l
