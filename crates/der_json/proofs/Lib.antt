@@ -1,4 +1,5 @@
 pub mod Forms
+pub mod NameLemmas
 pub mod NumberLemmas
 pub mod OneContent
 pub mod OneMessage

@@ -33,11 +33,12 @@ use Rattle.der_types.proofs.DottedLemmas.{slice_split-dotted}
 use Rattle.der_schema.specs.declared.node.Item.{Item}
 use Rattle.der_schema.specs.declared.node.Kind.{Kind}
 use Rattle.der_schema.specs.declared.node.Kind.TheVariants as kind
-use Rattle.der_json.specs.Contents.{IsArcsJson, IsBitsJson, IsStringJson, IsTextJson}
+use Rattle.der_json.specs.Contents.{IsArcsJson, IsBitsJson, IsContentJson, IsStringJson, IsTextJson}
 use Rattle.der_json.specs.Json.{IsAny}
 use Rattle.der_json.specs.Laws.{OneContent}
-use Rattle.der_json.specs.Names.{AreDifferent, AreNames, IsSmall, item_names}
+use Rattle.der_json.specs.Names.{item_names, names_in}
 use Rattle.der_json.specs.Numbers.{IsItemJson, IsNumberJson, digits_text, integer_data, integer_text, item_name}
+use Rattle.der_json.proofs.NameLemmas.{AreDifferent, AreNames, IsSmall, names_from}
 
 -- ---- hexadecimal
 
@@ -333,25 +334,29 @@ one_string tag s t d p q a b =
 
 -- ---- all kinds
 
+pub content_of : (k : Kind) (s t : List ℕ) (d : Data) → AreNames (names_in k) → AreBytes s → AreBytes t
+    → IsContentJson k s d → IsContentJson k t d → s ≡ t
+content_of kind.Boolean s t d n p q a b = cc (a.1, a.2, b.1, b.2)
+content_of kind.Integer s t d n p q a b = one_number s t d p q a b
+content_of (kind.NamedInteger items) s t d n p q a b = one_number s t d p q a b
+content_of (kind.Unsigned bits) s t d n p q a b = one_number s t d p q a b
+content_of (kind.Signed bits) s t d n p q a b = one_number s t d p q a b
+content_of (kind.Enumerated items) s t d n p q a b = one_item items.now s t d n p q a b
+content_of (kind.ExtensibleEnumerated items) s t d n p q a b = one_known items.now s t d n p q a b
+content_of kind.BitString s t d n p q a b = one_bits s t d p q a b
+content_of (kind.NamedBits items) s t d n p q a b = one_bits s t d p q a b
+content_of kind.OctetString s t d n p q a b = one_hexadecimal s t d p q a b
+content_of kind.Null s t d n p q a b = a.0 ∙ sym b.0
+content_of kind.ObjectIdentifier s t d n p q a b = one_identifier s t d p q a b
+content_of kind.RelativeOid s t d n p q a b = one_relative s t d p q a b
+content_of kind.Utf8String s t d n p q a b = one_text s t d a b
+content_of kind.Character s t d n p q a b = one_text s t d a b
+content_of (kind.RestrictedString tag) s t d n p q a b = one_string tag s t d p q a b
+content_of kind.GeneralizedTime s t d n p q a b = one_text s t d a.1 b.1
+content_of kind.UtcTime s t d n p q a b = one_text s t d a.1 b.1
+content_of kind.LaterTime s t d n p q a b = one_text s t d a.1 b.1
+content_of (kind.AnyContent tag) s t d n p q a b = one_hexadecimal s t d p q a b
+content_of _ s t d n p q a b = absurd a
+
 pub one_content : OneContent
-one_content kind.Boolean s t d n p q a b = cc (a.1, a.2, b.1, b.2)
-one_content kind.Integer s t d n p q a b = one_number s t d p q a b
-one_content (kind.NamedInteger items) s t d n p q a b = one_number s t d p q a b
-one_content (kind.Unsigned bits) s t d n p q a b = one_number s t d p q a b
-one_content (kind.Signed bits) s t d n p q a b = one_number s t d p q a b
-one_content (kind.Enumerated items) s t d n p q a b = one_item items.now s t d n p q a b
-one_content (kind.ExtensibleEnumerated items) s t d n p q a b = one_known items.now s t d n p q a b
-one_content kind.BitString s t d n p q a b = one_bits s t d p q a b
-one_content (kind.NamedBits items) s t d n p q a b = one_bits s t d p q a b
-one_content kind.OctetString s t d n p q a b = one_hexadecimal s t d p q a b
-one_content kind.Null s t d n p q a b = a.0 ∙ sym b.0
-one_content kind.ObjectIdentifier s t d n p q a b = one_identifier s t d p q a b
-one_content kind.RelativeOid s t d n p q a b = one_relative s t d p q a b
-one_content kind.Utf8String s t d n p q a b = one_text s t d a b
-one_content kind.Character s t d n p q a b = one_text s t d a b
-one_content (kind.RestrictedString tag) s t d n p q a b = one_string tag s t d p q a b
-one_content kind.GeneralizedTime s t d n p q a b = one_text s t d a.1 b.1
-one_content kind.UtcTime s t d n p q a b = one_text s t d a.1 b.1
-one_content kind.LaterTime s t d n p q a b = one_text s t d a.1 b.1
-one_content (kind.AnyContent tag) s t d n p q a b = one_hexadecimal s t d p q a b
-one_content _ s t d n p q a b = absurd a
+one_content k s t d names p q a b = content_of k s t d (names_from (names_in k) names) p q a b

@@ -22,10 +22,11 @@ use Rattle.der_json.specs.Contents.{IsContentJson, IsPlain}
 use Rattle.der_json.specs.Json.{AreItems, AreMembers, IsAlternative, IsAny, IsJson, alternatives_in, members_in}
 use Rattle.der_json.specs.Json.{wrapped_data}
 use Rattle.der_json.specs.Laws.{OneMessage}
-use Rattle.der_json.specs.Names.{AreDifferent, AreNames, HasNames, alternative_names, member_names, names_in}
+use Rattle.der_json.specs.Names.{alternative_names, member_names, names_in}
 use Rattle.der_json.proofs.Forms.{Form, IsFormed, IsListed, IsSequence, IsUnder, IsWrapped, any_form, choice_form, form_of}
 use Rattle.der_json.proofs.Forms.{formed, list_form, plain_form, same_form, sequence_form}
-use Rattle.der_json.proofs.OneContent.{one_content, one_element}
+use Rattle.der_json.proofs.NameLemmas.{AreDifferent, AreNames, HasNames, each_has_names}
+use Rattle.der_json.proofs.OneContent.{content_of, one_element}
 
 -- ---- bytes of parts
 
@@ -122,7 +123,7 @@ one_plain : (k : Kind) (header : Bool) (s t : List ℕ) (d : Data) → AreNames 
 one_plain k header s t d names p q x y =
     let tags : x.tag ≡ y.tag = cc (x.has_tag, y.has_tag) in
     let contents : x.content ≡ y.content =
-    one_content k x.content y.content d names (plain_bytes header x.tag x.content s x.encoded p)
+    content_of k x.content y.content d names (plain_bytes header x.tag x.content s x.encoded p)
     (plain_bytes header y.tag y.content t y.encoded q) x.json y.json in
     x.encoded ∙ ap₂ (plain_encoding header) tags contents ∙ sym y.encoded
 
@@ -241,4 +242,4 @@ mutual
       ap₂ (λ a b. a ++ b) fronts ends
 
 pub one_message : OneMessage
-one_message nodes i header s t d names p q x y = one_value nodes i header s d x names t d refl p q y
+one_message nodes i header s t d names p q x y = one_value nodes i header s d x (each_has_names nodes names) t d refl p q y

@@ -1,13 +1,14 @@
 -- The names in a schema.
-use Rattle.std.specs.Prelude.{◌≢◌, ℕ, ◌≤◌, List, [], ◌∷◌, map, ⊤}
-use Rattle.std.specs.List.{AllByRecursion}
+use Rattle.std.specs.Prelude.{ℕ, Bool, true, false, not, ◌&&◌, List, [], ◌∷◌, map}
+use Rattle.std.specs.Int.{is_in_range}
+use Rattle.std.specs.List.{list_all, list_any}
+use Rattle.std.specs.Str.{bytes_eq}
 use Rattle.der_schema.specs.declared.node.Alternative.{Alternative}
 use Rattle.der_schema.specs.declared.node.Item.{Item}
 use Rattle.der_schema.specs.declared.node.Kind.{Kind}
 use Rattle.der_schema.specs.declared.node.Kind.TheVariants as kind
 use Rattle.der_schema.specs.declared.node.Member.{Member}
 use Rattle.der_schema.specs.declared.node.Node.{Node}
-use Rattle.der_json.specs.Json.{IsOfKind}
 
 abbrev pub member_names : List Member → List (List ℕ)
 member_names members = map (λ m. m.name.now) members
@@ -27,20 +28,19 @@ names_in (kind.ExtensibleEnumerated items) = item_names items.now
 names_in _ = []
 
 -- no two are one
-abbrev pub AreDifferent : List (List ℕ) → Type 0
-AreDifferent [] = ⊤
-AreDifferent (x ∷ xs) = AllByRecursion (λ y. x ≢ y) xs × AreDifferent xs
+abbrev pub are_different : List (List ℕ) → Bool
+are_different [] = true
+are_different (x ∷ xs) = not (list_any (bytes_eq x) xs) && are_different xs
 
 -- it begins with a small letter
-abbrev pub IsSmall : List ℕ → Type 0
-IsSmall [] = ⊥
-IsSmall (c ∷ cs) = (0x61 ≤ c) × (c ≤ 0x7A)
+abbrev pub is_small : List ℕ → Bool
+is_small [] = false
+is_small (c ∷ cs) = is_in_range 0x61 0x7A c
 
--- names of a type: no two are one (X.680, 20, 25, 29), and each begins with a small letter (12.3)
-pub record AreNames (names : List (List ℕ)) : Type 0 where
-  pub different : AreDifferent names
-  pub small : AllByRecursion IsSmall names
+-- each begins with a small letter (X.680, 12.3), and no two are one (20, 25, 29)
+abbrev pub are_names : List (List ℕ) → Bool
+are_names names = list_all is_small names && are_different names
 
--- each type of a table has names
-abbrev pub HasNames : List Node → Type 0
-HasNames nodes = (i : ℕ) (k : Kind) → IsOfKind nodes i k → AreNames (names_in k)
+-- the names of each type are
+abbrev pub has_names : List Node → Bool
+has_names nodes = list_all (λ node. are_names (names_in node.kind)) nodes
