@@ -89,9 +89,10 @@ lack_all (m ∷ ms) = (refl, lack_all ms)
 lack_more : (ms : List Member) (name : List ℕ) (d : Data) (before : Members)
     → AllByRecursion (λ y. name ≢ y) (member_names ms) → Lack ms before → Lack ms (put name d before)
 lack_more [] name d before other h = tt
-lack_more (m ∷ ms) name d before other h =
-    (get_member-put_other m.name.now name d before (λ e. other.0 (sym e)) ∙ h.0,
-    lack_more ms name d before other.1 h.1)
+lack_more (m ∷ ms) name d before other h = (
+  get_member-put_other m.name.now name d before (λ e. other.0 (sym e)) ∙ h.0,
+  lack_more ms name d before other.1 h.1,
+)
 
 -- a name that isn't one of those that follow has the value that it had
 kept : (nodes : List Node) (ms : List Member) (s : List ℕ) (before : Members) (d : Data)
@@ -212,12 +213,20 @@ mutual
       ap₂ (λ a b. a ++ b) fronts ends
   one_members nodes ms s before d (AreMembers.there _ m others first rest v _ _ x xs) names other t earlier e same p q l
       k (AreMembers.absent _ _ _ _ _ _ free ys) =
-      absurd (cc (found nodes m others rest v before d other.0 xs,
-      kept nodes others t earlier e ys m.name.now other.0, k.0, same))
+      absurd (cc (
+        found nodes m others rest v before d other.0 xs,
+        kept nodes others t earlier e ys m.name.now other.0,
+        k.0,
+        same,
+      ))
   one_members nodes ms s before d (AreMembers.absent _ m others _ _ _ free xs) names other t earlier e same p q l k
       (AreMembers.there _ _ _ second more w _ _ y ys) =
-      absurd (cc (found nodes m others more w earlier e other.0 ys,
-      kept nodes others s before d xs m.name.now other.0, l.0, same))
+      absurd (cc (
+        found nodes m others more w earlier e other.0 ys,
+        kept nodes others s before d xs m.name.now other.0,
+        l.0,
+        same,
+      ))
   one_members nodes ms s before d (AreMembers.absent _ m others _ _ _ free xs) names other t earlier e same p q l k
       (AreMembers.absent _ _ _ _ _ _ also ys) =
       one_members nodes others s before d xs names other.1 t earlier e same p q l.1 k.1 ys
