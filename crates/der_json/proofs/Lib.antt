@@ -3,4 +3,5 @@ pub mod NameLemmas
 pub mod NumberLemmas
 pub mod OneContent
 pub mod OneMessage
+pub mod StringLemmas
 pub mod ValueLemmas
