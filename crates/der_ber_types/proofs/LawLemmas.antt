@@ -4,7 +4,7 @@ use Rattle.picky_der_core.specs.Encoding.{der}
 use Rattle.der_ber.proofs.LawLemmas.{one_whole}
 use Rattle.der_ber_types.specs.Content.{IsOne}
 use Rattle.der_ber_types.specs.Laws.{OneDer, DerIsOwnBer}
-use Rattle.der_ber_types.proofs.OwnKinds.{own-ber}
+use Rattle.der_ber_types.proofs.KindDer.{own-ber}
 use Rattle.der_ber_types.proofs.Unique.{one-unique}
 
 pub one_der : OneDer

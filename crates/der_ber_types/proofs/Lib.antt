@@ -5,7 +5,7 @@ pub mod SetLemmas
 pub mod BitLemmas
 pub mod Writing
 pub mod Unique
-pub mod OwnLists
-pub mod OwnKinds
+pub mod ListDer
+pub mod KindDer
 pub mod Refusals
 pub mod LawLemmas

@@ -1,5 +1,7 @@
 -- What has no DER by a type.
-use Rattle.std.proofs.Common.{◌≡◌, ◌≢◌, ℕ, ◌<◌, List, [], ◌∷◌, ◌++◌, sym, ap, refl, ◌∙◌, subst, append-nil, arith}
+use Rattle.std.proofs.Common.{◌≡◌, ◌≢◌, ℕ, ◌+◌, ◌<◌, ◌≤◌, List, [], ◌∷◌, ◌++◌, sym, ap, refl, ◌∙◌, subst, append-nil}
+use Rattle.std.proofs.Common.{arith, length, drop, get_or, Vec, Global, Result, Ok, Err, IfErr}
+use Rattle.std.proofs.lemmas.List.{drop_all, drop_more}
 use Rattle.std.specs.Borrow.{Bor}
 use Rattle.std.specs.List.{AllByRecursion, concat}
 use Rattle.picky_der_core.specs.Element.{tlv, IsElement}
@@ -7,6 +9,7 @@ use Rattle.der_path.specs.Elements.{BeginsWith, BeginsWithNone}
 use Rattle.der_schema.specs.declared.node.Member.{Member}
 use Rattle.der_schema.specs.declared.node.Node.{Node}
 use Rattle.der_schema.specs.declared.node.Presence.TheVariants.{Required}
+use Rattle.der_ber_types.specs.declared.error.TypeError.{TypeError}
 use Rattle.der_ber_types.specs.declared.inside.Inside.{Inside}
 use Rattle.der_ber_types.specs.declared.inside.Inside.TheVariants as inside
 use Rattle.der_ber_types.specs.Content.{IsContent, IsOne, AreEach, AreMembers}
@@ -15,7 +18,7 @@ use Rattle.der_ber_types.specs.Inside.{IsInside}
 use Rattle.der_ber_types.specs.Order.{AreElements, AreInOrder}
 use Rattle.der_ber_types.specs.Pushed.{IsPushed, IsMemberPushed}
 use Rattle.der_ber_types.specs.Refusals.{HasNoOne, HasNoEach, HasNoMembers, HasNoMember, HasNoFront, HasNoContent}
-use Rattle.der_ber_types.specs.Refusals.{IsNoTruth, AreNoParts, AreNoBits, AreNotInOrder}
+use Rattle.der_ber_types.specs.Refusals.{IsRefusal, IsNoTruth, AreNoParts, AreNoBits, AreNotInOrder}
 use Rattle.der_ber_types.specs.Reordered.{AreReordered, IsNotAhead}
 use Rattle.der_ber_types.proofs.BitLemmas.{AreBitsAfter}
 use Rattle.der_ber_types.proofs.InsideLemmas.{inside-same, tag_of}
@@ -137,6 +140,14 @@ no_member-tag nodes m bytes none required ms der (AreMembers.written _ _ x k r _
     none r (one-ahead nodes m.node bytes x k r one e)
 no_member-tag nodes m bytes none required ms der (AreMembers.absent _ _ _ _ free un are) = free required
 
+-- the one at this index
+pub members-next : (nodes : List Node) (all : List Member) (k : ℕ) (d : Member) (rest after old new : List ℕ)
+    → k < length all → IsMemberPushed nodes (get_or all k d) rest after old new → SomeMembers nodes (drop k all) rest
+    → SomeMembers nodes (drop (k + 1) all) after
+members-next nodes all k d rest after old new within pushed some =
+    member-then nodes (get_or all k d) (drop (k + 1) all) rest after old new pushed
+    (subst (λ ms. SomeMembers nodes ms rest) (drop_more all k d within) some)
+
 pub no_members-more : (nodes : List Node) (rest : List ℕ) → (rest ≡ [] → ⊥) → SomeMembers nodes [] rest → ⊥
 no_members-more nodes rest more some = none some.der some.are
   where
@@ -182,6 +193,14 @@ no_content-parts nodes bytes none der (IsContent.parts _ _ are) = none der are
 
 pub no_content-bits : (nodes : List Node) (bytes : List ℕ) → AreNoBits bytes → HasNoContent nodes inside.BitParts bytes
 no_content-bits nodes bytes none der (IsContent.bit_parts _ _ are) = none der are
+
+-- what a call refuses of a content has no DER
+pub content-refused : (nodes : List Node) (x y : Inside) (bytes : List ℕ) (r : Result (Vec ℕ Global) TypeError)
+    (P : Type 0) → x ≡ y → (P → HasNoContent nodes y bytes) → IfErr r (IsRefusal P)
+    → IfErr r (IsRefusal (HasNoContent nodes x bytes))
+content-refused nodes x y bytes (Ok v) P e f h = tt
+content-refused nodes x y bytes (Err error) P e f h =
+    λ some der is. f (h some) der (subst (λ l. IsContent nodes l bytes der) e is)
 
 -- ---- strings in parts
 

@@ -1,7 +1,7 @@
 //! DER of a value by its schema.
-ghost use Rattle.std.specs.Prelude.{IfOk, IfErr};
+ghost use Rattle.std.specs.Prelude.{◌≢◌, IfOk, IfErr};
 ghost use Rattle.der_ber_types.specs.Errors.{IsRefusedByType};
-ghost use Rattle.der_ber_types.specs.ToDer.{IsBer};
+ghost use Rattle.der_ber_types.specs.ToDer.{IsBer, HasNoDer};
 
 use crate::ToDerError;
 use crate::content::one_in_der;
@@ -28,6 +28,8 @@ use std::alloc::Global;
 pub fn to_der(alloc: Global, schema: Schema, bytes: &[u8]) -> Result<Vec<u8>, ToDerError>
     ensures ok { IfOk result (λ der. IsBer schema.nodes.now schema.root bytes.now der.items) }
     ensures err { IfErr result (IsRefusedByType bytes.now) }
+    ensures none { IfErr result (λ e.
+        e ≢ ToDerError.OutOfMemory → HasNoDer schema.nodes.now schema.root bytes.now) }
 {
     let whole = with_whole_strings(alloc, bytes)?;
     Ok(one_in_der(alloc, schema.nodes, schema.root, &whole)?)

@@ -1,6 +1,7 @@
 use Rattle.std.proofs.Common.{◌≡◌, ◌++◌, subst, arith}
 use Rattle.picky_der_core.specs.Element.{tlv}
 use Rattle.der_ber_types.proofs.Cutting.{smaller_after}
+use Rattle.der_ber_types.proofs.Refusals.{parts-next}
 use Rattle.der_ber_types.proofs.Writing.{nothing_left, part-more, parts-end}
 use Rattle.der_ber_types.proofs.contents.joined.Goals as goal
 
@@ -17,11 +18,14 @@ loop-rest-preserved c =
     let tag : c.in-Some.part.tag ≡ 0x04 = omega (arith, c.inner.ensures, c.if-inner-ne4.false) in
     let first : rest ≡ tlv 0x04 content ++ after =
     subst (λ n. rest ≡ tlv n content ++ after) tag c.in-Some.ensures.is in
-    part-more c.args.bytes.now rest content after c.loop-rest.der.items c.extend_from_slice.new.self.items
-    c.loop-rest.invariant first c.in_ok-extend_from_slice.ensures.items
+    record {
+      so_far = part-more c.args.bytes.now rest content after c.loop-rest.der.items c.extend_from_slice.new.self.items
+          c.loop-rest.invariant.so_far first c.in_ok-extend_from_slice.ensures.items;
+      left = λ some. parts-next rest content after first (c.loop-rest.invariant.left some);
+    }
 
-pub returns : goal.returns
-returns c =
+pub returns-clause-ok : goal.returns-clause-ok
+returns-clause-ok c =
     parts-end c.args.bytes.now c.loop-rest.rest.now c.loop-rest.der.items
     (nothing_left c.loop-rest.rest.now c.is_empty.result c.is_empty.ensures c.loop-rest-test.false)
-    c.loop-rest.invariant
+    c.loop-rest.invariant.so_far

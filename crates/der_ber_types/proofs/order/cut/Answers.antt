@@ -1,6 +1,7 @@
-use Rattle.std.proofs.Common.{◌≡◌, ◌++◌, ap, refl, ◌∙◌, arith, length}
+use Rattle.std.proofs.Common.{◌≡◌, ◌++◌, ap, refl, sym, ◌∙◌, arith, length, subst}
 use Rattle.picky_der_core.specs.Element.{IsElement}
 use Rattle.der_ber_types.proofs.Cutting.{one_more, cut_off, smaller_after}
+use Rattle.der_ber_types.proofs.Refusals.{SomeElements, elements-next}
 use Rattle.der_ber_types.proofs.order.cut.Goals as goal
 
 pub loop-rest-smaller : goal.loop-rest-smaller
@@ -25,4 +26,9 @@ loop-rest-preserved c =
     let (elements, is) = one_more c.loop-rest.elements.items c.push.new.self.items first c.args.bytes.now rest
     c.split_at.result.1.now c.in_ok-push.ensures.items c.loop-rest.invariant.elements c.loop-rest.invariant.is
     element whole in
-    record { elements = elements; is = is }
+    record {
+      elements = elements;
+      is = is;
+      left = λ some. subst SomeElements (sym back)
+          (elements-next rest f.tag f.content.now f.after.now c.in-Some.ensures (c.loop-rest.invariant.left some));
+    }

@@ -41,8 +41,8 @@ use Rattle.der_ber_types.specs.Kinds.{own_tag, own_wrapper_tag}
 use Rattle.der_ber_types.specs.Order.{AreInOrder}
 use Rattle.der_ber_types.specs.Tables.{AreAllApart, AreAlternativesApart, IsInTag, IsSoundTable}
 use Rattle.der_ber_types.proofs.InsideLemmas.{tag_of}
-use Rattle.der_ber_types.proofs.OwnLists.{HasOwnContent, IsOwn, IsAlternative, no_values, elements, reordered-same}
-use Rattle.der_ber_types.proofs.OwnLists.{inner, each, members, one_of}
+use Rattle.der_ber_types.proofs.ListDer.{HasOwnContent, IsOwn, IsAlternative, no_values, elements, reordered-same}
+use Rattle.der_ber_types.proofs.ListDer.{inner, each, members, one_of}
 
 own_truth : (b : Bool) → IsTruth (boolean_content b) (boolean_content b)
 own_truth false = IsTruth.false
