@@ -13,12 +13,12 @@ use Rattle.der_ber_types.specs.declared.error.TypeError.{TypeError}
 use Rattle.der_ber_types.specs.declared.inside.Inside.{Inside}
 use Rattle.der_ber_types.specs.declared.inside.Inside.TheVariants as inside
 use Rattle.der_ber_types.specs.Content.{IsContent, IsOne, AreEach, AreMembers}
-use Rattle.der_ber_types.specs.Contents.{AreParts, AreBitParts, IsBitPart}
+use Rattle.der_ber_types.specs.Contents.{AreParts, AreBitParts, IsBitPart, most_unused}
 use Rattle.der_ber_types.specs.Inside.{IsInside}
 use Rattle.der_ber_types.specs.Order.{AreElements, AreInOrder}
 use Rattle.der_ber_types.specs.Pushed.{IsPushed, IsMemberPushed}
 use Rattle.der_ber_types.specs.Refusals.{HasNoOne, HasNoEach, HasNoMembers, HasNoMember, HasNoFront, HasNoContent}
-use Rattle.der_ber_types.specs.Refusals.{IsRefusal, IsNoTruth, AreNoParts, AreNoBits, AreNotInOrder}
+use Rattle.der_ber_types.specs.Refusals.{IsRefusal, IsNoBitPart, IsNoTruth, AreNoParts, AreNoBits, AreNotInOrder}
 use Rattle.der_ber_types.specs.Reordered.{AreReordered, IsNotAhead}
 use Rattle.der_ber_types.proofs.BitLemmas.{AreBitsAfter}
 use Rattle.der_ber_types.proofs.InsideLemmas.{inside-same, tag_of}
@@ -253,6 +253,13 @@ no_elements-front rest more none some = refused some.elements some.are.each some
         (record { number = all.0.number; is = is ∙ ap (λ l. l ++ concat es) all.0.is })
 
 -- ---- bit strings in parts
+
+-- the element at the front isn't one
+pub no_bit_part : (bytes content after : List ℕ) (tag : ℕ) → bytes ≡ tlv tag content ++ after
+    → ((u : ℕ) (bits : List ℕ) → content ≡ u ∷ bits → tag ≡ 0x03 → u ≤ most_unused bits → ⊥) → IsNoBitPart bytes
+no_bit_part bytes content after tag is none u bits rest p =
+    let same = tlv-fronts bytes tag 0x03 content (u ∷ bits) after rest is p.is in
+    none u bits same.1 same.0 p.most
 
 pub record SomeBits (last : ℕ) (rest : List ℕ) : Type 0 where
   pub unused : ℕ

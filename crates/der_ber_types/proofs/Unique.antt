@@ -220,7 +220,7 @@ one-fronts nodes i j bytes a b d e r s (IsOne.element _ t x c _ _ _ n it is p f)
     let same = tlv-fronts bytes t u c v r s (whole ∙ ap (λ l. l ++ r) p) (also ∙ ap (λ l. l ++ s) q) in
     (p ∙ ap₂ tlv same.0 same.1 ∙ sym q, same.2)
 
-one-some : (nodes : List Node) (i : ℕ) (bytes element d rest : List ℕ) → IsOne nodes i element d → bytes ≡ []
+pub one-some : (nodes : List Node) (i : ℕ) (bytes element d rest : List ℕ) → IsOne nodes i element d → bytes ≡ []
     → bytes ≡ element ++ rest → ⊥
 one-some nodes i bytes element d rest one e whole =
     let a = one-ahead nodes i bytes element d rest one whole in
