@@ -154,6 +154,17 @@ no_members-more nodes rest more some = none some.der some.are
     none : (der : List ℕ) → AreMembers nodes [] rest der → ⊥
     none der (AreMembers.end _ _ e f) = more e
 
+pub no_members-at : (nodes : List Node) (all : List Member) (k : ℕ) (d : Member) (rest : List ℕ) → k < length all
+    → HasNoMember nodes (get_or all k d) rest → SomeMembers nodes (drop k all) rest → ⊥
+no_members-at nodes all k d rest within none some =
+    let here = subst (λ ms. SomeMembers nodes ms rest) (drop_more all k d within) some in
+    none (drop (k + 1) all) here.der here.are
+
+pub no_members-past : (nodes : List Node) (all : List Member) (k : ℕ) (rest : List ℕ) → length all ≤ k
+    → (rest ≡ [] → ⊥) → SomeMembers nodes (drop k all) rest → ⊥
+no_members-past nodes all k rest past more some =
+    no_members-more nodes rest more (subst (λ ms. SomeMembers nodes ms rest) (drop_all k all past) some)
+
 -- ---- contents
 
 pub no_content-members : (nodes : List Node) (ms : Bor (List Member)) (bytes : List ℕ)

@@ -21,7 +21,7 @@ use std::alloc::Global;
 ///
 /// `Broken` if the bytes aren't elements in BER, as `with_whole_strings` says. `OtherType` if they aren't one element
 /// of the type: a member is missing, there is one more, a tag is another, or a string has other parts than its type
-/// allows. `OutOfMemory` if an allocation fails.
+/// allows. `OutOfMemory` if an allocation fails. After each other error the bytes are BER of no value of the type.
 ///
 /// Each level of the type copies its content, and a set is sorted. Otherwise the time and the memory are linear in the
 /// number of bytes.

@@ -37,7 +37,7 @@ pub struct ContentType {
 /// `[0]`, as the `ContentInfo` of CMS is (RFC 5652, 3). The content becomes what `to_der` returns of it, by the first
 /// of the types that has the identifier. If none has it, the content only has the lengths of DER and whole strings.
 ///
-/// The errors are those of `to_der`.
+/// The errors are those of `to_der`. After each but `OutOfMemory` the bytes are BER of no such message.
 pub fn message_to_der(
     alloc: Global,
     types: &[ContentType],

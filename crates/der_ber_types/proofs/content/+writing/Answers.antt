@@ -3,14 +3,17 @@ use Rattle.std.proofs.Common.{slice_range}
 use Rattle.der_ber_types.specs.Content.{IsContent, AreEach, AreMembers}
 use Rattle.der_ber_types.specs.Order.{AreInOrder}
 use Rattle.der_ber_types.proofs.Writing.{pushed-shorter, each-more, each-end, member-fewer, member-next, members-end}
-use Rattle.der_ber_types.proofs.Writing.{nothing_left, content-same, content-of, pushed, not_ahead-tag}
+use Rattle.der_ber_types.proofs.Writing.{nothing_left, something_left, content-same, content-of, pushed, not_ahead-tag}
 use Rattle.der_ber_types.proofs.Writing.{member-kept, member-cut, member-same, range-end}
 use Rattle.std.proofs.lemmas.Bool.{false≢true}
 use Rattle.der_ber_types.specs.Reordered.{AreReordered}
 use Rattle.der_ber_types.proofs.content.+writing.Goals.{push_member-then-is_default, push_member-else-is_default}
 use Rattle.der_ber_types.proofs.SetLemmas.{reordered-length}
 use Rattle.der_ber_types.proofs.Cutting.{smaller_content}
-use Rattle.der_ber_types.specs.Pushed.{IsPushed}
+use Rattle.der_ber_types.specs.Pushed.{IsPushed, IsNonePushed}
+use Rattle.std.proofs.lemmas.Result.{err_from_is_err_and}
+use Rattle.der_ber_types.proofs.Refusals.{no_each-front, no_each-tag, no_members-at, no_members-past, no_one-front}
+use Rattle.der_ber_types.proofs.Refusals.{no_one-tag, no_one-more, no_front, no_member-front, no_member-tag}
 use Rattle.der_ber_types.proofs.Refusals.{content-refused, no_content-parts, no_content-truth, no_content-members}
 use Rattle.der_ber_types.proofs.Refusals.{no_content-each, no_content-bits, no_content-one, no_content-order}
 use Rattle.der_ber_types.proofs.Refusals.{no_content-sorted, no_content-set, some-next, members-next}
@@ -254,3 +257,85 @@ push_element-returns t c =
           c.in_ok-extend_from_slice.ensures.items c.deref.ensures.value;
       none = tt;
     }
+
+-- ---- refusals
+
+pub each_in_der-returns-in_err-after-clause-none : goal.each_in_der-returns-in_err-after-clause-none
+each_in_der-returns-in_err-after-clause-none t c =
+    let p = err_from_is_err_and c.from_residual.result c.from_residual.ensures.1 in
+    let rest = c.loop-rest.rest.now in
+    let more = something_left rest c.is_empty.result c.is_empty.ensures c.loop-rest-test.true in
+    rw (p.1, p.2) (λ some der are. no_each-front c.args.nodes.now c.args.index rest more
+    (c.in_err-after.ensures.none some) (c.loop-rest.invariant.left (record { der = der; are = are })))
+
+pub each_in_der-returns-in_default-clause-none : goal.each_in_der-returns-in_default-clause-none
+each_in_der-returns-in_default-clause-none t c =
+    let nodes = c.args.nodes.now in
+    let rest = c.loop-rest.rest.now in
+    let more = something_left rest c.is_empty.result c.is_empty.ensures c.loop-rest-test.true in
+    let none : IsNonePushed nodes c.args.index rest c.loop-rest.der.items c.push_element.new.der.items =
+    rw c.in_default.is at c.in_ok-after.ensures.ok in
+    λ wrong der are. no_each-tag nodes c.args.index rest more none.none
+        (c.loop-rest.invariant.left (record { der = der; are = are }))
+
+pub members_in_der-returns-in_err-rest-clause-none : goal.members_in_der-returns-in_err-rest-clause-none
+members_in_der-returns-in_err-rest-clause-none t c =
+    let p = err_from_is_err_and c.from_residual.result c.from_residual.ensures.1 in
+    rw (p.1, p.2) (λ some der are. no_members-at c.args.nodes.now c.args.members.now c.loop-member.member-index _
+    c.loop-member.rest.now c.loop-member-test.true (c.in_err-rest.ensures.none some)
+    (c.loop-member.invariant.left (record { der = der; are = are })))
+
+pub members_in_der-returns-else-is_empty-clause-none : goal.members_in_der-returns-else-is_empty-clause-none
+members_in_der-returns-else-is_empty-clause-none t c =
+    let rest = c.loop-member.rest.now in
+    let more = something_left rest c.is_empty.result c.is_empty.ensures c.if-is_empty.false in
+    λ wrong der are. no_members-past c.args.nodes.now c.args.members.now c.loop-member.member-index rest
+        c.loop-member-test.false more (c.loop-member.invariant.left (record { der = der; are = are }))
+
+pub one_in_der-returns-in_err-after-clause-none : goal.one_in_der-returns-in_err-after-clause-none
+one_in_der-returns-in_err-after-clause-none t c =
+    let p = err_from_is_err_and c.from_residual.result c.from_residual.ensures.1 in
+    rw (p.1, p.2) (λ some. no_one-front c.args.nodes.now c.args.index c.args.bytes.now
+    (c.in_err-after.ensures.none some))
+
+pub one_in_der-returns-in_default-clause-none : goal.one_in_der-returns-in_default-clause-none
+one_in_der-returns-in_default-clause-none t c =
+    let nodes = c.args.nodes.now in
+    let bytes = c.args.bytes.now in
+    let none : IsNonePushed nodes c.args.index bytes c.new-der.result.items c.push_element.new.der.items =
+    rw c.in_default.is at c.in_ok-after.ensures.ok in
+    λ wrong. no_one-tag nodes c.args.index bytes none.none
+
+pub one_in_der-returns-else-is_empty-clause-none : goal.one_in_der-returns-else-is_empty-clause-none
+one_in_der-returns-else-is_empty-clause-none t c =
+    let nodes = c.args.nodes.now in
+    let bytes = c.args.bytes.now in
+    let after = c.in-Some.after.now in
+    let old = c.new-der.result.items in
+    let new = c.push_element.new.der.items in
+    let pushed : IsPushed nodes c.args.index bytes after old new = rw c.in-Some.is at c.in_ok-after.ensures.ok in
+    λ wrong. no_one-more nodes c.args.index bytes after old new pushed
+        (something_left after c.is_empty.result c.is_empty.ensures c.if-is_empty.false)
+
+pub push_element-returns-in_err-content-clause-none : goal.push_element-returns-in_err-content-clause-none
+push_element-returns-in_err-content-clause-none t c =
+    let p = err_from_is_err_and c.from_residual.result c.from_residual.ensures.1 in
+    let element = c.in-Some.element in
+    rw (p.1, p.2) (λ some. no_front c.args.nodes.now c.args.index element.tag c.in-Some-inside_of.inside
+    c.args.bytes.now element.content.now element.after.now c.in-Some.ensures c.in-Some-inside_of.ensures.some
+    (c.in_err-content.ensures.none some))
+
+pub push_member-returns-in_err-after-clause-none : goal.push_member-returns-in_err-after-clause-none
+push_member-returns-in_err-after-clause-none t c =
+    let p = err_from_is_err_and c.from_residual.result c.from_residual.ensures.1 in
+    rw (p.1, p.2) (λ some. no_member-front c.args.nodes.now c.args.member.now c.args.bytes.now
+    (c.in_err-after.ensures.none some))
+
+pub push_member-returns-in-Required-clause-none : goal.push_member-returns-in-Required-clause-none
+push_member-returns-in-Required-clause-none t c =
+    let nodes = c.args.nodes.now in
+    let m = c.args.member.now in
+    let bytes = c.args.bytes.now in
+    let none : IsNonePushed nodes m.node bytes c.args.der.now.items c.push_element.new.der.items =
+    rw c.in_default.is at c.in_ok-after.ensures.ok in
+    λ wrong. no_member-tag nodes m bytes none.none c.in-Required.is
