@@ -57,11 +57,12 @@ lifted nodes i j bytes d f (IsOne.element _ tag x c k _ _ n it is e g) =
 
 one_alternative : (nodes : List Node) (i : ℕ) (node : Node) (cs : Bor (List Alternative))
     → slice_get nodes i ≡ Some node → node.kind ≡ kind.Choice cs → AreAlternativesApart nodes i cs.now
-    → (t : Tree) (it : IsAlternative nodes i cs.now t) (tag : ℕ) (x : Inside) → IsInside nodes it.alternative.node tag x → IsInside nodes i tag x
+    → (t : Tree) (it : IsAlternative nodes i cs.now t) (tag : ℕ) (x : Inside)
+    → IsInside nodes it.alternative.node tag x → IsInside nodes i tag x
 one_alternative nodes i node cs h e apart t it tag x here =
     let none : NoneBefore nodes i cs.now it.index tag =
     λ j a before is less has. apart j it.index a it.alternative before is it.is less it.less tag has
-        (tag_of nodes it.alternative.node tag x here) in
+    (tag_of nodes it.alternative.node tag x here) in
     IsInside.choice i tag node cs x h e
     (IsInsideOne.first i it.index tag cs.now it.alternative x it.is it.less none here)
 

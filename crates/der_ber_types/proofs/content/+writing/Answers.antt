@@ -276,7 +276,7 @@ each_in_der-returns-in_default-clause-none t c =
     let none : IsNonePushed nodes c.args.index rest c.loop-rest.der.items c.push_element.new.der.items =
     rw c.in_default.is at c.in_ok-after.ensures.ok in
     λ wrong der are. no_each-tag nodes c.args.index rest more none.none
-        (c.loop-rest.invariant.left (record { der = der; are = are }))
+    (c.loop-rest.invariant.left (record { der = der; are = are }))
 
 pub members_in_der-returns-in_err-rest-clause-none : goal.members_in_der-returns-in_err-rest-clause-none
 members_in_der-returns-in_err-rest-clause-none t c =
@@ -290,7 +290,7 @@ members_in_der-returns-else-is_empty-clause-none t c =
     let rest = c.loop-member.rest.now in
     let more = something_left rest c.is_empty.result c.is_empty.ensures c.if-is_empty.false in
     λ wrong der are. no_members-past c.args.nodes.now c.args.members.now c.loop-member.member-index rest
-        c.loop-member-test.false more (c.loop-member.invariant.left (record { der = der; are = are }))
+    c.loop-member-test.false more (c.loop-member.invariant.left (record { der = der; are = are }))
 
 pub one_in_der-returns-in_err-after-clause-none : goal.one_in_der-returns-in_err-after-clause-none
 one_in_der-returns-in_err-after-clause-none t c =
@@ -315,7 +315,7 @@ one_in_der-returns-else-is_empty-clause-none t c =
     let new = c.push_element.new.der.items in
     let pushed : IsPushed nodes c.args.index bytes after old new = rw c.in-Some.is at c.in_ok-after.ensures.ok in
     λ wrong. no_one-more nodes c.args.index bytes after old new pushed
-        (something_left after c.is_empty.result c.is_empty.ensures c.if-is_empty.false)
+    (something_left after c.is_empty.result c.is_empty.ensures c.if-is_empty.false)
 
 pub push_element-returns-in_err-content-clause-none : goal.push_element-returns-in_err-content-clause-none
 push_element-returns-in_err-content-clause-none t c =

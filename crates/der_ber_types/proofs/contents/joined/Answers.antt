@@ -34,10 +34,10 @@ returns-clause-ok c =
 pub returns-then-inner-ne4-clause-none : goal.returns-then-inner-ne4-clause-none
 returns-then-inner-ne4-clause-none c =
     λ wrong der are.
-        let rest = c.loop-rest.rest.now in
-        let part = c.in-Some.part in
-        no_parts-front rest
-            (something_left rest c.is_empty.result c.is_empty.ensures c.loop-rest-test.true)
-            (λ content after e. let same = tlv-fronts rest part.tag 0x04 part.content.now content part.after.now after
-            c.in-Some.ensures.is e in omega (arith, c.inner.ensures, c.if-inner-ne4.true, same.0))
-            (c.loop-rest.invariant.left (record { der = der; are = are }))
+    let rest = c.loop-rest.rest.now in
+    let part = c.in-Some.part in
+    no_parts-front rest
+    (something_left rest c.is_empty.result c.is_empty.ensures c.loop-rest-test.true)
+    (λ content after e. let same = tlv-fronts rest part.tag 0x04 part.content.now content part.after.now after
+    c.in-Some.ensures.is e in omega (arith, c.inner.ensures, c.if-inner-ne4.true, same.0))
+    (c.loop-rest.invariant.left (record { der = der; are = are }))

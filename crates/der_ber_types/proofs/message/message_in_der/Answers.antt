@@ -23,7 +23,7 @@ returns-in_default-clause-none c =
 
 pub returns-in_err-content-clause-none : goal.returns-in_err-content-clause-none
 returns-in_err-content-clause-none c =
-    let p = err_from_is_err_and c.from_residual.result c.from_residual.ensures.1 in
+    let p = err_from_is_err_and c.from_residual-in_err-content.result c.from_residual-in_err-content.ensures.1 in
     let m = c.in-Some.message in
     rw (p.1, p.2) (λ some. no_message-content c.args.types.now c.args.bytes.now m.identifier.now m.content.now
     c.in-Some-schema_in.schema c.in-Some.ensures (sym c.in-Some-schema_in.ensures) (c.in_err-content.ensures.none some))

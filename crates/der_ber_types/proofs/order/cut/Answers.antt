@@ -37,6 +37,6 @@ loop-rest-preserved c =
 pub returns-in_default-clause-none : goal.returns-in_default-clause-none
 returns-in_default-clause-none c =
     λ wrong elements are.
-        let rest = c.loop-rest.rest.now in
-        no_elements-front rest (something_left rest c.is_empty.result c.is_empty.ensures c.loop-rest-test.true)
-            c.in_default.ensures (c.loop-rest.invariant.left (record { elements = elements; are = are }))
+    let rest = c.loop-rest.rest.now in
+    no_elements-front rest (something_left rest c.is_empty.result c.is_empty.ensures c.loop-rest-test.true)
+    c.in_default.ensures (c.loop-rest.invariant.left (record { elements = elements; are = are }))
