@@ -1,8 +1,7 @@
 -- What calls refuse has no DER, and is no message.
-use Rattle.std.proofs.Common.{◌≡◌, ◌≢◌, ℕ, List, [], ◌∷◌, ◌++◌, Some, None, sym, ap, ◌∙◌, subst, append-nil, arith}
+use Rattle.std.proofs.Common.{◌≡◌, ◌≢◌, ℕ, List, [], ◌++◌, Some, None, sym, ap, ◌∙◌, subst, append-nil, arith}
 use Rattle.picky_der_core.specs.Element.{tlv}
 use Rattle.picky_der_core.specs.ElementLaws.{tlv_prefix, tlv-same}
-use Rattle.picky_der_core.specs.Tag.{number_of, IsTagNumber}
 use Rattle.der_ber.specs.declared.error.BerError.{BerError}
 use Rattle.der_ber.specs.declared.error.BerError.TheVariants as ber
 use Rattle.der_ber.specs.WholeStrings.{IsMadeWhole, AreNoneWhole}
@@ -19,7 +18,7 @@ use Rattle.der_ber_types.specs.Errors.{same_error, type_error}
 use Rattle.der_ber_types.specs.Message.{IsMessage, IsNoMessage, IsNoMessageBer, HasNoMessageBytes, IsNoElementWith}
 use Rattle.der_ber_types.specs.Message.{message_bytes, schema_in}
 use Rattle.der_ber_types.specs.Refusals.{IsRefusal, HasNoOne}
-use Rattle.der_ber_types.specs.ToDer.{IsBer, HasNoDer}
+use Rattle.der_ber_types.specs.ToDer.{HasNoDer}
 use Rattle.der_ber_types.proofs.Unique.{tlv-fronts}
 
 -- ---- values of a type

@@ -1,5 +1,5 @@
 -- The DER of each kind of types is its own BER.
-use Rattle.std.proofs.Common.{◌≡◌, ℕ, zero, suc, ◌<◌, List, [], ◌∷◌, Bool, true, false, Some, None, slice_get}
+use Rattle.std.proofs.Common.{◌≡◌, ℕ, zero, suc, ◌<◌, List, Bool, true, false, Some, None, slice_get}
 use Rattle.std.proofs.Common.{pos, inl, inr, refl, sym, ap, ◌∙◌, subst, arith, eqb-true}
 use Rattle.std.proofs.lemmas.Option.{slice_get_cases}
 use Rattle.std.specs.Borrow.{Bor}
@@ -9,7 +9,7 @@ use Rattle.picky_der_core.specs.declared.asn1.wrapper.Wrapper.{Wrapper}
 use Rattle.picky_der_core.specs.declared.asn1.wrapper.Wrapper.TheVariants.{OctetContainer, BitContainer, Explicit}
 use Rattle.picky_der_core.specs.declared.asn1.wrapper.Wrapper.TheVariants.{Implicit, Application, ImplicitList}
 use Rattle.picky_der_core.specs.Element.{tlv}
-use Rattle.picky_der_core.specs.Encoding.{der, implicit_content, content, encodings, list_content, list_tag}
+use Rattle.picky_der_core.specs.Encoding.{der, implicit_content, encodings, list_content, list_tag}
 use Rattle.picky_der_core.specs.EncodingLaws.{der-primitive, der-plain, der-raw, der-choice, der-wrapped_present}
 use Rattle.picky_der_core.specs.EncodingLaws.{implicit_content-plain, is_absent-readable, list_content-in_order}
 use Rattle.picky_der_core.specs.Integer.{integer_content}
@@ -24,7 +24,7 @@ use Rattle.picky_der_core.specs.WrapperLaws.{wrapper_tag_number, has_tag_number-
 use Rattle.der_types.specs.Denotes.{Denotes}
 use Rattle.der_types.specs.Notation.{Notation}
 use Rattle.der_types.specs.PrimitiveForm.{primitive_form}
-use Rattle.der_ber_types.proofs.Nodes.{before, one_node, past_end}
+use Rattle.der_error_path.proofs.Nodes.{before, one_node, past_end}
 use Rattle.der_schema.specs.NotationOf.{type_at, type_from, notation_of}
 use Rattle.der_schema.specs.declared.node.Alternative.{Alternative}
 use Rattle.der_schema.specs.declared.node.Kind.{Kind}

@@ -5,7 +5,6 @@ pub mod SetLemmas
 pub mod BitLemmas
 pub mod Writing
 pub mod Unique
-pub mod Nodes
 pub mod ListDer
 pub mod KindDer
 pub mod Refusals

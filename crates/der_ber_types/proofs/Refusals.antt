@@ -23,7 +23,7 @@ use Rattle.der_ber_types.specs.Reordered.{AreReordered, IsNotAhead}
 use Rattle.der_ber_types.proofs.BitLemmas.{AreBitsAfter}
 use Rattle.der_ber_types.proofs.InsideLemmas.{inside-same, tag_of}
 use Rattle.der_ber_types.proofs.Unique.{tlv-fronts, empty-some, bit-fronts, one-ahead, one-fronts, one-some}
-use Rattle.der_ber_types.proofs.Unique.{each-unique, order-unique, reordered-unique}
+use Rattle.der_ber_types.proofs.Unique.{each-unique, reordered-unique}
 
 -- ---- one element
 

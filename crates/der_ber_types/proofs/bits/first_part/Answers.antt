@@ -1,9 +1,10 @@
-use Rattle.std.proofs.Common.{◌≡◌, ◌≤◌, ◌∷◌, ℕ, List, length, get_or, sym, ap, ◌∙◌, arith}
+use Rattle.std.proofs.Common.{◌≡◌, ◌∷◌, length, get_or, sym, ap, ◌∙◌, arith}
 use Rattle.std.proofs.lemmas.Slice.{first_rest}
 use Rattle.std.specs.Prelude.{slice_range}
 use Rattle.der_ber_types.specs.Contents.{most_unused}
 use Rattle.der_ber_types.proofs.Refusals.{no_bit_part}
-use Rattle.der_ber_types.proofs.bits.first_part.Goals.{then-inner-ne3-via-then-inner-ne3, then-inner-ne3-via-else-inner-ne3+then-unused-most_unused}
+use Rattle.der_ber_types.proofs.bits.first_part.Goals.{then-inner-ne3-via-then-inner-ne3}
+use Rattle.der_ber_types.proofs.bits.first_part.Goals.{then-inner-ne3-via-else-inner-ne3+then-unused-most_unused}
 use Rattle.der_ber_types.proofs.bits.first_part.Goals as goal
 
 pub returns-in_default-content : goal.returns-in_default-content

@@ -16,7 +16,7 @@ use Rattle.der_ber_types.proofs.Refusals.{no_each-front, no_each-tag, no_members
 use Rattle.der_ber_types.proofs.Refusals.{no_one-tag, no_one-more, no_front, no_member-front, no_member-tag}
 use Rattle.der_ber_types.proofs.Refusals.{content-refused, no_content-parts, no_content-truth, no_content-members}
 use Rattle.der_ber_types.proofs.Refusals.{no_content-each, no_content-bits, no_content-one, no_content-order}
-use Rattle.der_ber_types.proofs.Refusals.{no_content-sorted, no_content-set, some-next, members-next}
+use Rattle.der_ber_types.proofs.Refusals.{no_content-sorted, some-next, members-next}
 use Rattle.der_ber_types.proofs.content.+writing.Goals as goal
 
 -- ---- content_in_der
@@ -82,7 +82,8 @@ content_in_der-members_in_der-requires-in-AnyOrder t c =
     c.in_ok-ordered-in-AnyOrder.ordered.items c.in_ok-ordered-in-AnyOrder.ensures in
     (omega (arith, c.decreases, same, ap length c.deref.ensures.value), tt)
 
-pub content_in_der-returns-in_ok-ordered-in-AnyOrder-clause-ok : goal.content_in_der-returns-in_ok-ordered-in-AnyOrder-clause-ok
+pub content_in_der-returns-in_ok-ordered-in-AnyOrder-clause-ok
+    : goal.content_in_der-returns-in_ok-ordered-in-AnyOrder-clause-ok
 content_in_der-returns-in_ok-ordered-in-AnyOrder-clause-ok t c =
     let nodes = c.args.nodes.now in
     let content = c.args.content.now in
@@ -94,7 +95,8 @@ content_in_der-returns-in_ok-ordered-in-AnyOrder-clause-ok t c =
     (AreMembers nodes members.now ordered) c.in-AnyOrder.is
     (λ der. IsContent.any_order members content ordered der order) c.members_in_der-in-AnyOrder.ensures.ok
 
-pub content_in_der-returns-in_ok-ordered-in-AnyOrder-clause-none : goal.content_in_der-returns-in_ok-ordered-in-AnyOrder-clause-none
+pub content_in_der-returns-in_ok-ordered-in-AnyOrder-clause-none
+    : goal.content_in_der-returns-in_ok-ordered-in-AnyOrder-clause-none
 content_in_der-returns-in_ok-ordered-in-AnyOrder-clause-none t c =
     let nodes = c.args.nodes.now in
     let content = c.args.content.now in
@@ -115,7 +117,8 @@ content_in_der-returns-in_ok-elements-in-Set-clause-ok t c =
     content-of c.args.nodes.now c.args.inside _ content c.in_order.result (AreInOrder elements) c.in-Set.is
     (λ der. IsContent.set c.in-Set.index content elements der each) c.in_order.ensures.ok
 
-pub content_in_der-returns-in_ok-elements-in-Set-clause-none : goal.content_in_der-returns-in_ok-elements-in-Set-clause-none
+pub content_in_der-returns-in_ok-elements-in-Set-clause-none
+    : goal.content_in_der-returns-in_ok-elements-in-Set-clause-none
 content_in_der-returns-in_ok-elements-in-Set-clause-none t c =
     let content = c.args.content.now in
     let elements = c.deref-in-Set.result.now in
@@ -253,8 +256,8 @@ push_element-returns t c =
       ok = pushed c.args.nodes.now c.args.index element.tag c.in-Some-inside_of.inside element.content.now content.items
           c.args.bytes.now element.after.now c.args.der.now.items c.push_header.new.bytes.items
           c.extend_from_slice.new.self.items c.deref.result.now c.tag_in_der.result c.len.result c.in-Some.ensures
-          c.in-Some-inside_of.ensures.some c.in_ok-content.ensures.ok c.tag_in_der.ensures size c.in_ok-push_header.ensures
-          c.in_ok-extend_from_slice.ensures.items c.deref.ensures.value;
+          c.in-Some-inside_of.ensures.some c.in_ok-content.ensures.ok c.tag_in_der.ensures size
+          c.in_ok-push_header.ensures c.in_ok-extend_from_slice.ensures.items c.deref.ensures.value;
       none = tt;
     }
 

@@ -1,7 +1,8 @@
-use Rattle.std.proofs.Common.{◌≡◌, ℕ, [], arith}
+use Rattle.std.proofs.Common.{arith}
 use Rattle.der_ber_types.proofs.CallRefusals.{none-with, other-with}
 use Rattle.der_ber_types.proofs.Writing.{something_left}
-use Rattle.der_ber_types.proofs.message.content_under.Goals.{else-inner-via-then-inner+else-is_empty, else-inner-via-else-inner}
+use Rattle.der_ber_types.proofs.message.content_under.Goals.{else-inner-via-then-inner+else-is_empty}
+use Rattle.der_ber_types.proofs.message.content_under.Goals.{else-inner-via-else-inner}
 use Rattle.der_ber_types.proofs.message.content_under.Goals as goal
 
 pub returns-in_default : goal.returns-in_default
