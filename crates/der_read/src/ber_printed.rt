@@ -119,12 +119,7 @@ fn ber_line(
 }
 
 // The same in words.
-fn ber_text(
-    alloc: Global,
-    size: usize,
-    der_size: usize,
-    is_der: bool,
-) -> Result<String, AllocError>
+fn ber_text(alloc: Global, size: usize, der_size: usize, is_der: bool) -> Result<String, AllocError>
     ensures { IfOk result (λ text. string_bytes text ≡ ber_text size der_size is_der) }
 {
     if is_der {
@@ -184,11 +179,7 @@ fn no_table_text(alloc: Global, named: MessageType) -> Result<String, AllocError
 }
 
 // Why bytes aren't BER of a value of a type.
-fn no_der_text(
-    alloc: Global,
-    named: MessageType,
-    error: ToDerError,
-) -> Result<String, AllocError>
+fn no_der_text(alloc: Global, named: MessageType, error: ToDerError) -> Result<String, AllocError>
     ensures { IfOk result (λ text. string_bytes text ≡ no_der_text named error) }
 {
     let word = named.word();
