@@ -33,8 +33,8 @@ pub fn print_file<W: WriteExt>(
 /// Writes the DER of the message whose BER or JSON is in a file, and returns the status.
 ///
 /// If the file can't be read or there is no table of the type, it says so on standard error, and the status is
-/// `Trouble`; if it isn't the BER or the JSON of a message, the status is `Refused`. The error is that of the output, or
-/// `OutOfMemory`.
+/// `Trouble`. If it isn't the BER or the JSON of a message, the status is `Refused`. The error is that of the output,
+/// or `OutOfMemory`.
 pub fn write_file<W: WriteExt>(
     rt: &HostRuntime,
     request: WriteRequest<'_>,

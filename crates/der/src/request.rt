@@ -3,7 +3,8 @@ ghost use Rattle.std.specs.Prelude.{◌≡◌, ◌≢◌, ◌<◌, ◌↔◌, If
 ghost use Rattle.std.specs.Prelude.{codes, true};
 ghost use Rattle.clap.specs.Words.{found_of, first_value};
 ghost use Rattle.der.specs.Request.{HasForm, HasFormat, AreShowOptions, IsNoOffset, IsSignersRequest, IsWanted};
-ghost use Rattle.der.specs.Request.{IsAction, IsNoAction, IsFaulty, IsInBer, is_dash, standard_inputs, has_no_type, type_in_ber};
+ghost use Rattle.der.specs.Request.{IsAction, IsNoAction, IsFaulty, IsInBer, is_dash, standard_inputs};
+ghost use Rattle.der.specs.Request.{has_no_type, type_in_ber};
 
 use clap::ArgMatches;
 use der_program_base::{Form, Format, read_input, shown};

@@ -29,11 +29,11 @@ pub enum BerPrinted {
     Refused(Printed),
 }
 
-/// Reads bytes as BER of a message of a type, by the table of the type, and returns the line on them, and their DER:
-/// `FILE: BER, 1045 bytes; its DER has 1020 bytes`, or `FILE: DER, 1020 bytes` if they are the DER. The line begins with
-/// the file and, for a block of PEM, its number.
+/// Reads bytes as BER of a message of a type, by the table of the type, and returns the line on them and their DER. The
+/// line is `FILE: BER, 1045 bytes; its DER has 1020 bytes`, or `FILE: DER, 1020 bytes` if they are in DER. It begins
+/// with the file and, for a block of PEM, its number.
 ///
-/// The DER is read as a message by none but the type's table, so `read_message` can refuse it.
+/// Contents are looked at as far as BER needs it, so `read_message` can refuse the DER.
 pub fn read_ber(
     alloc: Global,
     format: Format,
