@@ -449,8 +449,7 @@ picky_der_code picky_der_path(uint32_t number, const uint8_t *bytes, size_t byte
 
 /* Checks the bytes as picky_der_check does, writes to position what that writes, appends the JSON of the
  * message (X.697) to the first used bytes of out, and adds its length to used. It is UTF-8 on one line,
- * without a zero at its end. It is made by a table of the type, which all types have but krb, enveloped-data,
- * authenticated-data and auth-enveloped-data.
+ * without a zero at its end. It is made by a table of the type, which all types have but krb.
  * Returns PICKY_DER_OK, or PICKY_DER_NO_ROOM as picky_der_put does. Returns what picky_der_check returns if
  * the bytes aren't a message, PICKY_DER_NO_TABLE if the type has no table, and PICKY_DER_UNSUPPORTED if a
  * number in the message has too many digits, or the JSON too many bytes. Then out and used are as they were. */

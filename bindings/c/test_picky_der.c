@@ -222,10 +222,10 @@ static void path(const struct input *it) {
     used = SIZE_MAX - 1;
     need(picky_der_path(PICKY_DER_TYPE_CERTIFICATE, bytes, it->len, out, sizeof out, &used) == PICKY_DER_UNSUPPORTED && used == SIZE_MAX - 1, "a path past all memory");
     need(picky_der_path(0, bytes, it->len, out, sizeof out, &used) == PICKY_DER_UNKNOWN_TYPE, "the path by no type");
-    const uint8_t padded[] = {0x30, 6, 2, 2, 0, 0, 5, 0};
+    const uint8_t padded[] = {0x6b, 8, 0x30, 6, 0xa0, 4, 2, 2, 0, 5};
     used = 0;
-    need(picky_der_path(PICKY_DER_TYPE_ENVELOPED_DATA, padded, sizeof padded, out, sizeof out, &used) == PICKY_DER_OK, "a path");
-    need(used == 3 && memcmp(out, "0.0", 3) == 0, "a path by numbers");
+    need(picky_der_path(PICKY_DER_TYPE_KRB, padded, sizeof padded, out, sizeof out, &used) == PICKY_DER_OK, "a path");
+    need(used == 7 && memcmp(out, "0.0.0.0", 7) == 0, "a path by numbers");
     free(bytes);
 }
 

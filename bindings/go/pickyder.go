@@ -137,7 +137,7 @@ func refusalOf(message Message, bytes []byte, code C.picky_der_code, position C.
 }
 
 // ToJSON returns the JSON of a message of the type (X.697), on one line. It is made by a table of the type, which all types have but
-// Krb, EnvelopedData, AuthenticatedData and AuthEnvelopedData.
+// Krb.
 //
 // It returns what Check returns if the bytes aren't such a message, ErrNoTable if the type has no table, and an *Error with the code
 // Unsupported if a number in the message has too many digits.

@@ -124,8 +124,8 @@ func TestPaths(t *testing.T) {
 	if !errors.As(Check(Certificate, der), &why) || why.Path != "tbsCertificate.signature.algorithm" || !strings.Contains(why.Error(), ", tbsC") {
 		t.Error("a path by names", why)
 	}
-	padded := []byte{0x30, 6, 2, 2, 0, 0, 5, 0}
-	if !errors.As(Check(EnvelopedData, padded), &why) || why.Path != "0.0" {
+	padded := []byte{0x6b, 8, 0x30, 6, 0xa0, 4, 2, 2, 0, 5}
+	if !errors.As(Check(Krb, padded), &why) || why.Path != "0.0.0.0" {
 		t.Error("a path by numbers", why)
 	}
 }

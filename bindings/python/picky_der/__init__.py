@@ -166,8 +166,8 @@ def check(name: str, data: Data) -> None:
 def to_json(name: str, data: Data) -> str:
     """Returns the JSON of a message (X.697) on one line.
 
-    It raises what `check` raises, and KeyError also for the types that have no table: ``krb``, ``enveloped-data``,
-    ``authenticated-data`` and ``auth-enveloped-data``. It raises DecodeError with the code UNSUPPORTED if a number in the message has too many digits.
+    It raises what `check` raises, and KeyError also for ``krb``, which has no table. It raises DecodeError with the code UNSUPPORTED if a number in
+    the message has too many digits.
     """
     number = TYPES.get(name) or _tables.NAMES[name]
     der, position = _bytes(data), c_size_t()

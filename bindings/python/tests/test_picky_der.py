@@ -122,9 +122,9 @@ class Tests(unittest.TestCase):
         error = self.refused("certificate", der[:algorithm] + b"\x04" + der[algorithm + 1 :])
         self.assertEqual(error.path, "tbsCertificate.signature.algorithm")
         self.assertIn(f"at {error.position}, tbsCertificate.signature.algorithm: ", str(error))
-        padded = self.refused("enveloped-data", bytes.fromhex("3006020200000500"))
-        self.assertEqual((padded.rule, padded.path), ("padded_integer", "0.0"))
-        self.assertEqual([self.refused("enveloped-data", it).path for it in (b"", b"\x30", b"\x05\x00")], ["", "", ""])
+        padded = self.refused("krb", bytes.fromhex("6B083006A00402020005"))
+        self.assertEqual((padded.rule, padded.path), ("padded_integer", "0.0.0.0"))
+        self.assertEqual([self.refused("krb", it).path for it in (b"", b"\x30", b"\x05\x00")], ["", "", ""])
 
     def test_json(self) -> None:
         """A certificate has its members in JSON, by the names of its type."""

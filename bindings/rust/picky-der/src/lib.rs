@@ -36,7 +36,7 @@ impl Message {
     }
 
     /// The JSON of a message of the type (X.697), on one line. It is made by a table of the type, which all types have
-    /// but `Krb`, `EnvelopedData`, `AuthenticatedData` and `AuthEnvelopedData`.
+    /// but `Krb`.
     ///
     /// # Errors
     /// Those of `check` if the bytes aren't such a message. `Reason::NoTable` if the type has no table, and `Reason::Unsupported` if a number

@@ -105,8 +105,8 @@ fn paths() {
     let error = Message::Certificate.check(&der).unwrap_err();
     assert_eq!(error.path, "tbsCertificate.signature.algorithm");
     assert_eq!(error.to_string(), format!("at {}, tbsCertificate.signature.algorithm: not such a message", error.position));
-    let padded = [0x30, 6, 2, 2, 0, 0, 5, 0];
-    assert_eq!(Message::EnvelopedData.check(&padded).unwrap_err().path, "0.0");
+    let padded = [0x6b, 8, 0x30, 6, 0xa0, 4, 2, 2, 0, 5];
+    assert_eq!(Message::Krb.check(&padded).unwrap_err().path, "0.0.0.0");
 }
 
 #[test]
