@@ -21,9 +21,12 @@ use Rattle.der_read.specs.Paths.{HasNoSchema, IsSchemaOf}
 abbrev pub IsContent : List ℕ → MessageType → ContentType → Type 0
 IsContent identifier t content = (content.identifier.now ≡ identifier) × IsSchemaOf t content.schema
 
--- the contents of their identifiers (RFC 5652, 5.1, 7 and 8)
+-- the contents of their identifiers (RFC 5652, 5.1, 6.1, 7, 8 and 9.1; RFC 5083, 2.1)
 abbrev pub id_signed_data : List ℕ
 id_signed_data = 0x2A ∷ 0x86 ∷ 0x48 ∷ 0x86 ∷ 0xF7 ∷ 0x0D ∷ 0x01 ∷ 0x07 ∷ 0x02 ∷ []
+
+abbrev pub id_enveloped_data : List ℕ
+id_enveloped_data = 0x2A ∷ 0x86 ∷ 0x48 ∷ 0x86 ∷ 0xF7 ∷ 0x0D ∷ 0x01 ∷ 0x07 ∷ 0x03 ∷ []
 
 abbrev pub id_digested_data : List ℕ
 id_digested_data = 0x2A ∷ 0x86 ∷ 0x48 ∷ 0x86 ∷ 0xF7 ∷ 0x0D ∷ 0x01 ∷ 0x07 ∷ 0x05 ∷ []
@@ -31,15 +34,27 @@ id_digested_data = 0x2A ∷ 0x86 ∷ 0x48 ∷ 0x86 ∷ 0xF7 ∷ 0x0D ∷ 0x01 �
 abbrev pub id_encrypted_data : List ℕ
 id_encrypted_data = 0x2A ∷ 0x86 ∷ 0x48 ∷ 0x86 ∷ 0xF7 ∷ 0x0D ∷ 0x01 ∷ 0x07 ∷ 0x06 ∷ []
 
+abbrev pub id_authenticated_data : List ℕ
+id_authenticated_data = 0x2A ∷ 0x86 ∷ 0x48 ∷ 0x86 ∷ 0xF7 ∷ 0x0D ∷ 0x01 ∷ 0x09 ∷ 0x10 ∷ 0x01 ∷ 0x02 ∷ []
+
+abbrev pub id_auth_enveloped_data : List ℕ
+id_auth_enveloped_data = 0x2A ∷ 0x86 ∷ 0x48 ∷ 0x86 ∷ 0xF7 ∷ 0x0D ∷ 0x01 ∷ 0x09 ∷ 0x10 ∷ 0x01 ∷ 0x17 ∷ []
+
 -- those that have a table
 pub record AreContents (types : List ContentType) : Type 0 where
   pub signed : ContentType
+  pub enveloped : ContentType
   pub digested : ContentType
   pub encrypted : ContentType
-  pub are : types ≡ signed ∷ digested ∷ encrypted ∷ []
+  pub authenticated : ContentType
+  pub auth_enveloped : ContentType
+  pub are : types ≡ signed ∷ enveloped ∷ digested ∷ encrypted ∷ authenticated ∷ auth_enveloped ∷ []
   pub is_signed : IsContent id_signed_data named.SignedData signed
+  pub is_enveloped : IsContent id_enveloped_data named.EnvelopedData enveloped
   pub is_digested : IsContent id_digested_data named.DigestedData digested
   pub is_encrypted : IsContent id_encrypted_data named.EncryptedData encrypted
+  pub is_authenticated : IsContent id_authenticated_data named.AuthenticatedData authenticated
+  pub is_auth_enveloped : IsContent id_auth_enveloped_data named.AuthEnvelopedData auth_enveloped
 
 -- ---- the DER
 
