@@ -137,7 +137,7 @@ func refusalOf(message Message, bytes []byte, code C.picky_der_code, position C.
 }
 
 // ToJSON returns the JSON of a message of the type (X.697), on one line. It is made by a table of the type, which all types have but
-// Krb, EnvelopedData, AuthenticatedData and AuthEnvelopedData.
+// Krb.
 //
 // It returns what Check returns if the bytes aren't such a message, ErrNoTable if the type has no table, and an *Error with the code
 // Unsupported if a number in the message has too many digits.
@@ -170,6 +170,31 @@ func FromJSON(message Message, json string) ([]byte, error) {
 	})
 	if code == C.PICKY_DER_NO_VALUE {
 		return nil, &JSONError{string(der)}
+	}
+	if err := errorOf(code, 0); err != nil {
+		return nil, err
+	}
+	return der, nil
+}
+
+// A BERError says why bytes aren't BER of a message of a type, and where.
+type BERError struct {
+	Reason string
+}
+
+func (e *BERError) Error() string { return "pickyder: " + e.Reason }
+
+// FromBER returns the DER of the message of the type that these bytes are in BER (X.690, 8). Check accepts it. It is made by a table of the
+// type, as ToJSON has one, and the content of Cms by its own type, if that has a table.
+//
+// It returns a *BERError if the bytes aren't BER of a message of the type, ErrNoTable if the type has no table, and ErrNoMemory if memory
+// ran out.
+func FromBER(message Message, bytes []byte) ([]byte, error) {
+	code, der := written(256+len(bytes), func(out []byte, used *C.size_t) C.picky_der_code {
+		return C.picky_der_from_ber(C.uint32_t(message), pointer(bytes), C.size_t(len(bytes)), pointer(out), C.size_t(len(out)), used)
+	})
+	if code == C.PICKY_DER_NO_VALUE {
+		return nil, &BERError{string(der)}
 	}
 	if err := errorOf(code, 0); err != nil {
 		return nil, err

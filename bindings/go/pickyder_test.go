@@ -124,8 +124,8 @@ func TestPaths(t *testing.T) {
 	if !errors.As(Check(Certificate, der), &why) || why.Path != "tbsCertificate.signature.algorithm" || !strings.Contains(why.Error(), ", tbsC") {
 		t.Error("a path by names", why)
 	}
-	padded := []byte{0x30, 6, 2, 2, 0, 0, 5, 0}
-	if !errors.As(Check(EnvelopedData, padded), &why) || why.Path != "0.0" {
+	padded := []byte{0x6b, 8, 0x30, 6, 0xa0, 4, 2, 2, 0, 5}
+	if !errors.As(Check(Krb, padded), &why) || why.Path != "0.0.0.0" {
 		t.Error("a path by numbers", why)
 	}
 }
@@ -157,6 +157,30 @@ func TestJSON(t *testing.T) {
 		}
 	}
 	if _, err := FromJSON(Krb, "{}"); err != ErrNoTable {
+		t.Error("a type without a table", err)
+	}
+}
+
+func TestBER(t *testing.T) {
+	der := inputs(t)[0].der
+	header := 2
+	if der[1] >= 0x80 {
+		header += int(der[1] & 0x7F)
+	}
+	form := append(append([]byte{0x30, 0x80}, der[header:]...), 0, 0)
+	if Check(Certificate, form) == nil {
+		t.Error("BER is DER")
+	}
+	if again, err := FromBER(Certificate, form); err != nil || !bytes.Equal(again, der) {
+		t.Error("a certificate from its BER", err)
+	}
+	var refusal *BERError
+	for _, wrong := range [][]byte{form[:len(form)-2], {}, {0x30, 0}} {
+		if _, err := FromBER(Certificate, wrong); !errors.As(err, &refusal) || refusal.Reason == "" {
+			t.Error("BER of no certificate", wrong, err)
+		}
+	}
+	if _, err := FromBER(Krb, form); err != ErrNoTable {
 		t.Error("a type without a table", err)
 	}
 }

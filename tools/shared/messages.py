@@ -3,9 +3,11 @@ from collections.abc import Iterable, Iterator
 from pathlib import Path
 
 from .crates import ROOT
-from .der import number
+from .der import element, inside, number, place_of
 
 DATA = ROOT / "data"
+# the folders with messages of DER
+FOLDERS = ("cms", "pkix", "kerberos", "bouncycastle", "keys", "rfc")
 
 # the steps to the nonce of a request, and of what is encrypted in a response (RFC 4120, 5.4.1, 5.4.2)
 NONCES: dict[str, tuple[int, ...]] = {
@@ -25,6 +27,20 @@ def listed(parts: Iterable[str]) -> Iterator[tuple[str, str]]:
 def file_of(name: str) -> Path:
     """The file of a message, or the one that it is a part of."""
     return DATA / name.partition(":")[0]
+
+
+def steps_of(text: str) -> list[int]:
+    """The steps that a text has, with dots between them."""
+    return [int(it, 16) for it in text.split(".")] if text else []
+
+
+def bytes_of(name: str) -> bytes:
+    """The bytes of a message: of a file, or of what steps in it lead to. With a dot at their end it is the element, and else its content."""
+    steps, data = name.partition(":")[2], file_of(name).read_bytes()
+    if steps.endswith("."):
+        begin = place_of(data, *steps_of(steps[:-1]))
+        return data[begin : element(data, begin)[2]]
+    return inside(data, *steps_of(steps)) if steps else data
 
 
 def has_negative_nonce(kind: str, data: bytes) -> bool:

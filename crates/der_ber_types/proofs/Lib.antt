@@ -5,4 +5,8 @@ pub mod SetLemmas
 pub mod BitLemmas
 pub mod Writing
 pub mod Unique
+pub mod ListDer
+pub mod KindDer
+pub mod Refusals
+pub mod CallRefusals
 pub mod LawLemmas

@@ -25,11 +25,11 @@ tlv-some : (tag : ℕ) (content rest : List ℕ) → [] ≡ tlv tag content ++ r
 unfolding tlv
 tlv-some tag content rest e = cc
 
-empty-some : (bytes : List ℕ) (tag : ℕ) (content rest : List ℕ) → bytes ≡ [] → bytes ≡ tlv tag content ++ rest → ⊥
+pub empty-some : (bytes : List ℕ) (tag : ℕ) (content rest : List ℕ) → bytes ≡ [] → bytes ≡ tlv tag content ++ rest → ⊥
 empty-some bytes tag content rest e f = tlv-some tag content rest (sym e ∙ f)
 
 -- the front is the same
-tlv-fronts : (bytes : List ℕ) (t u : ℕ) (c v r s : List ℕ) → bytes ≡ tlv t c ++ r → bytes ≡ tlv u v ++ s
+pub tlv-fronts : (bytes : List ℕ) (t u : ℕ) (c v r s : List ℕ) → bytes ≡ tlv t c ++ r → bytes ≡ tlv u v ++ s
     → (t ≡ u) × (c ≡ v) × (r ≡ s)
 tlv-fronts bytes t u c v r s e f = tlv_prefix t u c v r s (sym e ∙ f)
 
@@ -63,7 +63,7 @@ parts-unique b d e (AreParts.more c rest others _ _ are p f) (AreParts.more v la
     parts-unique rest others more are (subst (λ l. AreParts l more) (sym same.2) also) in
     f ∙ ap₂ (λ x y. x ++ y) same.1 ends ∙ sym g
 
-bit-fronts : (b : List ℕ) (u w : ℕ) (c v r s : List ℕ) → IsBitPart b u c r → IsBitPart b w v s
+pub bit-fronts : (b : List ℕ) (u w : ℕ) (c v r s : List ℕ) → IsBitPart b u c r → IsBitPart b w v s
     → (u ≡ w) × (c ≡ v) × (r ≡ s)
 bit-fronts b u w c v r s p q =
     let same = tlv-fronts b 0x03 0x03 (u ∷ c) (w ∷ v) r s p.is q.is in
@@ -115,7 +115,7 @@ elements-unique (e ∷ es) (f ∷ fs) p q h =
     let first : e ≡ f = p.0.is ∙ ap₂ tlv same.0 same.1 ∙ sym q.0.is in
     ap₂ (λ x xs. x ∷ xs) first (elements-unique es fs p.1 q.1 same.2)
 
-order-unique : (b d e : List ℕ) → AreInOrder b d → AreInOrder b e → d ≡ e
+pub order-unique : (b d e : List ℕ) → AreInOrder b d → AreInOrder b e → d ≡ e
 order-unique b d e p q =
     let same = elements-unique p.elements q.elements p.are_elements.each q.are_elements.each
     (sym p.are_elements.is ∙ q.are_elements.is) in
@@ -180,7 +180,7 @@ first-none nodes i b xs ys e r s t c (AreOthers.more w d rest _ n un others p)
     let same = tlv-fronts b w z d f (rest ++ (e ++ r)) (last ++ s) begins other in
     first-none nodes i (rest ++ (e ++ r)) rest last e r s t c others latter h is none g refl same.2
 
-reordered-unique : (nodes : List Node) (ms : List Member) (b d e : List ℕ) → AreReordered nodes ms b d
+pub reordered-unique : (nodes : List Node) (ms : List Member) (b d e : List ℕ) → AreReordered nodes ms b d
     → AreReordered nodes ms b e → d ≡ e
 reordered-unique nodes ms b d e (AreReordered.end _ _ f) (AreReordered.end _ _ g) = f ∙ sym g
 reordered-unique nodes ms b d e (AreReordered.present m ns xs x r others _ _ p are f)
@@ -220,7 +220,7 @@ one-fronts nodes i j bytes a b d e r s (IsOne.element _ t x c _ _ _ n it is p f)
     let same = tlv-fronts bytes t u c v r s (whole ∙ ap (λ l. l ++ r) p) (also ∙ ap (λ l. l ++ s) q) in
     (p ∙ ap₂ tlv same.0 same.1 ∙ sym q, same.2)
 
-one-some : (nodes : List Node) (i : ℕ) (bytes element d rest : List ℕ) → IsOne nodes i element d → bytes ≡ []
+pub one-some : (nodes : List Node) (i : ℕ) (bytes element d rest : List ℕ) → IsOne nodes i element d → bytes ≡ []
     → bytes ≡ element ++ rest → ⊥
 one-some nodes i bytes element d rest one e whole =
     let a = one-ahead nodes i bytes element d rest one whole in
@@ -235,7 +235,7 @@ mutual
       subst (λ w. IsContent nodes w c l) (sym inner) (subst (λ w. IsContent nodes y w l) (sym same.1) iz) in
       f ∙ ap₂ tlv (ap₂ tag_in_der inner same.0) (content-unique nodes x c k l is other) ∙ sym g
 
-  each-unique : (nodes : List Node) (i : ℕ) (b d e : List ℕ) → AreEach nodes i b d → AreEach nodes i b e → d ≡ e
+  pub each-unique : (nodes : List Node) (i : ℕ) (b d e : List ℕ) → AreEach nodes i b d → AreEach nodes i b e → d ≡ e
   each-unique nodes i b d e (AreEach.no_more _ _ _ p f) (AreEach.no_more _ _ _ q g) = f ∙ sym g
   each-unique nodes i b d e (AreEach.no_more _ _ _ p f) (AreEach.more _ y k s more _ _ one also q g) =
       absurd (one-some nodes i b y k s one p q)

@@ -6,6 +6,8 @@ pub mod Contents
 pub mod Order
 pub mod Content
 pub mod Pushed
+pub mod Tables
+pub mod Refusals
 pub mod ToDer
 pub mod Errors
 pub mod Message

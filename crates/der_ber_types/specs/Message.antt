@@ -2,6 +2,7 @@
 use Rattle.std.specs.Prelude.{◌≡◌, ℕ, List, [], ◌∷◌, ◌++◌, Option, Some, None, nat_eq, if◌then◌else◌}
 use Rattle.std.specs.Cmp.Lexicographic.{pointwise}
 use Rattle.picky_der_core.specs.Element.{tlv}
+use Rattle.picky_der_core.specs.Tag.{number_of, IsTagNumber}
 use Rattle.der_schema.specs.declared.node.Schema.{Schema}
 use Rattle.der_ber.specs.WholeStrings.{IsMadeWhole}
 use Rattle.der_ber_types.specs.declared.message.ContentType.{ContentType}
@@ -30,3 +31,18 @@ pub record IsMessageBer (types : List ContentType) (bytes der : List ℕ) : Type
   pub whole : List ℕ
   pub has_lengths : IsMadeWhole bytes whole
   pub is_message : IsMessage types whole der
+
+-- they are none
+abbrev pub IsNoMessage : List ContentType → List ℕ → Type 0
+IsNoMessage types bytes = (der : List ℕ) → IsMessage types bytes der → ⊥
+
+abbrev pub IsNoMessageBer : List ContentType → List ℕ → Type 0
+IsNoMessageBer types bytes = (der : List ℕ) → IsMessageBer types bytes der → ⊥
+
+-- not with any identifier and content
+abbrev pub HasNoMessageBytes : List ℕ → Type 0
+HasNoMessageBytes bytes = (identifier content : List ℕ) → bytes ≡ message_bytes identifier content → ⊥
+
+-- nor one element with this tag
+abbrev pub IsNoElementWith : ℕ → List ℕ → Type 0
+IsNoElementWith tag bytes = IsTagNumber (number_of tag) → (content : List ℕ) → bytes ≡ tlv tag content → ⊥

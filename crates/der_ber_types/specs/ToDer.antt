@@ -10,3 +10,7 @@ pub record IsBer (nodes : List Node) (i : ℕ) (bytes der : List ℕ) : Type 0 w
   pub whole : List ℕ
   pub has_lengths : IsMadeWhole bytes whole
   pub is_one : IsOne nodes i whole der
+
+-- the bytes are BER of no value of the type
+abbrev pub HasNoDer : List Node → ℕ → List ℕ → Type 0
+HasNoDer nodes i bytes = (der : List ℕ) → IsBer nodes i bytes der → ⊥

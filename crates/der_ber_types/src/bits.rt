@@ -1,7 +1,8 @@
 //! BIT STRINGs in parts (X.690, 8.6.4).
-ghost use Rattle.std.specs.Prelude.{◌≡◌, ◌≤◌, ◌++◌, ◌∷◌, IfOk, IfSome};
+ghost use Rattle.std.specs.Prelude.{◌≡◌, ◌≤◌, ◌++◌, ◌∷◌, IfOk, IfErr, MatchOption};
 ghost use Rattle.picky_der_core.specs.Element.{tlv};
 ghost use Rattle.der_ber_types.specs.Contents.{AreJoinedBits, IsBitPart, most_unused};
+ghost use Rattle.der_ber_types.specs.Refusals.{IsRefusal, AreNoBits, IsNoBitPart};
 
 use crate::error::TypeError;
 use der_path::first_element;
@@ -9,7 +10,8 @@ use std::alloc::Global;
 
 // The content of one bit string with the bits of those of which the bytes are made.
 pub(crate) fn joined_bits(alloc: Global, bytes: &[u8]) -> Result<Vec<u8>, TypeError>
-    ensures { IfOk result (λ der. AreJoinedBits bytes.now der.items) }
+    ensures ok { IfOk result (λ der. AreJoinedBits bytes.now der.items) }
+    ensures none { IfErr result (IsRefusal (AreNoBits bytes.now)) }
 {
     let mut bits = Vec::new(alloc);
     let mut unused = 0;
@@ -43,7 +45,8 @@ pub(crate) struct BitPart<'a> {
 
 // The bit string at the front of bytes, or `None` if there is none.
 fn first_part(bytes: &[u8]) -> Option<BitPart<'_>>
-    ensures { IfSome result (λ it. IsBitPart bytes.now it.unused it.bits.now it.after.now) }
+    ensures { MatchOption result (IsNoBitPart bytes.now)
+        (λ it. IsBitPart bytes.now it.unused it.bits.now it.after.now) }
 {
     let Some(element) = first_element(bytes) else {
         return None;

@@ -1,7 +1,7 @@
 //! DER of a value by its schema.
-ghost use Rattle.std.specs.Prelude.{IfOk, IfErr};
+ghost use Rattle.std.specs.Prelude.{◌≢◌, IfOk, IfErr};
 ghost use Rattle.der_ber_types.specs.Errors.{IsRefusedByType};
-ghost use Rattle.der_ber_types.specs.ToDer.{IsBer};
+ghost use Rattle.der_ber_types.specs.ToDer.{IsBer, HasNoDer};
 
 use crate::ToDerError;
 use crate::content::one_in_der;
@@ -21,13 +21,15 @@ use std::alloc::Global;
 ///
 /// `Broken` if the bytes aren't elements in BER, as `with_whole_strings` says. `OtherType` if they aren't one element
 /// of the type: a member is missing, there is one more, a tag is another, or a string has other parts than its type
-/// allows. `OutOfMemory` if an allocation fails.
+/// allows. `OutOfMemory` if an allocation fails. After each other error the bytes are BER of no value of the type.
 ///
 /// Each level of the type copies its content, and a set is sorted. Otherwise the time and the memory are linear in the
 /// number of bytes.
 pub fn to_der(alloc: Global, schema: Schema, bytes: &[u8]) -> Result<Vec<u8>, ToDerError>
     ensures ok { IfOk result (λ der. IsBer schema.nodes.now schema.root bytes.now der.items) }
     ensures err { IfErr result (IsRefusedByType bytes.now) }
+    ensures none { IfErr result (λ e.
+        e ≢ ToDerError.OutOfMemory → HasNoDer schema.nodes.now schema.root bytes.now) }
 {
     let whole = with_whole_strings(alloc, bytes)?;
     Ok(one_in_der(alloc, schema.nodes, schema.root, &whole)?)

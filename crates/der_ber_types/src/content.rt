@@ -1,7 +1,16 @@
 //! Elements in DER by their types.
-ghost use Rattle.std.specs.Prelude.{IfOk, MatchOption};
+ghost use Rattle.std.specs.Prelude.{IfOk, IfErr, MatchOption};
 ghost use Rattle.der_ber_types.specs.Content.{IsContent, AreEach, IsOne, AreMembers};
 ghost use Rattle.der_ber_types.specs.Pushed.{IsPushed, IsNonePushed, IsMemberPushed};
+ghost use Rattle.der_ber_types.specs.Refusals.{
+  IsRefusal,
+  HasNoContent,
+  HasNoOne,
+  HasNoEach,
+  HasNoFront,
+  HasNoMember,
+  HasNoMembers,
+};
 
 use crate::bits::joined_bits;
 use crate::contents::{copied, joined, push_header, truth};
@@ -22,12 +31,17 @@ pub(crate) fn one_in_der(
     index: u16,
     bytes: &[u8],
 ) -> Result<Vec<u8>, TypeError>
-    ensures { IfOk result (λ der. IsOne nodes.now index bytes.now der.items) }
+    ensures ok { IfOk result (λ der. IsOne nodes.now index bytes.now der.items) }
+    ensures none { IfErr result (IsRefusal (HasNoOne nodes.now index bytes.now)) }
 {
     let mut der = Vec::new(alloc);
-    match push_element(alloc, nodes, index, bytes, &mut der)? {
-        Some([]) => Ok(der),
-        _ => Err(TypeError::OtherType),
+    let Some(after) = push_element(alloc, nodes, index, bytes, &mut der)? else {
+        return Err(TypeError::OtherType);
+    };
+    if after.is_empty() {
+        Ok(der)
+    } else {
+        Err(TypeError::OtherType)
     }
 }
 
@@ -39,7 +53,8 @@ fn each_in_der(
     index: u16,
     bytes: &[u8],
 ) -> Result<Vec<u8>, TypeError>
-    ensures { IfOk result (λ der. AreEach nodes.now index bytes.now der.items) }
+    ensures ok { IfOk result (λ der. AreEach nodes.now index bytes.now der.items) }
+    ensures none { IfErr result (IsRefusal (HasNoEach nodes.now index bytes.now)) }
 {
     let mut der = Vec::new(alloc);
     let mut rest = bytes;
@@ -60,7 +75,8 @@ fn members_in_der(
     members: &[Member],
     bytes: &[u8],
 ) -> Result<Vec<u8>, TypeError>
-    ensures { IfOk result (λ der. AreMembers nodes.now members.now bytes.now der.items) }
+    ensures ok { IfOk result (λ der. AreMembers nodes.now members.now bytes.now der.items) }
+    ensures none { IfErr result (IsRefusal (HasNoMembers nodes.now members.now bytes.now)) }
 {
     let mut der = Vec::new(alloc);
     let mut rest = bytes;
@@ -86,6 +102,7 @@ fn push_member<'a>(
 ) -> Result<&'a [u8], TypeError>
     ensures ok { IfOk result (λ after.
         IsMemberPushed nodes.now member.now bytes.now after.now der.old.items der.new.items) }
+    ensures none { IfErr result (IsRefusal (HasNoMember nodes.now member.now bytes.now)) }
 {
     let place = der.len();
     let Some(after) = push_element(alloc, nodes, member.node, bytes, der)? else {
@@ -113,6 +130,7 @@ fn push_element<'a>(
     ensures ok { IfOk result (λ found. MatchOption found
         (IsNonePushed nodes.now index bytes.now der.old.items der.new.items)
         (λ after. IsPushed nodes.now index bytes.now after.now der.old.items der.new.items)) }
+    ensures none { IfErr result (IsRefusal (HasNoFront nodes.now index bytes.now)) }
 {
     let Some(element) = first_element(bytes) else {
         return Ok(None);
@@ -134,7 +152,8 @@ fn content_in_der(
     inside: Inside,
     content: &[u8],
 ) -> Result<Vec<u8>, TypeError>
-    ensures { IfOk result (λ der. IsContent nodes.now inside content.now der.items) }
+    ensures ok { IfOk result (λ der. IsContent nodes.now inside content.now der.items) }
+    ensures none { IfErr result (IsRefusal (HasNoContent nodes.now inside content.now)) }
 {
     match inside {
         Inside::Same | Inside::Number | Inside::Octets | Inside::Bits => Ok(copied(

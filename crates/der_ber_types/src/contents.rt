@@ -1,7 +1,8 @@
 //! Contents in DER that have no elements of other types in them.
-ghost use Rattle.std.specs.Prelude.{◌≡◌, ◌++◌, ◌∷◌, IfOk, OnOk};
+ghost use Rattle.std.specs.Prelude.{◌≡◌, ◌++◌, ◌∷◌, IfOk, IfErr, OnOk};
 ghost use Rattle.picky_der_core.specs.Element.{length_octets};
 ghost use Rattle.der_ber_types.specs.Contents.{IsTruth, AreParts};
+ghost use Rattle.der_ber_types.specs.Refusals.{IsRefusal, IsNoTruth, AreNoParts};
 
 use crate::error::TypeError;
 use der_path::first_element;
@@ -32,7 +33,8 @@ pub(crate) fn push_header(
 
 // The content of a BOOLEAN in DER: FF for TRUE (X.690, 11.1), which is any byte but 00 in BER (8.2.2).
 pub(crate) fn truth(alloc: Global, content: &[u8]) -> Result<Vec<u8>, TypeError>
-    ensures { IfOk result (λ der. IsTruth content.now der.items) }
+    ensures ok { IfOk result (λ der. IsTruth content.now der.items) }
+    ensures none { IfErr result (IsRefusal (IsNoTruth content.now)) }
 {
     let [value] = content else {
         return Err(TypeError::OtherType);
@@ -44,7 +46,8 @@ pub(crate) fn truth(alloc: Global, content: &[u8]) -> Result<Vec<u8>, TypeError>
 
 // The contents of the octet strings of which the bytes are made, one after another.
 pub(crate) fn joined(alloc: Global, bytes: &[u8]) -> Result<Vec<u8>, TypeError>
-    ensures { IfOk result (λ der. AreParts bytes.now der.items) }
+    ensures ok { IfOk result (λ der. AreParts bytes.now der.items) }
+    ensures none { IfErr result (IsRefusal (AreNoParts bytes.now)) }
 {
     let mut der = Vec::new(alloc);
     let mut rest = bytes;

@@ -1,7 +1,13 @@
 //! What the relation of BER and DER says: each law is the contract of a function that does nothing.
-ghost use Rattle.der_ber_types.specs.Laws.{OneDer};
+ghost use Rattle.der_ber_types.specs.Laws.{OneDer, DerIsOwnBer};
 
 /// Bytes are BER of one DER only, by a type.
 pub fn one_der()
     ensures { OneDer }
+{}
+
+/// The DER of each value of a type is its own BER. The table's tags are those that X.680 asks for (25.6, 27.3, 29.3),
+/// and elements of any type have elements in them at every depth, if they are constructed.
+pub fn own_ber()
+    ensures { DerIsOwnBer }
 {}

@@ -1,8 +1,18 @@
 //! DER of a message whose content has the type that an identifier names.
-ghost use Rattle.std.specs.Prelude.{◌≡◌, ◌++◌, IfOk, IfErr, IfSome, OnOk};
+ghost use Rattle.std.specs.Prelude.{◌≡◌, ◌≢◌, ◌++◌, IfOk, IfErr, MatchOption, OnOk};
 ghost use Rattle.picky_der_core.specs.Element.{tlv};
 ghost use Rattle.der_ber_types.specs.Errors.{IsRefusedByType};
-ghost use Rattle.der_ber_types.specs.Message.{IsMessageBer, IsMessage, message_bytes, schema_in};
+ghost use Rattle.der_ber_types.specs.Message.{
+  IsMessageBer,
+  IsMessage,
+  IsNoMessageBer,
+  IsNoMessage,
+  IsNoElementWith,
+  HasNoMessageBytes,
+  message_bytes,
+  schema_in,
+};
+ghost use Rattle.der_ber_types.specs.Refusals.{IsRefusal};
 
 use crate::ToDerError;
 use crate::content::one_in_der;
@@ -27,7 +37,7 @@ pub struct ContentType {
 /// `[0]`, as the `ContentInfo` of CMS is (RFC 5652, 3). The content becomes what `to_der` returns of it, by the first
 /// of the types that has the identifier. If none has it, the content only has the lengths of DER and whole strings.
 ///
-/// The errors are those of `to_der`.
+/// The errors are those of `to_der`. After each but `OutOfMemory` the bytes are BER of no such message.
 pub fn message_to_der(
     alloc: Global,
     types: &[ContentType],
@@ -35,6 +45,8 @@ pub fn message_to_der(
 ) -> Result<Vec<u8>, ToDerError>
     ensures ok { IfOk result (λ der. IsMessageBer types.now bytes.now der.items) }
     ensures err { IfErr result (IsRefusedByType bytes.now) }
+    ensures none { IfErr result (λ e.
+        e ≢ ToDerError.OutOfMemory → IsNoMessageBer types.now bytes.now) }
 {
     let whole = with_whole_strings(alloc, bytes)?;
     Ok(message_in_der(alloc, types, &whole)?)
@@ -42,7 +54,8 @@ pub fn message_to_der(
 
 // The same of a message with the lengths of DER and whole strings.
 fn message_in_der(alloc: Global, types: &[ContentType], bytes: &[u8]) -> Result<Vec<u8>, TypeError>
-    ensures { IfOk result (λ der. IsMessage types.now bytes.now der.items) }
+    ensures ok { IfOk result (λ der. IsMessage types.now bytes.now der.items) }
+    ensures none { IfErr result (IsRefusal (IsNoMessage types.now bytes.now)) }
 {
     let Some(message) = message_of(bytes) else {
         return Err(TypeError::OtherType);
@@ -65,7 +78,8 @@ pub(crate) struct Message<'a> {
 
 // The message that the bytes are, if they are one.
 fn message_of(bytes: &[u8]) -> Option<Message<'_>>
-    ensures { IfSome result (λ m. bytes.now ≡ message_bytes m.identifier.now m.content.now) }
+    ensures { MatchOption result (HasNoMessageBytes bytes.now)
+        (λ m. bytes.now ≡ message_bytes m.identifier.now m.content.now) }
 {
     let Some(members) = content_under(Tag::SEQUENCE, bytes) else {
         return None;
@@ -87,7 +101,8 @@ fn message_of(bytes: &[u8]) -> Option<Message<'_>>
 
 // The content of the one element of which the bytes are made, if it has this tag.
 fn content_under(tag: Tag, bytes: &[u8]) -> Option<&[u8]>
-    ensures { IfSome result (λ content. bytes.now ≡ tlv tag content.now) }
+    ensures { MatchOption result (IsNoElementWith tag bytes.now)
+        (λ content. bytes.now ≡ tlv tag content.now) }
 {
     let Some(element) = first_element(bytes) else {
         return None;

@@ -1,6 +1,7 @@
 //! The order of the elements of a SET OF (X.690, 11.6).
-ghost use Rattle.std.specs.Prelude.{IfOk, map};
+ghost use Rattle.std.specs.Prelude.{IfOk, IfErr, map};
 ghost use Rattle.der_ber_types.specs.Order.{AreElements, AreInOrder};
+ghost use Rattle.der_ber_types.specs.Refusals.{IsRefusal, AreNoElements, AreNotInOrder};
 
 use crate::error::TypeError;
 use der_path::first_element;
@@ -8,7 +9,8 @@ use std::alloc::Global;
 
 // The elements of which the bytes are made, in ascending order one after another.
 pub(crate) fn in_order(alloc: Global, bytes: &[u8]) -> Result<Vec<u8>, TypeError>
-    ensures { IfOk result (λ ordered. AreInOrder bytes.now ordered.items) }
+    ensures ok { IfOk result (λ ordered. AreInOrder bytes.now ordered.items) }
+    ensures none { IfErr result (IsRefusal (AreNotInOrder bytes.now)) }
 {
     let mut elements = cut(alloc, bytes)?;
     elements.sort()?;
@@ -17,7 +19,8 @@ pub(crate) fn in_order(alloc: Global, bytes: &[u8]) -> Result<Vec<u8>, TypeError
 
 // The elements of which the bytes are made.
 fn cut<'a>(alloc: Global, bytes: &'a [u8]) -> Result<Vec<&'a [u8]>, TypeError>
-    ensures { IfOk result (λ elements. AreElements (map (λ e. e.now) elements.items) bytes.now) }
+    ensures ok { IfOk result (λ elements. AreElements (map (λ e. e.now) elements.items) bytes.now) }
+    ensures none { IfErr result (IsRefusal (AreNoElements bytes.now)) }
 {
     let mut elements = Vec::new(alloc);
     let mut rest = bytes;

@@ -16,8 +16,7 @@ use std::alloc::Global;
 
 /// Checks the bytes as picky_der_check does, writes to `position` what that writes, appends the JSON of the message
 /// (X.697) to the first `used` bytes of `out`, and adds its length to `used`. It is UTF-8 on one line, without a zero
-/// at its end. It is made by a table of the type, which all types have but krb, enveloped-data, authenticated-data and
-/// auth-enveloped-data.
+/// at its end. It is made by a table of the type, which all types have but krb.
 ///
 /// Returns PICKY_DER_OK, or PICKY_DER_NO_ROOM as picky_der_put does. Returns what picky_der_check returns if the bytes
 /// aren't a message, PICKY_DER_NO_TABLE if the type has no table, and PICKY_DER_UNSUPPORTED if a number in the message
@@ -98,7 +97,7 @@ pub extern "C" fn picky_der_from_json(
 }
 
 // The code for a refusal whose words were appended with this code.
-fn refused_code(put: u32) -> u32
+pub(crate) fn refused_code(put: u32) -> u32
     ensures { result ≡ refused_code put }
 {
     if put == PICKY_DER_OK {

@@ -1,2 +1,7 @@
+pub mod Forms
+pub mod NameLemmas
 pub mod NumberLemmas
+pub mod OneContent
+pub mod OneMessage
+pub mod StringLemmas
 pub mod ValueLemmas

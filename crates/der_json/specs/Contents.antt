@@ -1,7 +1,7 @@
 -- The JSON of values without parts (X.697).
-use Rattle.std.specs.Prelude.{◌≡◌, ◌≢◌, ℕ, ◌<◌, ◌^◌, Bool, true, false, ◌||◌, ◌⊎◌, List, [], ◌∷◌, length, map, Option}
+use Rattle.std.specs.Prelude.{◌≡◌, ℕ, ◌%◌, Bool, true, false, ◌⊎◌, List, [], ◌∷◌, length, map, Option}
 use Rattle.std.specs.Prelude.{Some, None}
-use Rattle.std.specs.Prelude.{is_err, ⊤, codes}
+use Rattle.std.specs.Prelude.{is_err, codes}
 use Rattle.std.specs.List.{list_any}
 use Rattle.std.specs.Str.{IsUtf8, encode_utf8_all}
 use Rattle.hex.specs.Hex.{encode_upper}
@@ -9,13 +9,14 @@ use Rattle.serde_json.specs.Data.{Data, boolean, null, number, unsigned, object,
 use Rattle.picky_der_core.specs.Encoding.{plain_encoding}
 use Rattle.picky_der_core.specs.Primitive.{boolean_content}
 use Rattle.der_types.specs.BitString.{bits_of, is_bit_string}
-use Rattle.der_types.specs.CharacterStrings.{characters}
+use Rattle.der_types.specs.CharacterStrings.{byte_count, characters}
 use Rattle.der_types.specs.ContentTypes.{string_width}
 use Rattle.der_types.specs.Dotted.{dotted_or_marked, fitted}
 use Rattle.der_types.specs.ObjectIdentifier.{arcs_of, is_object_identifier}
 use Rattle.der_types.specs.RelativeOid.{is_relative_oid}
 use Rattle.der_types.specs.Subidentifiers.{numbers_after}
 use Rattle.der_types.specs.TimeContents.{is_generalized_time, is_utc_time}
+use Rattle.der_types.specs.declared.width.Width.{Width}
 use Rattle.der_schema.specs.declared.node.Kind.{Kind}
 use Rattle.der_schema.specs.declared.node.Kind.TheVariants as kind
 use Rattle.der_json.specs.Numbers.{IsItemJson, IsNumberJson}
@@ -64,9 +65,14 @@ pub record IsTextJson (content : List ℕ) (d : Data) : Type 0 where
   pub valid : IsUtf8 content
   pub is : d ≡ string content
 
+-- whole characters of this width
+abbrev pub IsWhole : Width → List ℕ → Type 0
+IsWhole width s = length s % byte_count width ≡ 0
+
 -- the characters of a restricted string by its tag
-abbrev pub IsStringJson : ℕ → List ℕ → Data → Type 0
-IsStringJson tag s d = d ≡ string (encode_utf8_all (characters (string_width tag) s))
+pub record IsStringJson (tag : ℕ) (content : List ℕ) (d : Data) : Type 0 where
+  pub whole : IsWhole (string_width tag) content
+  pub is : d ≡ string (encode_utf8_all (characters (string_width tag) content))
 
 -- the JSON of a content
 abbrev pub IsContentJson : Kind → List ℕ → Data → Type 0

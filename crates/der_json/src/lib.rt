@@ -9,6 +9,7 @@ mod decimal;
 mod defaults;
 mod error;
 mod items;
+pub mod laws;
 mod limits;
 mod messages;
 mod numbers;

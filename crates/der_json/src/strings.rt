@@ -1,10 +1,10 @@
 //! Restricted strings (X.680, 41).
-ghost use Rattle.std.specs.Prelude.{◌≡◌, IfOk, string_bytes};
+ghost use Rattle.std.specs.Prelude.{◌≡◌, IfOk, OnOk, string_bytes};
 ghost use Rattle.std.specs.Str.{encode_utf8_all};
 ghost use Rattle.serde_json.specs.View.{view};
 ghost use Rattle.der_types.specs.CharacterStrings.{characters};
 ghost use Rattle.der_types.specs.ContentTypes.{string_width};
-ghost use Rattle.der_json.specs.Contents.{IsStringJson};
+ghost use Rattle.der_json.specs.Contents.{IsStringJson, IsWhole};
 
 use crate::JsonError;
 use crate::part::Part;
@@ -59,8 +59,9 @@ fn width_of(tag: u8) -> Width
 
 // The characters of a content, each of so many bytes.
 fn text_of(alloc: Global, width: Width, content: Part<'_>) -> Result<String, JsonError>
-    ensures { IfOk result (λ text. string_bytes text
+    ensures text { IfOk result (λ text. string_bytes text
         ≡ encode_utf8_all (characters width content.entry.bytes.now)) }
+    ensures whole { OnOk result (IsWhole width content.entry.bytes.now) }
 {
     match width {
         Width::One => Ok(numbered(alloc, content.bytes)?),
@@ -71,8 +72,9 @@ fn text_of(alloc: Global, width: Width, content: Part<'_>) -> Result<String, Jso
 
 // The characters of a content, all in the set.
 fn characters_of<S: Unicode>(alloc: Global, content: Part<'_>) -> Result<String, JsonError>
-    ensures { IfOk result (λ text. string_bytes text
+    ensures text { IfOk result (λ text. string_bytes text
         ≡ encode_utf8_all (characters S.WIDTH content.entry.bytes.now)) }
+    ensures whole { OnOk result (IsWhole S.WIDTH content.entry.bytes.now) }
 {
     let string = match RestrictedString::<S>::from_bytes(alloc, content.bytes) {
         Ok(string) => string,

@@ -6,10 +6,10 @@ ghost use Rattle.der_read.specs.Paths.{HasNoSchema, IsSchemaOf};
 use crate::MessageType;
 use der_schema::Schema;
 use der_schemas::{
-    algorithms, attribute_certificates, cms, kerberos, kerberos_authentication,
-    kerberos_credentials, kerberos_parts, kerberos_replies, kerberos_requests,
-    kerberos_safe_and_private, keys, ocsp_requests, ocsp_responses, pkcs12, requests, signed_data,
-    time_stamps, x509,
+    algorithms, attribute_certificates, auth_enveloped_data, authenticated_data, cms,
+    enveloped_data, kerberos, kerberos_authentication, kerberos_credentials, kerberos_parts,
+    kerberos_replies, kerberos_requests, kerberos_safe_and_private, keys, ocsp_requests,
+    ocsp_responses, pkcs12, requests, signed_data, time_stamps, x509,
 };
 
 // The schema of a type of messages, if there is one.
@@ -30,11 +30,11 @@ pub(crate) fn schema_of(named: MessageType) -> Option<Schema>
         MessageType::TstInfo => Some(time_stamps::tst_info()),
         MessageType::Cms => Some(cms::content_info()),
         MessageType::SignedData => Some(signed_data::signed_data()),
-        MessageType::EnvelopedData => None,
+        MessageType::EnvelopedData => Some(enveloped_data::enveloped_data()),
         MessageType::DigestedData => Some(cms::digested_data()),
         MessageType::EncryptedData => Some(cms::encrypted_data()),
-        MessageType::AuthenticatedData => None,
-        MessageType::AuthEnvelopedData => None,
+        MessageType::AuthenticatedData => Some(authenticated_data::authenticated_data()),
+        MessageType::AuthEnvelopedData => Some(auth_enveloped_data::auth_enveloped_data()),
         MessageType::Pkcs8 => Some(keys::private_key_info()),
         MessageType::EncryptedKey => Some(keys::encrypted_private_key_info()),
         MessageType::RsaKey => Some(keys::rsa_private_key()),

@@ -3,7 +3,10 @@
 
 use crate::MessageType;
 use der_algorithms::{DssParms, EcdsaSigValue, EcpkParameters};
-use der_cms::{ContentInfo, DigestedData, EncryptedData, SignedData};
+use der_cms::{
+    AuthEnvelopedData, AuthenticatedData, ContentInfo, DigestedData, EncryptedData, EnvelopedData,
+    SignedData,
+};
 use der_kerberos::{
     ApRep, ApReq, AsRep, AsReq, Authenticator, EncApRepPart, EncAsRepPart, EncKrbCredPart,
     EncKrbPrivPart, EncTgsRepPart, EncTicketPart, KrbCred, KrbError, KrbPriv, KrbSafe, TgsRep,
@@ -45,11 +48,11 @@ impl Tabled for MessageType {
       | named.TstInfo ↦ Some ⟦<TstInfo as Notated>⟧.notation
       | named.Cms ↦ Some ⟦<ContentInfo as Notated>⟧.notation
       | named.SignedData ↦ Some ⟦<SignedData as Notated>⟧.notation
-      | named.EnvelopedData ↦ None
+      | named.EnvelopedData ↦ Some ⟦<EnvelopedData as Notated>⟧.notation
       | named.DigestedData ↦ Some ⟦<DigestedData as Notated>⟧.notation
       | named.EncryptedData ↦ Some ⟦<EncryptedData as Notated>⟧.notation
-      | named.AuthenticatedData ↦ None
-      | named.AuthEnvelopedData ↦ None
+      | named.AuthenticatedData ↦ Some ⟦<AuthenticatedData as Notated>⟧.notation
+      | named.AuthEnvelopedData ↦ Some ⟦<AuthEnvelopedData as Notated>⟧.notation
       | named.Pkcs8 ↦ Some ⟦<PrivateKeyInfo as Notated>⟧.notation
       | named.EncryptedKey ↦ Some ⟦<EncryptedPrivateKeyInfo as Notated>⟧.notation
       | named.RsaKey ↦ Some ⟦<RsaPrivateKey as Notated>⟧.notation

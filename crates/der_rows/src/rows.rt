@@ -48,25 +48,28 @@ pub(crate) fn output_of(alloc: Global, row: &str) -> Result<String, AllocError> 
     if row.is_empty() || row.starts_with('#') {
         return String::from_str(alloc, row);
     }
-    match row.split_once(" ") {
-        Some(("write", value)) => values::answer(alloc, Writing::Whole, value),
-        Some(("call", rest)) => answer_calls(alloc, rest),
-        Some(("put", rest)) => answer_puts(alloc, rest),
-        Some(("stream", rest)) => streams::answer_stream(alloc, rest),
-        Some(("peek", rest)) => streams::answer_peek(alloc, rest),
-        Some(("sink", rest)) => streams::answer_sink(alloc, rest),
-        Some(("fill", rest)) => streams::answer_fill(alloc, rest),
-        Some(("tool", line)) => tool::answer(alloc, line),
-        Some(("grow", rest)) => answer_growing(alloc, row, rest),
-        Some(("spend", times)) => growths::spend(alloc, times),
+    // A proof about the word alone is much shorter than one about patterns with the word and the rest.
+    let (word, rest) = row.split_once(" ").unwrap_or((row, ""));
+    match word {
+        "write" => values::answer(alloc, Writing::Whole, rest),
+        "call" => answer_calls(alloc, rest),
+        "put" => answer_puts(alloc, rest),
+        "stream" => streams::answer_stream(alloc, rest),
+        "peek" => streams::answer_peek(alloc, rest),
+        "sink" => streams::answer_sink(alloc, rest),
+        "fill" => streams::answer_fill(alloc, rest),
+        "tool" => tool::answer(alloc, rest),
+        "grow" => answer_growing(alloc, row, rest),
+        "spend" => growths::spend(alloc, rest),
         _ => typed::answer(alloc, row),
     }
 }
 
 fn answer_growing(alloc: Global, row: &str, rest: &str) -> Result<String, AllocError> {
-    match rest.split_once(" ") {
-        Some(("write", value)) => values::answer(alloc, Writing::Growing, value),
-        Some(("tool", lines)) => tool::answer_growing(alloc, lines),
+    let (word, rest) = rest.split_once(" ").unwrap_or((rest, ""));
+    match word {
+        "write" => values::answer(alloc, Writing::Growing, rest),
+        "tool" => tool::answer_growing(alloc, rest),
         _ => typed::answer(alloc, row),
     }
 }

@@ -11,15 +11,27 @@ use std::alloc::{AllocError, Global};
 
 /// The result of a row of words for what to do, bytes in brackets, and ` as ` with a type.
 pub(crate) fn answer(alloc: Global, row: &str) -> Result<String, AllocError> {
-    let Some((words, bytes, name)) = split_row(alloc, row) else {
-        return String::from_str(alloc, "unknown row");
-    };
-    if words == "copy" {
-        return growths::answer(alloc, copies::copy(alloc, name, &bytes));
+    match split_row(alloc, row) {
+        Some((words, bytes, name)) => answer_as(alloc, words, bytes, name),
+        None => String::from_str(alloc, "unknown row"),
     }
-    if words == "signed" {
-        return signed(alloc, name, &bytes);
+}
+
+// The result of these words for bytes and a type.
+fn answer_as(alloc: Global, words: &str, bytes: Vec<u8>, name: &str) -> Result<String, AllocError> {
+    match words {
+        "copy" => growths::answer(alloc, copies::copy(alloc, name, &bytes)),
+        "signed" => signed(alloc, name, &bytes),
+        _ => read_or_swept(alloc, words, bytes, name),
     }
+}
+
+fn read_or_swept(
+    alloc: Global,
+    words: &str,
+    bytes: Vec<u8>,
+    name: &str,
+) -> Result<String, AllocError> {
     let (words, trial) = match words.strip_prefix("quick ") {
         Some(words) => (words, Trial::None),
         None => (words, Trial::Hostile),

@@ -13,7 +13,7 @@ pub fn dss_parms() -> Schema
     ensures { notation_of result.nodes.now result.root ≡ ⟦<DssParms as Notated>⟧.notation }
 {
     Schema {
-        nodes: &NODES,
+        nodes: nodes(),
         root: 1,
     }
 }
@@ -23,7 +23,7 @@ pub fn ecdsa_sig_value() -> Schema
     ensures { notation_of result.nodes.now result.root ≡ ⟦<EcdsaSigValue as Notated>⟧.notation }
 {
     Schema {
-        nodes: &NODES,
+        nodes: nodes(),
         root: 2,
     }
 }
@@ -33,9 +33,18 @@ pub fn ecpk_parameters() -> Schema
     ensures { notation_of result.nodes.now result.root ≡ ⟦<EcpkParameters as Notated>⟧.notation }
 {
     Schema {
-        nodes: &NODES,
+        nodes: nodes(),
         root: 13,
     }
+}
+
+// the nodes, and which of them is each type
+fn nodes() -> &'static [Node]
+    ensures dss_parms { notation_of result.now 1 ≡ ⟦<DssParms as Notated>⟧.notation }
+    ensures ecdsa_sig_value { notation_of result.now 2 ≡ ⟦<EcdsaSigValue as Notated>⟧.notation }
+    ensures ecpk_parameters { notation_of result.now 13 ≡ ⟦<EcpkParameters as Notated>⟧.notation }
+{
+    &NODES
 }
 
 // each type comes after those that it names

@@ -14,7 +14,7 @@ pub fn content_info() -> Schema
     ensures { notation_of result.nodes.now result.root ≡ ⟦<ContentInfo as Notated>⟧.notation }
 {
     Schema {
-        nodes: &NODES,
+        nodes: nodes(),
         root: 3,
     }
 }
@@ -24,7 +24,7 @@ pub fn digested_data() -> Schema
     ensures { notation_of result.nodes.now result.root ≡ ⟦<DigestedData as Notated>⟧.notation }
 {
     Schema {
-        nodes: &NODES,
+        nodes: nodes(),
         root: 12,
     }
 }
@@ -34,9 +34,18 @@ pub fn encrypted_data() -> Schema
     ensures { notation_of result.nodes.now result.root ≡ ⟦<EncryptedData as Notated>⟧.notation }
 {
     Schema {
-        nodes: &NODES,
+        nodes: nodes(),
         root: 23,
     }
+}
+
+// the nodes, and which of them is each type
+fn nodes() -> &'static [Node]
+    ensures content_info { notation_of result.now 3 ≡ ⟦<ContentInfo as Notated>⟧.notation }
+    ensures digested_data { notation_of result.now 12 ≡ ⟦<DigestedData as Notated>⟧.notation }
+    ensures encrypted_data { notation_of result.now 23 ≡ ⟦<EncryptedData as Notated>⟧.notation }
+{
+    &NODES
 }
 
 // each type comes after those that it names

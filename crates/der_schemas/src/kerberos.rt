@@ -14,7 +14,7 @@ pub fn krb_error() -> Schema
     ensures { notation_of result.nodes.now result.root ≡ ⟦<KrbError as Notated>⟧.notation }
 {
     Schema {
-        nodes: &NODES,
+        nodes: nodes(),
         root: 39,
     }
 }
@@ -24,9 +24,17 @@ pub fn ticket() -> Schema
     ensures { notation_of result.nodes.now result.root ≡ ⟦<Ticket as Notated>⟧.notation }
 {
     Schema {
-        nodes: &NODES,
+        nodes: nodes(),
         root: 20,
     }
+}
+
+// the nodes, and which of them is each type
+fn nodes() -> &'static [Node]
+    ensures krb_error { notation_of result.now 39 ≡ ⟦<KrbError as Notated>⟧.notation }
+    ensures ticket { notation_of result.now 20 ≡ ⟦<Ticket as Notated>⟧.notation }
+{
+    &NODES
 }
 
 // each type comes after those that it names

@@ -14,7 +14,7 @@ pub fn ap_rep() -> Schema
     ensures { notation_of result.nodes.now result.root ≡ ⟦<ApRep as Notated>⟧.notation }
 {
     Schema {
-        nodes: &NODES,
+        nodes: nodes(),
         root: 52,
     }
 }
@@ -24,7 +24,7 @@ pub fn ap_req() -> Schema
     ensures { notation_of result.nodes.now result.root ≡ ⟦<ApReq as Notated>⟧.notation }
 {
     Schema {
-        nodes: &NODES,
+        nodes: nodes(),
         root: 30,
     }
 }
@@ -34,9 +34,18 @@ pub fn authenticator() -> Schema
     ensures { notation_of result.nodes.now result.root ≡ ⟦<Authenticator as Notated>⟧.notation }
 {
     Schema {
-        nodes: &NODES,
+        nodes: nodes(),
         root: 47,
     }
+}
+
+// the nodes, and which of them is each type
+fn nodes() -> &'static [Node]
+    ensures ap_rep { notation_of result.now 52 ≡ ⟦<ApRep as Notated>⟧.notation }
+    ensures ap_req { notation_of result.now 30 ≡ ⟦<ApReq as Notated>⟧.notation }
+    ensures authenticator { notation_of result.now 47 ≡ ⟦<Authenticator as Notated>⟧.notation }
+{
+    &NODES
 }
 
 // each type comes after those that it names

@@ -14,7 +14,7 @@ pub fn enc_krb_cred_part() -> Schema
     ensures { notation_of result.nodes.now result.root ≡ ⟦<EncKrbCredPart as Notated>⟧.notation }
 {
     Schema {
-        nodes: &NODES,
+        nodes: nodes(),
         root: 55,
     }
 }
@@ -24,9 +24,17 @@ pub fn krb_cred() -> Schema
     ensures { notation_of result.nodes.now result.root ≡ ⟦<KrbCred as Notated>⟧.notation }
 {
     Schema {
-        nodes: &NODES,
+        nodes: nodes(),
         root: 26,
     }
+}
+
+// the nodes, and which of them is each type
+fn nodes() -> &'static [Node]
+    ensures enc_krb_cred_part { notation_of result.now 55 ≡ ⟦<EncKrbCredPart as Notated>⟧.notation }
+    ensures krb_cred { notation_of result.now 26 ≡ ⟦<KrbCred as Notated>⟧.notation }
+{
+    &NODES
 }
 
 // each type comes after those that it names

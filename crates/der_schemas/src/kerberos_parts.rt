@@ -14,7 +14,7 @@ pub fn enc_ap_rep_part() -> Schema
     ensures { notation_of result.nodes.now result.root ≡ ⟦<EncApRepPart as Notated>⟧.notation }
 {
     Schema {
-        nodes: &NODES,
+        nodes: nodes(),
         root: 61,
     }
 }
@@ -24,7 +24,7 @@ pub fn enc_as_rep_part() -> Schema
     ensures { notation_of result.nodes.now result.root ≡ ⟦<EncAsRepPart as Notated>⟧.notation }
 {
     Schema {
-        nodes: &NODES,
+        nodes: nodes(),
         root: 52,
     }
 }
@@ -34,7 +34,7 @@ pub fn enc_tgs_rep_part() -> Schema
     ensures { notation_of result.nodes.now result.root ≡ ⟦<EncTgsRepPart as Notated>⟧.notation }
 {
     Schema {
-        nodes: &NODES,
+        nodes: nodes(),
         root: 53,
     }
 }
@@ -44,9 +44,19 @@ pub fn enc_ticket_part() -> Schema
     ensures { notation_of result.nodes.now result.root ≡ ⟦<EncTicketPart as Notated>⟧.notation }
 {
     Schema {
-        nodes: &NODES,
+        nodes: nodes(),
         root: 33,
     }
+}
+
+// the nodes, and which of them is each type
+fn nodes() -> &'static [Node]
+    ensures enc_ap_rep_part { notation_of result.now 61 ≡ ⟦<EncApRepPart as Notated>⟧.notation }
+    ensures enc_as_rep_part { notation_of result.now 52 ≡ ⟦<EncAsRepPart as Notated>⟧.notation }
+    ensures enc_tgs_rep_part { notation_of result.now 53 ≡ ⟦<EncTgsRepPart as Notated>⟧.notation }
+    ensures enc_ticket_part { notation_of result.now 33 ≡ ⟦<EncTicketPart as Notated>⟧.notation }
+{
+    &NODES
 }
 
 // each type comes after those that it names

@@ -14,7 +14,7 @@ pub fn as_rep() -> Schema
     ensures { notation_of result.nodes.now result.root ≡ ⟦<AsRep as Notated>⟧.notation }
 {
     Schema {
-        nodes: &NODES,
+        nodes: nodes(),
         root: 32,
     }
 }
@@ -24,9 +24,17 @@ pub fn tgs_rep() -> Schema
     ensures { notation_of result.nodes.now result.root ≡ ⟦<TgsRep as Notated>⟧.notation }
 {
     Schema {
-        nodes: &NODES,
+        nodes: nodes(),
         root: 36,
     }
+}
+
+// the nodes, and which of them is each type
+fn nodes() -> &'static [Node]
+    ensures as_rep { notation_of result.now 32 ≡ ⟦<AsRep as Notated>⟧.notation }
+    ensures tgs_rep { notation_of result.now 36 ≡ ⟦<TgsRep as Notated>⟧.notation }
+{
+    &NODES
 }
 
 // each type comes after those that it names

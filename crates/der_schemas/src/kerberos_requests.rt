@@ -14,7 +14,7 @@ pub fn as_req() -> Schema
     ensures { notation_of result.nodes.now result.root ≡ ⟦<AsReq as Notated>⟧.notation }
 {
     Schema {
-        nodes: &NODES,
+        nodes: nodes(),
         root: 53,
     }
 }
@@ -24,9 +24,17 @@ pub fn tgs_req() -> Schema
     ensures { notation_of result.nodes.now result.root ≡ ⟦<TgsReq as Notated>⟧.notation }
 {
     Schema {
-        nodes: &NODES,
+        nodes: nodes(),
         root: 57,
     }
+}
+
+// the nodes, and which of them is each type
+fn nodes() -> &'static [Node]
+    ensures as_req { notation_of result.now 53 ≡ ⟦<AsReq as Notated>⟧.notation }
+    ensures tgs_req { notation_of result.now 57 ≡ ⟦<TgsReq as Notated>⟧.notation }
+{
+    &NODES
 }
 
 // each type comes after those that it names

@@ -14,7 +14,7 @@ pub fn enc_krb_priv_part() -> Schema
     ensures { notation_of result.nodes.now result.root ≡ ⟦<EncKrbPrivPart as Notated>⟧.notation }
 {
     Schema {
-        nodes: &NODES,
+        nodes: nodes(),
         root: 36,
     }
 }
@@ -24,7 +24,7 @@ pub fn krb_priv() -> Schema
     ensures { notation_of result.nodes.now result.root ≡ ⟦<KrbPriv as Notated>⟧.notation }
 {
     Schema {
-        nodes: &NODES,
+        nodes: nodes(),
         root: 34,
     }
 }
@@ -34,9 +34,18 @@ pub fn krb_safe() -> Schema
     ensures { notation_of result.nodes.now result.root ≡ ⟦<KrbSafe as Notated>⟧.notation }
 {
     Schema {
-        nodes: &NODES,
+        nodes: nodes(),
         root: 26,
     }
+}
+
+// the nodes, and which of them is each type
+fn nodes() -> &'static [Node]
+    ensures enc_krb_priv_part { notation_of result.now 36 ≡ ⟦<EncKrbPrivPart as Notated>⟧.notation }
+    ensures krb_priv { notation_of result.now 34 ≡ ⟦<KrbPriv as Notated>⟧.notation }
+    ensures krb_safe { notation_of result.now 26 ≡ ⟦<KrbSafe as Notated>⟧.notation }
+{
+    &NODES
 }
 
 // each type comes after those that it names

@@ -16,7 +16,7 @@ pub fn ec_private_key() -> Schema
     ensures { notation_of result.nodes.now result.root ≡ ⟦<EcPrivateKey as Notated>⟧.notation }
 {
     Schema {
-        nodes: &NODES,
+        nodes: nodes(),
         root: 14,
     }
 }
@@ -26,7 +26,7 @@ pub fn encrypted_private_key_info() -> Schema
     ensures { notation_of result.nodes.now result.root ≡ ⟦<EncryptedPrivateKeyInfo as Notated>⟧.notation }
 {
     Schema {
-        nodes: &NODES,
+        nodes: nodes(),
         root: 32,
     }
 }
@@ -36,7 +36,7 @@ pub fn private_key_info() -> Schema
     ensures { notation_of result.nodes.now result.root ≡ ⟦<PrivateKeyInfo as Notated>⟧.notation }
 {
     Schema {
-        nodes: &NODES,
+        nodes: nodes(),
         root: 31,
     }
 }
@@ -46,7 +46,7 @@ pub fn rsa_private_key() -> Schema
     ensures { notation_of result.nodes.now result.root ≡ ⟦<RsaPrivateKey as Notated>⟧.notation }
 {
     Schema {
-        nodes: &NODES,
+        nodes: nodes(),
         root: 6,
     }
 }
@@ -56,9 +56,20 @@ pub fn rsa_public_key() -> Schema
     ensures { notation_of result.nodes.now result.root ≡ ⟦<RsaPublicKey as Notated>⟧.notation }
 {
     Schema {
-        nodes: &NODES,
+        nodes: nodes(),
         root: 1,
     }
+}
+
+// the nodes, and which of them is each type
+fn nodes() -> &'static [Node]
+    ensures ec_private_key { notation_of result.now 14 ≡ ⟦<EcPrivateKey as Notated>⟧.notation }
+    ensures encrypted_private_key_info { notation_of result.now 32 ≡ ⟦<EncryptedPrivateKeyInfo as Notated>⟧.notation }
+    ensures private_key_info { notation_of result.now 31 ≡ ⟦<PrivateKeyInfo as Notated>⟧.notation }
+    ensures rsa_private_key { notation_of result.now 6 ≡ ⟦<RsaPrivateKey as Notated>⟧.notation }
+    ensures rsa_public_key { notation_of result.now 1 ≡ ⟦<RsaPublicKey as Notated>⟧.notation }
+{
+    &NODES
 }
 
 // each type comes after those that it names

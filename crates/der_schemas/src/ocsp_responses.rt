@@ -14,7 +14,7 @@ pub fn basic_ocsp_response() -> Schema
     ensures { notation_of result.nodes.now result.root ≡ ⟦<BasicOcspResponse as Notated>⟧.notation }
 {
     Schema {
-        nodes: &NODES,
+        nodes: nodes(),
         root: 59,
     }
 }
@@ -24,9 +24,17 @@ pub fn ocsp_response() -> Schema
     ensures { notation_of result.nodes.now result.root ≡ ⟦<OcspResponse as Notated>⟧.notation }
 {
     Schema {
-        nodes: &NODES,
+        nodes: nodes(),
         root: 5,
     }
+}
+
+// the nodes, and which of them is each type
+fn nodes() -> &'static [Node]
+    ensures basic_ocsp_response { notation_of result.now 59 ≡ ⟦<BasicOcspResponse as Notated>⟧.notation }
+    ensures ocsp_response { notation_of result.now 5 ≡ ⟦<OcspResponse as Notated>⟧.notation }
+{
+    &NODES
 }
 
 // each type comes after those that it names

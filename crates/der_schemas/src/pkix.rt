@@ -14,7 +14,7 @@ pub fn general_name() -> Schema
     ensures { notation_of result.nodes.now result.root ≡ ⟦<GeneralName as Notated>⟧.notation }
 {
     Schema {
-        nodes: &NODES,
+        nodes: nodes(),
         root: 24,
     }
 }
@@ -24,9 +24,17 @@ pub fn general_names() -> Schema
     ensures { notation_of result.nodes.now result.root ≡ ⟦<GeneralNames as Notated>⟧.notation }
 {
     Schema {
-        nodes: &NODES,
+        nodes: nodes(),
         root: 26,
     }
+}
+
+// the nodes, and which of them is each type
+fn nodes() -> &'static [Node]
+    ensures general_name { notation_of result.now 24 ≡ ⟦<GeneralName as Notated>⟧.notation }
+    ensures general_names { notation_of result.now 26 ≡ ⟦<GeneralNames as Notated>⟧.notation }
+{
+    &NODES
 }
 
 // each type comes after those that it names

@@ -14,7 +14,7 @@ pub fn time_stamp_req() -> Schema
     ensures { notation_of result.nodes.now result.root ≡ ⟦<TimeStampReq as Notated>⟧.notation }
 {
     Schema {
-        nodes: &NODES,
+        nodes: nodes(),
         root: 12,
     }
 }
@@ -24,7 +24,7 @@ pub fn time_stamp_resp() -> Schema
     ensures { notation_of result.nodes.now result.root ≡ ⟦<TimeStampResp as Notated>⟧.notation }
 {
     Schema {
-        nodes: &NODES,
+        nodes: nodes(),
         root: 23,
     }
 }
@@ -34,9 +34,18 @@ pub fn tst_info() -> Schema
     ensures { notation_of result.nodes.now result.root ≡ ⟦<TstInfo as Notated>⟧.notation }
 {
     Schema {
-        nodes: &NODES,
+        nodes: nodes(),
         root: 53,
     }
+}
+
+// the nodes, and which of them is each type
+fn nodes() -> &'static [Node]
+    ensures time_stamp_req { notation_of result.now 12 ≡ ⟦<TimeStampReq as Notated>⟧.notation }
+    ensures time_stamp_resp { notation_of result.now 23 ≡ ⟦<TimeStampResp as Notated>⟧.notation }
+    ensures tst_info { notation_of result.now 53 ≡ ⟦<TstInfo as Notated>⟧.notation }
+{
+    &NODES
 }
 
 // each type comes after those that it names

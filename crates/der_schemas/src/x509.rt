@@ -14,7 +14,7 @@ pub fn certificate() -> Schema
     ensures { notation_of result.nodes.now result.root ≡ ⟦<Certificate as Notated>⟧.notation }
 {
     Schema {
-        nodes: &NODES,
+        nodes: nodes(),
         root: 30,
     }
 }
@@ -24,7 +24,7 @@ pub fn certificate_list() -> Schema
     ensures { notation_of result.nodes.now result.root ≡ ⟦<CertificateList as Notated>⟧.notation }
 {
     Schema {
-        nodes: &NODES,
+        nodes: nodes(),
         root: 35,
     }
 }
@@ -34,7 +34,7 @@ pub fn key_usage() -> Schema
     ensures { notation_of result.nodes.now result.root ≡ ⟦<KeyUsage as Notated>⟧.notation }
 {
     Schema {
-        nodes: &NODES,
+        nodes: nodes(),
         root: 36,
     }
 }
@@ -44,9 +44,19 @@ pub fn subject_public_key_info() -> Schema
     ensures { notation_of result.nodes.now result.root ≡ ⟦<SubjectPublicKeyInfo as Notated>⟧.notation }
 {
     Schema {
-        nodes: &NODES,
+        nodes: nodes(),
         root: 19,
     }
+}
+
+// the nodes, and which of them is each type
+fn nodes() -> &'static [Node]
+    ensures certificate { notation_of result.now 30 ≡ ⟦<Certificate as Notated>⟧.notation }
+    ensures certificate_list { notation_of result.now 35 ≡ ⟦<CertificateList as Notated>⟧.notation }
+    ensures key_usage { notation_of result.now 36 ≡ ⟦<KeyUsage as Notated>⟧.notation }
+    ensures subject_public_key_info { notation_of result.now 19 ≡ ⟦<SubjectPublicKeyInfo as Notated>⟧.notation }
+{
+    &NODES
 }
 
 // each type comes after those that it names

@@ -38,15 +38,16 @@ pub(crate) fn signed_part(alloc: Global, row: &str) -> Result<String, AllocError
 }
 
 fn of_type(alloc: Global, task: Task, name: &str, bytes: &[u8]) -> Result<String, AllocError> {
-    match name.split_once("::") {
-        Some(("der_algorithms", name)) => algorithms::result_of(alloc, task, name, bytes),
-        Some(("der_cms", name)) => cms::result_of(alloc, task, name, bytes),
-        Some(("der_kerberos", name)) => kerberos::result_of(alloc, task, name, bytes),
-        Some(("der_pkcs12", name)) => pkcs12::result_of(alloc, task, name, bytes),
-        Some(("der_pkix", name)) => pkix::result_of(alloc, task, name, bytes),
-        Some(("der_status", name)) => status::result_of(alloc, task, name, bytes),
-        Some(("der_versions", name)) => versions::result_of(alloc, task, name, bytes),
-        Some(("der_x509", name)) => x509::result_of(alloc, task, name, bytes),
+    let (module, name) = name.split_once("::").unwrap_or((name, ""));
+    match module {
+        "der_algorithms" => algorithms::result_of(alloc, task, name, bytes),
+        "der_cms" => cms::result_of(alloc, task, name, bytes),
+        "der_kerberos" => kerberos::result_of(alloc, task, name, bytes),
+        "der_pkcs12" => pkcs12::result_of(alloc, task, name, bytes),
+        "der_pkix" => pkix::result_of(alloc, task, name, bytes),
+        "der_status" => status::result_of(alloc, task, name, bytes),
+        "der_versions" => versions::result_of(alloc, task, name, bytes),
+        "der_x509" => x509::result_of(alloc, task, name, bytes),
         _ => String::from_str(alloc, "no crate"),
     }
 }

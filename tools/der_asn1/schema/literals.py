@@ -5,8 +5,8 @@ from typing import Union
 from ..emit.layout import STEP
 from .nodes import FIELDS, Alternative, Item, Kind, Member, Node, Wrapper
 
-# how wide an array of short items is at most on one line
-_ARRAY_WIDTH = 60
+# how wide an array of short items, and the fields of a struct, are at most on one line
+_ARRAY_WIDTH, _FIELDS_WIDTH = 60, 18
 
 
 @dataclass(frozen=True)
@@ -93,10 +93,13 @@ def _byte(number: int) -> str:
 
 
 def lines_of(indent: str, before: str, literal: Literal, after: str) -> list[str]:
-    """A literal between these texts, over as many lines as it needs: each field of a struct has its own."""
+    """A literal between these texts, over as many lines as it needs: each field of a struct has its own, if they aren't short."""
     if isinstance(literal, Applied):
         return lines_of(indent, f"{before}{literal.name}(", literal.argument, f"){after}")
     if isinstance(literal, Struct):
+        line = ", ".join(f"{name}: {value}" for name, value in literal.fields if isinstance(value, str))
+        if all(isinstance(value, str) for _, value in literal.fields) and len(line) <= _FIELDS_WIDTH:
+            return [f"{indent}{before}{literal.name} {{ {line} }}{after}"]
         fields = [line for name, value in literal.fields for line in lines_of(indent + STEP, f"{name}: ", value, ",")]
         return [f"{indent}{before}{literal.name} {{", *fields, f"{indent}}}{after}"]
     if isinstance(literal, Array):

@@ -37,7 +37,7 @@ _STRINGS = {it.term: it.tag for it in TYPES if it.term and it.term not in {*_SIM
 _LISTS = {"SEQUENCE-OF": "SequenceOf", "SET-OF": "SetOf"}
 _CONTAINERS = {"OCTET-STRING-CONTAINING": "OctetContainer", "BIT-STRING-CONTAINING": "BitContainer"}
 _CLASSES = ("UNIVERSAL", "APPLICATION", "CONTEXT", "PRIVATE")
-_PRESENCES = {"required": "Required", "optional": "Optional", "default": "Default", "default-of": "DefaultOf"}
+_PRESENCES = {"required": "Required", "optional": "Optional", "default-as-optional": "Optional", "default": "Default", "default-of": "DefaultOf"}
 _TRUTHS = {"TRUE": True, "FALSE": False}
 # as many as memory could hold
 _MAX = 2**64 - 1

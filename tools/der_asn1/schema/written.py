@@ -35,7 +35,9 @@ def table_file(table: Table, types: dict[str, int], sources: dict[str, str], hom
     nodes = node_lines(table)
     used = {it for it in _NAMES if any(f"{it} {{" in line or f"{it}::" in line for line in nodes)}
     paths = {**dict.fromkeys([*_NAMES, "Schema"], "der_schema"), "Wrapper": "picky_der_core::asn1", **homes}
-    functions = [line for name in sorted(types, key=natural) for line in _function(name, types[name], sources[name])]
+    names = sorted(types, key=natural)
+    shared = _shared_nodes({name: types[name] for name in names}) if len(names) > 1 else []
+    functions = [line for name in names for line in _function(name, types[name], sources[name], "nodes()" if shared else "&NODES")]
     return [
         *comment("", "//!", f"The schemas of types of {', '.join(modules)}."),
         "ghost use Rattle.std.specs.Prelude.{◌≡◌};",
@@ -43,6 +45,7 @@ def table_file(table: Table, types: dict[str, int], sources: dict[str, str], hom
         "",
         *imports({*used, "Schema", "Notated", *types}, paths),
         *functions,
+        *shared,
         "",
         "// each type comes after those that it names",
         f"static NODES: [Node; {len(table.nodes)}] = [",
@@ -56,7 +59,7 @@ def node_lines(table: Table) -> list[str]:
     return [line for it in table.nodes for line in lines_of(STEP, "", node_literal(it), ",")]
 
 
-def _function(name: str, index: int, source: str) -> list[str]:
+def _function(name: str, index: int, source: str, nodes: str) -> list[str]:
     """The function of a type."""
     return [
         "",
@@ -65,8 +68,21 @@ def _function(name: str, index: int, source: str) -> list[str]:
         f"    ensures {{ notation_of result.nodes.now result.root ≡ ⟦<{name} as Notated>⟧.notation }}",
         "{",
         f"{STEP}Schema {{",
-        f"{STEP * 2}nodes: &NODES,",
+        f"{STEP * 2}nodes: {nodes},",
         f"{STEP * 2}root: {index},",
         f"{STEP}}}",
+        "}",
+    ]
+
+
+def _shared_nodes(types: dict[str, int]) -> list[str]:
+    """The function of all nodes, whose clauses say which node is each type: so they are gone through once, and not for each type."""
+    return [
+        "",
+        "// the nodes, and which of them is each type",
+        "fn nodes() -> &'static [Node]",
+        *(f"    ensures {snake(name)} {{ notation_of result.now {index} ≡ ⟦<{name} as Notated>⟧.notation }}" for name, index in types.items()),
+        "{",
+        f"{STEP}&NODES",
         "}",
     ]

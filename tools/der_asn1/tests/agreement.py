@@ -258,6 +258,12 @@ class NamedAgreement(Agreement):
         """Whether two members have the same name."""
         return one.name == two.name
 
+    def is_there_alike(self, mine: Side, one, other: Side, two) -> bool:
+        """Whether two members are there alike. One whose default is neither a truth nor a number is optional in a table."""
+        if one.member.presence is tree.Presence.OPTIONAL and two.member.presence is tree.Presence.DEFAULT:
+            return not isinstance(self.default(other.program, two), int)
+        return super().is_there_alike(mine, one, other, two)
+
     def kinds(self, mine: Side, other: Side) -> Optional[str]:
         """How two types without names and tags differ, or the names in them."""
         found, names = super().kinds(mine, other), named(mine)

@@ -3,46 +3,77 @@ use Rattle.std.proofs.Common.{slice_range}
 use Rattle.der_ber_types.specs.Content.{IsContent, AreEach, AreMembers}
 use Rattle.der_ber_types.specs.Order.{AreInOrder}
 use Rattle.der_ber_types.proofs.Writing.{pushed-shorter, each-more, each-end, member-fewer, member-next, members-end}
-use Rattle.der_ber_types.proofs.Writing.{nothing_left, content-same, content-of, pushed, not_ahead-tag}
+use Rattle.der_ber_types.proofs.Writing.{nothing_left, something_left, content-same, content-of, pushed, not_ahead-tag}
 use Rattle.der_ber_types.proofs.Writing.{member-kept, member-cut, member-same, range-end}
 use Rattle.std.proofs.lemmas.Bool.{false≢true}
 use Rattle.der_ber_types.specs.Reordered.{AreReordered}
 use Rattle.der_ber_types.proofs.content.+writing.Goals.{push_member-then-is_default, push_member-else-is_default}
 use Rattle.der_ber_types.proofs.SetLemmas.{reordered-length}
 use Rattle.der_ber_types.proofs.Cutting.{smaller_content}
-use Rattle.der_ber_types.specs.Pushed.{IsPushed}
+use Rattle.der_ber_types.specs.Pushed.{IsPushed, IsNonePushed}
+use Rattle.std.proofs.lemmas.Result.{err_from_is_err_and}
+use Rattle.der_ber_types.proofs.Refusals.{no_each-front, no_each-tag, no_members-at, no_members-past, no_one-front}
+use Rattle.der_ber_types.proofs.Refusals.{no_one-tag, no_one-more, no_front, no_member-front, no_member-tag}
+use Rattle.der_ber_types.proofs.Refusals.{content-refused, no_content-parts, no_content-truth, no_content-members}
+use Rattle.der_ber_types.proofs.Refusals.{no_content-each, no_content-bits, no_content-one, no_content-order}
+use Rattle.der_ber_types.proofs.Refusals.{no_content-sorted, some-next, members-next}
 use Rattle.der_ber_types.proofs.content.+writing.Goals as goal
 
 -- ---- content_in_der
 
-pub content_in_der-returns-in_ok-copied-in-Same : goal.content_in_der-returns-in_ok-copied-in-Same
-content_in_der-returns-in_ok-copied-in-Same t c =
+pub content_in_der-returns-in_ok-copied-in-Same-clause-ok : goal.content_in_der-returns-in_ok-copied-in-Same-clause-ok
+content_in_der-returns-in_ok-copied-in-Same-clause-ok t c =
     content-same c.args.nodes.now c.args.inside c.args.content.now _ c.in-Same.is c.in_ok-copied-in-Same.ensures
 
-pub content_in_der-returns-in-Parts : goal.content_in_der-returns-in-Parts
-content_in_der-returns-in-Parts t c =
+pub content_in_der-returns-in-Parts-clause-ok : goal.content_in_der-returns-in-Parts-clause-ok
+content_in_der-returns-in-Parts-clause-ok t c =
     content-of c.args.nodes.now c.args.inside _ c.args.content.now c.joined.result _ c.in-Parts.is
-    (IsContent.parts c.args.content.now) c.joined.ensures
+    (IsContent.parts c.args.content.now) c.joined.ensures.ok
 
-pub content_in_der-returns-in-Boolean : goal.content_in_der-returns-in-Boolean
-content_in_der-returns-in-Boolean t c =
+pub content_in_der-returns-in-Parts-clause-none : goal.content_in_der-returns-in-Parts-clause-none
+content_in_der-returns-in-Parts-clause-none t c =
+    content-refused c.args.nodes.now c.args.inside _ c.args.content.now c.joined.result _ c.in-Parts.is
+    (no_content-parts c.args.nodes.now c.args.content.now) c.joined.ensures.none
+
+pub content_in_der-returns-in-Boolean-clause-ok : goal.content_in_der-returns-in-Boolean-clause-ok
+content_in_der-returns-in-Boolean-clause-ok t c =
     content-of c.args.nodes.now c.args.inside _ c.args.content.now c.truth.result _ c.in-Boolean.is
-    (IsContent.boolean c.args.content.now) c.truth.ensures
+    (IsContent.boolean c.args.content.now) c.truth.ensures.ok
 
-pub content_in_der-returns-in-Members : goal.content_in_der-returns-in-Members
-content_in_der-returns-in-Members t c =
+pub content_in_der-returns-in-Boolean-clause-none : goal.content_in_der-returns-in-Boolean-clause-none
+content_in_der-returns-in-Boolean-clause-none t c =
+    content-refused c.args.nodes.now c.args.inside _ c.args.content.now c.truth.result _ c.in-Boolean.is
+    (no_content-truth c.args.nodes.now c.args.content.now) c.truth.ensures.none
+
+pub content_in_der-returns-in-Members-clause-ok : goal.content_in_der-returns-in-Members-clause-ok
+content_in_der-returns-in-Members-clause-ok t c =
     content-of c.args.nodes.now c.args.inside _ c.args.content.now c.members_in_der.result _ c.in-Members.is
-    (IsContent.members c.in-Members.members c.args.content.now) c.members_in_der.ensures
+    (IsContent.members c.in-Members.members c.args.content.now) c.members_in_der.ensures.ok
 
-pub content_in_der-returns-in-Each : goal.content_in_der-returns-in-Each
-content_in_der-returns-in-Each t c =
+pub content_in_der-returns-in-Members-clause-none : goal.content_in_der-returns-in-Members-clause-none
+content_in_der-returns-in-Members-clause-none t c =
+    content-refused c.args.nodes.now c.args.inside _ c.args.content.now c.members_in_der.result _ c.in-Members.is
+    (no_content-members c.args.nodes.now c.in-Members.members c.args.content.now) c.members_in_der.ensures.none
+
+pub content_in_der-returns-in-Each-clause-ok : goal.content_in_der-returns-in-Each-clause-ok
+content_in_der-returns-in-Each-clause-ok t c =
     content-of c.args.nodes.now c.args.inside _ c.args.content.now c.each_in_der.result _ c.in-Each.is
-    (IsContent.each c.in-Each.index c.args.content.now) c.each_in_der.ensures
+    (IsContent.each c.in-Each.index c.args.content.now) c.each_in_der.ensures.ok
 
-pub content_in_der-returns-in-BitParts : goal.content_in_der-returns-in-BitParts
-content_in_der-returns-in-BitParts t c =
+pub content_in_der-returns-in-Each-clause-none : goal.content_in_der-returns-in-Each-clause-none
+content_in_der-returns-in-Each-clause-none t c =
+    content-refused c.args.nodes.now c.args.inside _ c.args.content.now c.each_in_der.result _ c.in-Each.is
+    (no_content-each c.args.nodes.now c.in-Each.index c.args.content.now) c.each_in_der.ensures.none
+
+pub content_in_der-returns-in-BitParts-clause-ok : goal.content_in_der-returns-in-BitParts-clause-ok
+content_in_der-returns-in-BitParts-clause-ok t c =
     content-of c.args.nodes.now c.args.inside _ c.args.content.now c.joined_bits.result _ c.in-BitParts.is
-    (IsContent.bit_parts c.args.content.now) c.joined_bits.ensures
+    (IsContent.bit_parts c.args.content.now) c.joined_bits.ensures.ok
+
+pub content_in_der-returns-in-BitParts-clause-none : goal.content_in_der-returns-in-BitParts-clause-none
+content_in_der-returns-in-BitParts-clause-none t c =
+    content-refused c.args.nodes.now c.args.inside _ c.args.content.now c.joined_bits.result _ c.in-BitParts.is
+    (no_content-bits c.args.nodes.now c.args.content.now) c.joined_bits.ensures.none
 
 pub content_in_der-members_in_der-requires-in-AnyOrder : goal.content_in_der-members_in_der-requires-in-AnyOrder
 content_in_der-members_in_der-requires-in-AnyOrder t c =
@@ -51,8 +82,9 @@ content_in_der-members_in_der-requires-in-AnyOrder t c =
     c.in_ok-ordered-in-AnyOrder.ordered.items c.in_ok-ordered-in-AnyOrder.ensures in
     (omega (arith, c.decreases, same, ap length c.deref.ensures.value), tt)
 
-pub content_in_der-returns-in_ok-ordered-in-AnyOrder : goal.content_in_der-returns-in_ok-ordered-in-AnyOrder
-content_in_der-returns-in_ok-ordered-in-AnyOrder t c =
+pub content_in_der-returns-in_ok-ordered-in-AnyOrder-clause-ok
+    : goal.content_in_der-returns-in_ok-ordered-in-AnyOrder-clause-ok
+content_in_der-returns-in_ok-ordered-in-AnyOrder-clause-ok t c =
     let nodes = c.args.nodes.now in
     let content = c.args.content.now in
     let members = c.in-AnyOrder.members in
@@ -61,22 +93,50 @@ content_in_der-returns-in_ok-ordered-in-AnyOrder t c =
     subst (AreReordered nodes members.now content) (sym c.deref.ensures.value) c.in_ok-ordered-in-AnyOrder.ensures in
     content-of nodes c.args.inside _ content c.members_in_der-in-AnyOrder.result
     (AreMembers nodes members.now ordered) c.in-AnyOrder.is
-    (λ der. IsContent.any_order members content ordered der order) c.members_in_der-in-AnyOrder.ensures
+    (λ der. IsContent.any_order members content ordered der order) c.members_in_der-in-AnyOrder.ensures.ok
 
-pub content_in_der-returns-in_ok-elements-in-Set : goal.content_in_der-returns-in_ok-elements-in-Set
-content_in_der-returns-in_ok-elements-in-Set t c =
+pub content_in_der-returns-in_ok-ordered-in-AnyOrder-clause-none
+    : goal.content_in_der-returns-in_ok-ordered-in-AnyOrder-clause-none
+content_in_der-returns-in_ok-ordered-in-AnyOrder-clause-none t c =
+    let nodes = c.args.nodes.now in
+    let content = c.args.content.now in
+    let members = c.in-AnyOrder.members in
+    let ordered = c.deref.result.now in
+    let order : AreReordered nodes members.now content ordered =
+    subst (AreReordered nodes members.now content) (sym c.deref.ensures.value) c.in_ok-ordered-in-AnyOrder.ensures in
+    content-refused nodes c.args.inside _ content c.members_in_der-in-AnyOrder.result _ c.in-AnyOrder.is
+    (no_content-order nodes members content ordered order) c.members_in_der-in-AnyOrder.ensures.none
+
+pub content_in_der-returns-in_ok-elements-in-Set-clause-ok : goal.content_in_der-returns-in_ok-elements-in-Set-clause-ok
+content_in_der-returns-in_ok-elements-in-Set-clause-ok t c =
     let content = c.args.content.now in
     let elements = c.deref-in-Set.result.now in
     let each : AreEach c.args.nodes.now c.in-Set.index content elements =
     subst (AreEach c.args.nodes.now c.in-Set.index content) (sym c.deref-in-Set.ensures.value)
-    c.in_ok-elements-in-Set.ensures in
+    c.in_ok-elements-in-Set.ensures.ok in
     content-of c.args.nodes.now c.args.inside _ content c.in_order.result (AreInOrder elements) c.in-Set.is
-    (λ der. IsContent.set c.in-Set.index content elements der each) c.in_order.ensures
+    (λ der. IsContent.set c.in-Set.index content elements der each) c.in_order.ensures.ok
 
-pub content_in_der-returns-in-One : goal.content_in_der-returns-in-One
-content_in_der-returns-in-One t c =
+pub content_in_der-returns-in_ok-elements-in-Set-clause-none
+    : goal.content_in_der-returns-in_ok-elements-in-Set-clause-none
+content_in_der-returns-in_ok-elements-in-Set-clause-none t c =
+    let content = c.args.content.now in
+    let elements = c.deref-in-Set.result.now in
+    let each : AreEach c.args.nodes.now c.in-Set.index content elements =
+    subst (AreEach c.args.nodes.now c.in-Set.index content) (sym c.deref-in-Set.ensures.value)
+    c.in_ok-elements-in-Set.ensures.ok in
+    content-refused c.args.nodes.now c.args.inside _ content c.in_order.result _ c.in-Set.is
+    (no_content-sorted c.args.nodes.now c.in-Set.index content elements each) c.in_order.ensures.none
+
+pub content_in_der-returns-in-One-clause-ok : goal.content_in_der-returns-in-One-clause-ok
+content_in_der-returns-in-One-clause-ok t c =
     content-of c.args.nodes.now c.args.inside _ c.args.content.now c.one_in_der.result _ c.in-One.is
-    (IsContent.explicit c.in-One.index c.args.content.now) c.one_in_der.ensures
+    (IsContent.explicit c.in-One.index c.args.content.now) c.one_in_der.ensures.ok
+
+pub content_in_der-returns-in-One-clause-none : goal.content_in_der-returns-in-One-clause-none
+content_in_der-returns-in-One-clause-none t c =
+    content-refused c.args.nodes.now c.args.inside _ c.args.content.now c.one_in_der.result _ c.in-One.is
+    (no_content-one c.args.nodes.now c.in-One.index c.args.content.now) c.one_in_der.ensures.none
 
 -- ---- each_in_der
 
@@ -104,10 +164,12 @@ each_in_der-loop-rest-preserved t c =
       );
       so_far = each-more nodes c.args.index c.args.bytes.now rest after c.loop-rest.der.items
           c.push_element.new.der.items c.loop-rest.invariant.so_far pushed;
+      left = λ some. some-next nodes c.args.index rest after c.loop-rest.der.items c.push_element.new.der.items pushed
+          (c.loop-rest.invariant.left some);
     }
 
-pub each_in_der-returns : goal.each_in_der-returns
-each_in_der-returns t c =
+pub each_in_der-returns-clause-ok : goal.each_in_der-returns-clause-ok
+each_in_der-returns-clause-ok t c =
     each-end c.args.nodes.now c.args.index c.args.bytes.now c.loop-rest.rest.now c.loop-rest.der.items
     (nothing_left c.loop-rest.rest.now c.is_empty.result c.is_empty.ensures c.loop-rest-test.false)
     c.loop-rest.invariant.so_far
@@ -124,10 +186,13 @@ members_in_der-loop-member-preserved t c =
       so_far = member-next nodes c.args.members.now c.loop-member.member-index _ c.args.bytes.now rest after
           c.loop-member.der.items c.push_member.new.der.items c.loop-member-test.true c.loop-member.invariant.so_far
           c.in_ok-rest.ensures.ok;
+      left = λ some. members-next nodes c.args.members.now c.loop-member.member-index _ rest after
+          c.loop-member.der.items c.push_member.new.der.items c.loop-member-test.true c.in_ok-rest.ensures.ok
+          (c.loop-member.invariant.left some);
     }
 
-pub members_in_der-returns-then-is_empty : goal.members_in_der-returns-then-is_empty
-members_in_der-returns-then-is_empty t c =
+pub members_in_der-returns-then-is_empty-clause-ok : goal.members_in_der-returns-then-is_empty-clause-ok
+members_in_der-returns-then-is_empty-clause-ok t c =
     members-end c.args.nodes.now c.args.members.now c.loop-member.member-index c.args.bytes.now c.loop-member.rest.now
     c.loop-member.der.items (c.loop-member-test.false)
     (nothing_left c.loop-member.rest.now c.is_empty.result c.is_empty.ensures c.if-is_empty.true)
@@ -151,6 +216,7 @@ push_element-returns-in_default-inside_of t c =
             element.after.now c.in-Some.ensures c.in_default-inside_of.ensures.none;
         same = refl;
       };
+      none = tt;
     }
 
 pub push_member-returns : goal.push_member-returns
@@ -171,11 +237,13 @@ push_member-returns t c =
         ok = member-cut nodes m bytes after old new slice c.if-is_default.der.items place pushed size whole
             (c.is_default.ensures.0 w.if-is_default.true)
             (ap (λ d. d.items) w.der-is ∙ w.truncate.ensures.items);
+        none = tt;
       }
       | push_member-else-is_default w ↦ record {
         ok = member-same nodes m bytes after old new c.if-is_default.der.items (ap (λ d. d.items) w.der-is)
             (member-kept nodes m bytes after old new slice place pushed size whole
             (λ h. false≢true (sym w.if-is_default.false ∙ c.is_default.ensures.1 h)));
+        none = tt;
       }
     ]
 
@@ -188,6 +256,89 @@ push_element-returns t c =
       ok = pushed c.args.nodes.now c.args.index element.tag c.in-Some-inside_of.inside element.content.now content.items
           c.args.bytes.now element.after.now c.args.der.now.items c.push_header.new.bytes.items
           c.extend_from_slice.new.self.items c.deref.result.now c.tag_in_der.result c.len.result c.in-Some.ensures
-          c.in-Some-inside_of.ensures.some c.in_ok-content.ensures c.tag_in_der.ensures size c.in_ok-push_header.ensures
-          c.in_ok-extend_from_slice.ensures.items c.deref.ensures.value;
+          c.in-Some-inside_of.ensures.some c.in_ok-content.ensures.ok c.tag_in_der.ensures size
+          c.in_ok-push_header.ensures c.in_ok-extend_from_slice.ensures.items c.deref.ensures.value;
+      none = tt;
     }
+
+-- ---- refusals
+
+pub each_in_der-returns-in_err-after-clause-none : goal.each_in_der-returns-in_err-after-clause-none
+each_in_der-returns-in_err-after-clause-none t c =
+    let p = err_from_is_err_and c.from_residual.result c.from_residual.ensures.1 in
+    let rest = c.loop-rest.rest.now in
+    let more = something_left rest c.is_empty.result c.is_empty.ensures c.loop-rest-test.true in
+    rw (p.1, p.2) (λ some der are. no_each-front c.args.nodes.now c.args.index rest more
+    (c.in_err-after.ensures.none some) (c.loop-rest.invariant.left (record { der = der; are = are })))
+
+pub each_in_der-returns-in_default-clause-none : goal.each_in_der-returns-in_default-clause-none
+each_in_der-returns-in_default-clause-none t c =
+    let nodes = c.args.nodes.now in
+    let rest = c.loop-rest.rest.now in
+    let more = something_left rest c.is_empty.result c.is_empty.ensures c.loop-rest-test.true in
+    let none : IsNonePushed nodes c.args.index rest c.loop-rest.der.items c.push_element.new.der.items =
+    rw c.in_default.is at c.in_ok-after.ensures.ok in
+    λ wrong der are. no_each-tag nodes c.args.index rest more none.none
+    (c.loop-rest.invariant.left (record { der = der; are = are }))
+
+pub members_in_der-returns-in_err-rest-clause-none : goal.members_in_der-returns-in_err-rest-clause-none
+members_in_der-returns-in_err-rest-clause-none t c =
+    let p = err_from_is_err_and c.from_residual.result c.from_residual.ensures.1 in
+    rw (p.1, p.2) (λ some der are. no_members-at c.args.nodes.now c.args.members.now c.loop-member.member-index _
+    c.loop-member.rest.now c.loop-member-test.true (c.in_err-rest.ensures.none some)
+    (c.loop-member.invariant.left (record { der = der; are = are })))
+
+pub members_in_der-returns-else-is_empty-clause-none : goal.members_in_der-returns-else-is_empty-clause-none
+members_in_der-returns-else-is_empty-clause-none t c =
+    let rest = c.loop-member.rest.now in
+    let more = something_left rest c.is_empty.result c.is_empty.ensures c.if-is_empty.false in
+    λ wrong der are. no_members-past c.args.nodes.now c.args.members.now c.loop-member.member-index rest
+    c.loop-member-test.false more (c.loop-member.invariant.left (record { der = der; are = are }))
+
+pub one_in_der-returns-in_err-after-clause-none : goal.one_in_der-returns-in_err-after-clause-none
+one_in_der-returns-in_err-after-clause-none t c =
+    let p = err_from_is_err_and c.from_residual.result c.from_residual.ensures.1 in
+    rw (p.1, p.2) (λ some. no_one-front c.args.nodes.now c.args.index c.args.bytes.now
+    (c.in_err-after.ensures.none some))
+
+pub one_in_der-returns-in_default-clause-none : goal.one_in_der-returns-in_default-clause-none
+one_in_der-returns-in_default-clause-none t c =
+    let nodes = c.args.nodes.now in
+    let bytes = c.args.bytes.now in
+    let none : IsNonePushed nodes c.args.index bytes c.new-der.result.items c.push_element.new.der.items =
+    rw c.in_default.is at c.in_ok-after.ensures.ok in
+    λ wrong. no_one-tag nodes c.args.index bytes none.none
+
+pub one_in_der-returns-else-is_empty-clause-none : goal.one_in_der-returns-else-is_empty-clause-none
+one_in_der-returns-else-is_empty-clause-none t c =
+    let nodes = c.args.nodes.now in
+    let bytes = c.args.bytes.now in
+    let after = c.in-Some.after.now in
+    let old = c.new-der.result.items in
+    let new = c.push_element.new.der.items in
+    let pushed : IsPushed nodes c.args.index bytes after old new = rw c.in-Some.is at c.in_ok-after.ensures.ok in
+    λ wrong. no_one-more nodes c.args.index bytes after old new pushed
+    (something_left after c.is_empty.result c.is_empty.ensures c.if-is_empty.false)
+
+pub push_element-returns-in_err-content-clause-none : goal.push_element-returns-in_err-content-clause-none
+push_element-returns-in_err-content-clause-none t c =
+    let p = err_from_is_err_and c.from_residual.result c.from_residual.ensures.1 in
+    let element = c.in-Some.element in
+    rw (p.1, p.2) (λ some. no_front c.args.nodes.now c.args.index element.tag c.in-Some-inside_of.inside
+    c.args.bytes.now element.content.now element.after.now c.in-Some.ensures c.in-Some-inside_of.ensures.some
+    (c.in_err-content.ensures.none some))
+
+pub push_member-returns-in_err-after-clause-none : goal.push_member-returns-in_err-after-clause-none
+push_member-returns-in_err-after-clause-none t c =
+    let p = err_from_is_err_and c.from_residual.result c.from_residual.ensures.1 in
+    rw (p.1, p.2) (λ some. no_member-front c.args.nodes.now c.args.member.now c.args.bytes.now
+    (c.in_err-after.ensures.none some))
+
+pub push_member-returns-in-Required-clause-none : goal.push_member-returns-in-Required-clause-none
+push_member-returns-in-Required-clause-none t c =
+    let nodes = c.args.nodes.now in
+    let m = c.args.member.now in
+    let bytes = c.args.bytes.now in
+    let none : IsNonePushed nodes m.node bytes c.args.der.now.items c.push_element.new.der.items =
+    rw c.in_default.is at c.in_ok-after.ensures.ok in
+    λ wrong. no_member-tag nodes m bytes none.none c.in-Required.is

@@ -1,5 +1,6 @@
 use Rattle.std.proofs.Common.{◌+◌, ◌*◌, ◌++◌, ◌≤◌, List, ℕ, length, drop}
 use Rattle.der_ber_types.specs.Content.{AreEach, AreMembers}
+use Rattle.der_ber_types.proofs.Refusals.{SomeEach, SomeMembers}
 use Rattle.der_ber_types.proofs.content.+writing.Given as goal
 
 abbrev pub decreases-content_in_der : goal.decreases-content_in_der
@@ -26,6 +27,7 @@ invariant-each_in_der-loop-rest l = record {
   fewer : length l.rest ≤ length l.bytes;
   so_far : (others : List ℕ) → AreEach l.nodes l.index l.rest others
       → AreEach l.nodes l.index l.bytes (l.der.items ++ others);
+  left : SomeEach l.nodes l.index l.bytes → SomeEach l.nodes l.index l.rest;
 }
 
 abbrev pub decreases-each_in_der-loop-rest : goal.decreases-each_in_der-loop-rest
@@ -36,4 +38,5 @@ invariant-members_in_der-loop-member l = record {
   fewer : length l.rest ≤ length l.bytes;
   so_far : (others : List ℕ) → AreMembers l.nodes (drop l.member-index l.members) l.rest others
       → AreMembers l.nodes l.members l.bytes (l.der.items ++ others);
+  left : SomeMembers l.nodes l.members l.bytes → SomeMembers l.nodes (drop l.member-index l.members) l.rest;
 }

@@ -11,8 +11,8 @@ one_byte (b ∷ c ∷ s) least most = absurd (omega (arith, most))
 written : (der items : List ℕ) (b v : ℕ) → der ≡ items ++ b ∷ [] → items ≡ [] → b ≡ v → der ≡ v ∷ []
 written der items b v e none is = e ∙ ap (λ s. s ++ b ∷ []) none ∙ ap (λ n. n ∷ []) is
 
-pub returns : goal.returns
-returns c =
+pub returns-clause-ok : goal.returns-clause-ok
+returns-clause-ok c =
     let content = c.args.content.now in
     let value : content ≡ get_or content 0 0 ∷ [] = one_byte content c.in-len1.len_at_least c.in-len1.len_below in
     let items = c.in_ok-push.ensures.items in

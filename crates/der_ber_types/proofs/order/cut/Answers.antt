@@ -1,6 +1,8 @@
-use Rattle.std.proofs.Common.{◌≡◌, ◌++◌, ap, refl, ◌∙◌, arith, length}
+use Rattle.std.proofs.Common.{◌≡◌, ◌++◌, ap, refl, sym, ◌∙◌, arith, length, subst}
 use Rattle.picky_der_core.specs.Element.{IsElement}
 use Rattle.der_ber_types.proofs.Cutting.{one_more, cut_off, smaller_after}
+use Rattle.der_ber_types.proofs.Refusals.{SomeElements, elements-next, no_elements-front}
+use Rattle.der_ber_types.proofs.Writing.{something_left}
 use Rattle.der_ber_types.proofs.order.cut.Goals as goal
 
 pub loop-rest-smaller : goal.loop-rest-smaller
@@ -25,4 +27,16 @@ loop-rest-preserved c =
     let (elements, is) = one_more c.loop-rest.elements.items c.push.new.self.items first c.args.bytes.now rest
     c.split_at.result.1.now c.in_ok-push.ensures.items c.loop-rest.invariant.elements c.loop-rest.invariant.is
     element whole in
-    record { elements = elements; is = is }
+    record {
+      elements = elements;
+      is = is;
+      left = λ some. subst SomeElements (sym back)
+          (elements-next rest f.tag f.content.now f.after.now c.in-Some.ensures (c.loop-rest.invariant.left some));
+    }
+
+pub returns-in_default-clause-none : goal.returns-in_default-clause-none
+returns-in_default-clause-none c =
+    λ wrong elements are.
+    let rest = c.loop-rest.rest.now in
+    no_elements-front rest (something_left rest c.is_empty.result c.is_empty.ensures c.loop-rest-test.true)
+    c.in_default.ensures (c.loop-rest.invariant.left (record { elements = elements; are = are }))

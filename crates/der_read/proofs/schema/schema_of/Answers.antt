@@ -38,11 +38,20 @@ returns-in-Cms-clause-some c = rw c.in-Cms.is (ap Some (sym c.content_info.ensur
 pub returns-in-SignedData-clause-some : goal.returns-in-SignedData-clause-some
 returns-in-SignedData-clause-some c = rw c.in-SignedData.is (ap Some (sym c.signed_data.ensures))
 
+pub returns-in-EnvelopedData-clause-some : goal.returns-in-EnvelopedData-clause-some
+returns-in-EnvelopedData-clause-some c = rw c.in-EnvelopedData.is (ap Some (sym c.enveloped_data.ensures))
+
 pub returns-in-DigestedData-clause-some : goal.returns-in-DigestedData-clause-some
 returns-in-DigestedData-clause-some c = rw c.in-DigestedData.is (ap Some (sym c.digested_data.ensures))
 
 pub returns-in-EncryptedData-clause-some : goal.returns-in-EncryptedData-clause-some
 returns-in-EncryptedData-clause-some c = rw c.in-EncryptedData.is (ap Some (sym c.encrypted_data.ensures))
+
+pub returns-in-AuthenticatedData-clause-some : goal.returns-in-AuthenticatedData-clause-some
+returns-in-AuthenticatedData-clause-some c = rw c.in-AuthenticatedData.is (ap Some (sym c.authenticated_data.ensures))
+
+pub returns-in-AuthEnvelopedData-clause-some : goal.returns-in-AuthEnvelopedData-clause-some
+returns-in-AuthEnvelopedData-clause-some c = rw c.in-AuthEnvelopedData.is (ap Some (sym c.auth_enveloped_data.ensures))
 
 pub returns-in-Pkcs8-clause-some : goal.returns-in-Pkcs8-clause-some
 returns-in-Pkcs8-clause-some c = rw c.in-Pkcs8.is (ap Some (sym c.private_key_info.ensures))
