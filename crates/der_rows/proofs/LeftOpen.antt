@@ -65,10 +65,11 @@ module _ {W : Type 0} (g : Ghosts W) where
       }
 
   -- the same for the result that passes the error on
-  pub left_open_at : (t : Tree) (header : Header) {T : Type 0} {old mid new : State W} {lazy last : Writing W} {n : ℕ}
-      {e : Asn1DerError} (r : Result T Asn1DerError) → IsErrAnd r (λ error. error ≡ e) → new.sink ≡ last.sink
+  pub left_open_at : (t : Tree) (header : Header) {T : Type 0} {old mid : State W} {lazy last : Writing W} {n : ℕ}
+      {e : Asn1DerError} (new : State W) (r : Result T Asn1DerError) → IsErrAnd r (λ error. error ≡ e)
+      → new.sink ≡ last.sink
       → new.failed ≡ last.failed
       → Writes g t old n mid → OpensLevel g header mid lazy
       → RefusesToAdd g (Tree.primitive (Primitive.unsigned 1)) lazy e last → IfErr r (λ e. RefusesWrite g t old e new)
-  left_open_at t header (Ok v) h sink failed w o f = absurd h
-  left_open_at t header (Err error) h sink failed w o f = rw h (left_open t header w o f sink failed)
+  left_open_at t header new (Ok v) h sink failed w o f = absurd h
+  left_open_at t header new (Err error) h sink failed w o f = rw h (left_open t header w o f sink failed)

@@ -4,5 +4,5 @@ use Rattle.der_rows.proofs.hand_written.LitteringSerialize.serialize.Goals as go
 
 pub returns-in_err-serialize_element-clause-failed : goal.returns-in_err-serialize_element-clause-failed
 returns-in_err-serialize_element-clause-failed g c =
-    left_open_at g.W.WriteExt _ _ _ c.from_residual-in_err-serialize_element.ensures.1 (search rules)
+    left_open_at g.W.WriteExt _ _ _ _ c.from_residual-in_err-serialize_element.ensures.1 (search rules)
     (search rules) c.in_ok-count.ensures.wrote c.serialize_lazy.ensures.opened c.in_err-serialize_element.ensures.err
