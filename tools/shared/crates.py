@@ -61,7 +61,7 @@ def tests() -> list[str]:
 def generated() -> list[str]:
     """The crates that tools/der_asn1 writes."""
     text = (ROOT / "modules" / "generated.txt").read_text(encoding="utf-8")
-    return [name_in(line) for line in text.splitlines() if line.strip() and not line.startswith("#")]
+    return [name_in(line) for line in text.splitlines() if line.strip() and not line.startswith(("#", " "))]
 
 
 def chosen(without: Mapping[str, Iterable[str]]) -> list[str]:

@@ -54,6 +54,14 @@ class Crates(unittest.TestCase):
         self.assertEqual("left out: der_fixtures, user_rows, rows_of_rows (tests); types (written)\n", out.getvalue())
 
 
+class Tables(unittest.TestCase):
+    def test_that_types_need_none(self) -> None:
+        """A program that only reads and writes has nothing of tables."""
+        needed = crates.needed()
+        for name in {"picky_asn1_der", "der_elements", "der_jiff", "der_first", "der_tool", *crates.generated()} & {*needed}:
+            self.assertNotIn("der_schema", needed[name])
+
+
 class Files(unittest.TestCase):
     def setUp(self) -> None:
         room = tempfile.TemporaryDirectory()

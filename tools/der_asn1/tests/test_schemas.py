@@ -70,6 +70,8 @@ ALTERED = [
     ("SEQUENCE { a INTEGER, b NULL }", "a INTEGER", "c INTEGER"),
     ("SEQUENCE { a INTEGER, b INTEGER }", "a INTEGER, b", "b INTEGER, a"),
     ("SEQUENCE { a INTEGER OPTIONAL }", " OPTIONAL", ""),
+    ("SEQUENCE { a BOOLEAN DEFAULT TRUE }", "DEFAULT TRUE", "OPTIONAL"),
+    ("SEQUENCE { a INTEGER (0..9) DEFAULT 5 }", "DEFAULT 5", "OPTIONAL"),
     ("CHOICE { a NULL, b BOOLEAN }", "b BOOLEAN", "c BOOLEAN"),
     ("ENUMERATED { a(1), b(2) }", "a(1), b(2)", "b(1), a(2)"),
     ("BIT STRING { a(0), b(1) }", "b(1)", "b(2)"),
@@ -119,6 +121,14 @@ class Nodes(unittest.TestCase):
             with self.subTest(notation):
                 _, table, _ = table_of(notation)
                 self.assertEqual(table, read_table(written(table)))
+
+    def test_a_default_that_is_neither_a_truth_nor_a_number(self):
+        modules = read_text(module_text('T ::= SEQUENCE { a UTF8String DEFAULT "x" }'), "m.asn1", Problems())
+        program, _, found, _ = tables_of(modules, [], optional_defaults=True)
+        text = printed_table(found["M", "T"])
+        self.assertIn("T ::= SEQUENCE { a UTF8String OPTIONAL }", text)
+        agreement = NamedAgreement(text, {("M", "T"): "T"}, program)
+        self.assertIsNone(agreement.difference(program.indexes[id(modules[0])]["T"], modules[0]))
 
     def test_what_has_none(self):
         for notation in WITHOUT:
