@@ -90,8 +90,7 @@ int main(int argc, char **argv) {
         left = failures++;
         written = 0;
         code = picky_der_to_json(PICKY_DER_TYPE_CERTIFICATE, bytes, len, &position, json, 8 * len + 4096, &written);
-        /* der_json takes some failed allocations for a content that it doesn't support: bindings/README.md says so. */
-        need(code == PICKY_DER_OK || ((code == PICKY_DER_NO_MEMORY || code == PICKY_DER_UNSUPPORTED) && written == 0), "JSON without memory");
+        need(code == PICKY_DER_OK || (code == PICKY_DER_NO_MEMORY && written == 0), "JSON without memory");
     } while (code != PICKY_DER_OK);
     need(failures > 10, "JSON takes memory");
     failures = 0;
@@ -100,7 +99,7 @@ int main(int argc, char **argv) {
         left = failures++;
         written = 0;
         code = picky_der_from_json(PICKY_DER_TYPE_CERTIFICATE, json, json_len, bytes, len, &written);
-        need(code == PICKY_DER_OK || code == PICKY_DER_NO_VALUE || (code == PICKY_DER_NO_MEMORY && written == 0), "a message of JSON without memory");
+        need(code == PICKY_DER_OK || (code == PICKY_DER_NO_MEMORY && written == 0), "a message of JSON without memory");
     } while (code != PICKY_DER_OK);
     need(failures > 10 && written == len, "a message of JSON takes memory");
     left = -1;
