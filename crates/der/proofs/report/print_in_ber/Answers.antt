@@ -14,8 +14,8 @@ returns-in_ok-write_exact-in-Message g c =
     c.in_ok-line.ensures in
     let line = rw c.as_bytes.ensures.value at c.in_ok-write_exact-in-Message.ensures.appends in
     IfOk-weaker c.print_in_der.result _ _
-    (λ status h. ber_printed r c.args.view source (option_copied c.args.label) c.args.named c.args.bytes.now status _ _ _
-    _ _ is line h)
+    (λ status h. ber_printed r c.args.view source (option_copied c.args.label) c.args.named c.args.bytes.now status
+    _ _ _ _ _ is line h)
     (rw c.deref.ensures.value at c.print_in_der.ensures)
 
 pub returns-in-Refused : goal.returns-in-Refused
