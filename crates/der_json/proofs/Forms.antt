@@ -1,5 +1,5 @@
 -- What is in a value of a type, by the form of the type.
-use Rattle.std.proofs.Common.{◌≡◌, ℕ, Bool, true, false, List, ◌++◌, Option, Some, None, sym, ap, ◌∙◌, refl, subst}
+use Rattle.std.proofs.Common.{◌≡◌, ℕ, Bool, true, false, List, ◌++◌, Some, sym, refl, subst}
 use Rattle.serde_json.specs.Data.{Data, no_members}
 use Rattle.picky_der_core.specs.Element.{tlv}
 use Rattle.picky_der_core.specs.Encoding.{plain_encoding}

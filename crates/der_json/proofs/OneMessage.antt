@@ -1,9 +1,9 @@
 -- JSON is that of one message only.
-use Rattle.std.proofs.Common.{◌≡◌, ◌≢◌, ℕ, zero, suc, Bool, true, false, List, [], ◌∷◌, ◌++◌, Option, Some, None, sym, ap}
-use Rattle.std.proofs.Common.{ap₂, ◌∙◌, refl, subst}
+use Rattle.std.proofs.Common.{◌≡◌, ◌≢◌, ℕ, zero, suc, Bool, true, false, List, [], ◌∷◌, ◌++◌, Some, None}
+use Rattle.std.proofs.Common.{sym, ap, ap₂, ◌∙◌, refl, subst}
 use Rattle.std.specs.Prelude.{slice_get}
 use Rattle.std.specs.List.{AllByRecursion}
-use Rattle.serde_json.specs.Data.{Data, Members, array, no_members, object, put}
+use Rattle.serde_json.specs.Data.{Data, Members, no_members, put}
 use Rattle.serde_json.specs.Find.{get, get_member}
 use Rattle.serde_json.specs.View.{items_of}
 use Rattle.serde_json.proofs.Views.{get_member-put, get_member-put_other}
@@ -18,13 +18,13 @@ use Rattle.der_schema.specs.declared.node.Kind.{Kind}
 use Rattle.der_schema.specs.declared.node.Kind.TheVariants as kind
 use Rattle.der_schema.specs.declared.node.Member.{Member}
 use Rattle.der_schema.specs.declared.node.Node.{Node}
-use Rattle.der_json.specs.Contents.{IsContentJson, IsPlain}
+use Rattle.der_json.specs.Contents.{IsPlain}
 use Rattle.der_json.specs.Json.{AreItems, AreMembers, IsAlternative, IsAny, IsJson, alternatives_in, members_in}
 use Rattle.der_json.specs.Json.{wrapped_data}
 use Rattle.der_json.specs.Laws.{OneMessage}
 use Rattle.der_json.specs.Names.{alternative_names, member_names, names_in}
-use Rattle.der_json.proofs.Forms.{Form, IsFormed, IsListed, IsSequence, IsUnder, IsWrapped, any_form, choice_form, form_of}
-use Rattle.der_json.proofs.Forms.{formed, list_form, plain_form, same_form, sequence_form}
+use Rattle.der_json.proofs.Forms.{Form, IsFormed, IsListed, IsSequence, IsUnder, IsWrapped, any_form, choice_form}
+use Rattle.der_json.proofs.Forms.{form_of, formed, list_form, plain_form, same_form, sequence_form}
 use Rattle.der_json.proofs.NameLemmas.{AreDifferent, AreNames, HasNames, each_has_names}
 use Rattle.der_json.proofs.OneContent.{content_of, one_element}
 
@@ -204,8 +204,8 @@ mutual
       let inner : v ≡ w =
       cc (found nodes m others rest v before d other.0 xs, found nodes m others more w earlier e other.0 ys, same) in
       let fronts : first ≡ second =
-      one_value nodes m.node true first v x names second w inner (first_bytes first rest p) (first_bytes second more q) y
-      in
+      one_value nodes m.node true first v x names second w inner (first_bytes first rest p)
+      (first_bytes second more q) y in
       let ends : rest ≡ more =
       one_members nodes others rest (put m.name.now v before) d xs names other.1 more (put m.name.now w earlier) e same
       (second_bytes first rest p) (second_bytes second more q)
@@ -251,4 +251,5 @@ mutual
       ap₂ (λ a b. a ++ b) fronts ends
 
 pub one_message : OneMessage
-one_message nodes i header s t d names p q x y = one_value nodes i header s d x (each_has_names nodes names) t d refl p q y
+one_message nodes i header s t d names p q x y =
+    one_value nodes i header s d x (each_has_names nodes names) t d refl p q y

@@ -1,7 +1,7 @@
 -- The JSON of values without parts (X.697).
-use Rattle.std.specs.Prelude.{◌≡◌, ℕ, ◌%◌, Bool, true, false, ◌||◌, ◌⊎◌, List, [], ◌∷◌, length, map, Option}
+use Rattle.std.specs.Prelude.{◌≡◌, ℕ, ◌%◌, Bool, true, false, ◌⊎◌, List, [], ◌∷◌, length, map, Option}
 use Rattle.std.specs.Prelude.{Some, None}
-use Rattle.std.specs.Prelude.{is_err, ⊤, codes}
+use Rattle.std.specs.Prelude.{is_err, codes}
 use Rattle.std.specs.List.{list_any}
 use Rattle.std.specs.Str.{IsUtf8, encode_utf8_all}
 use Rattle.hex.specs.Hex.{encode_upper}
