@@ -34,11 +34,22 @@ impl<'a, W: WriteExt> Sequence<'a, W> {
         ensures same_reference { borrowed_by result ≡ ser.entry.ghost_name }
         ensures opened { OpensLevel W.WriteExt.own (Header.Tagged tag) ser.old (state_of result) }
     {
-        let mark = ser.open(Header::Tagged(tag));
-        Sequence {
-            ser,
-            mark,
-            header: PhantomData,
+        let header = Header::Tagged(tag);
+        // Each way makes the mark in its final place.
+        match ser.open_short(header) {
+            Some(mark) => Sequence {
+                ser,
+                mark,
+                header: PhantomData,
+            },
+            None => {
+                let mark = ser.open_any(header);
+                Sequence {
+                    ser,
+                    mark,
+                    header: PhantomData,
+                }
+            }
         }
     }
 

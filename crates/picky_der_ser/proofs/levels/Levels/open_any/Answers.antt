@@ -32,7 +32,7 @@ returns c =
       | then-has_room w ↦ rw w.self-inside-is refl
       | else-has_room w ↦ rw w.self-inside-is refl
     ] in
-    let ready : c.if-has_room-2.mark ≡ true → is_set c.args.mark.now.header ≡ false = elim c.if-has_room-2.branch [
+    let ready : c.if-has_room-2.mark ≡ true → is_set c.args.header ≡ false = elim c.if-has_room-2.branch [
       | then-has_room-2 w ↦ unset w.is_set.result _ _ w.is_set.ensures w.mark-is
       | else-has_room-2 w ↦ λ e. let test = sym w.mark-is ∙ e in absurd (grind (arith, nat_tests))
     ] in

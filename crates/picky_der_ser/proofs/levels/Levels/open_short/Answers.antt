@@ -8,10 +8,10 @@ use Rattle.picky_der_ser.proofs.LevelMarks.{grown_all, unset, inside-some, opens
 use Rattle.picky_der_ser.proofs.levels.Levels.open_short.Goals.{then-has_room, else-has_room}
 use Rattle.picky_der_ser.proofs.levels.Levels.open_short.Goals as goal
 
-pub returns-clause-yes : goal.returns-clause-yes
-returns-clause-yes c = λ yes.
+pub returns-clause-some : goal.returns-clause-some
+returns-clause-some c =
     let old = c.args.self.now in
-    let header = c.args.mark.now.header in
+    let header = c.args.header in
     let o = c.self.inside in
     let b = o.bytes.items in
     let q = o.seams.items in

@@ -2,17 +2,17 @@ use Rattle.std.proofs.Common.{refl}
 use Rattle.picky_der_ser.specs.State.{State}
 use Rattle.picky_der_ser.proofs.LevelWrites.{level_opened, level_open, open_unless}
 use Rattle.picky_der_ser.proofs.LevelMarks.{state_with}
-use Rattle.picky_der_ser.proofs.serializer.Serializer.open.Goals as goal
+use Rattle.picky_der_ser.proofs.serializer.Serializer.open_any.Goals as goal
 
 pub returns : goal.returns
 returns g c =
     let s = c.self.inside in
-    let l = c.open.new.self in
-    let m = c.open.result in
+    let l = c.open_any.new.self in
+    let m = c.open_any.result in
     let old = state_with s.sink s.failed s.levels in
     let new = state_with s.sink s.failed l in
     record {
-      opened = rw (← c.self.view_is) (level_opened g.W.WriteExt c.args.header m old new c.open.ensures refl refl);
+      opened = rw (← c.self.view_is) (level_opened g.W.WriteExt c.args.header m old new c.open_any.ensures refl refl);
       still_open = open_unless m s.failed l.inside l.pending
-          (level_open g.W.WriteExt c.args.header m old new c.open.ensures);
+          (level_open g.W.WriteExt c.args.header m old new c.open_any.ensures);
     }
