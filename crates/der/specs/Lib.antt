@@ -2,4 +2,3 @@ pub mod Notes
 pub mod Report
 pub mod Request
 pub mod Write
-pub mod WriteBer

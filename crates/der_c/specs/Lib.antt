@@ -1,4 +1,3 @@
-pub mod Ber
 pub mod Codes
 pub mod Verdict
 pub mod Types

@@ -2,7 +2,6 @@
 //! the libraries below.
 #![tactic(auto)]
 
-mod ber;
 mod check;
 mod code;
 mod element;

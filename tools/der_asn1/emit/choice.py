@@ -1,4 +1,6 @@
 """A choice, in the form of docs/YOUR_TYPES.md, with the proof of what it writes."""
+from collections.abc import Sequence
+
 from ..meaning.declarations import ChoiceDeclaration, Declaration, Field
 from ..meaning.library import FOUR, NONE_OF, parts_type
 from ..meaning.rust_types import RustType
@@ -7,6 +9,7 @@ from .comments import difference_note, sentence
 from .end import variants_of_end
 from .imports import PRELUDE, Uses
 from .layout import GHOST_WIDTH, STEP, WIDTH, comment, signature, type_lines
+from .many import Quoted, has_many, many_lines
 from .private_names import PrivateNames
 
 _TWO = STEP * 2
@@ -104,8 +107,9 @@ def choice_lines(declared: ChoiceDeclaration, names: PrivateNames, home: str, en
     parts, variants = names.of(declared, "Parts"), variants_import(declared, home)
     if end != NONE_OF:
         variants.insert(1, f"{STEP}ghost use {variants_of_end(home.split('.')[1])} as ends;")
-    own = [*definition(declared), "", *choice_impls(declared, names, home, end), "", *notated_impl(declared, parts)]
-    return [*own, "", *exact_impl(declared, parts, variants, end)]
+    quoted = Quoted([it.type for it in declared.variants], declared, names)
+    own = [*definition(declared), "", *quoted.lines, *choice_impls(declared, names, home, end), "", *notated_impl(declared, parts)]
+    return [*own, "", *exact_impl(declared, parts, variants, end, quoted.types)]
 
 
 def choice_impls(declared: ChoiceDeclaration, names: PrivateNames, home: str, end: RustType = NONE_OF) -> list[str]:
@@ -267,12 +271,16 @@ def notated_impl(declared: ChoiceDeclaration, parts: str) -> list[str]:
     ]
 
 
-def exact_impl(declared: ChoiceDeclaration, parts: str, imported: list[str], end: RustType = NONE_OF) -> list[str]:
-    """The implementation of `Exact`: its alternatives are exact, and each of them is that of a value."""
+def exact_impl(
+    declared: ChoiceDeclaration, parts: str, imported: list[str], end: RustType = NONE_OF, types: Sequence[str] = ()
+) -> list[str]:
+    """The implementation of `Exact`: its alternatives are exact, and each of them is that of a value. With `types` they are taken one by one."""
+    begin = f"{STEP}ghost values = {{ choice_values"
+    is_long = has_many(declared) and types
     return [
         f"impl Exact for {declared.name} {{",
         *imported,
-        f"{STEP}ghost values = {{ choice_values ⟦<{parts} as ExactAlternatives>⟧.chosen_values",
+        *([begin, *many_lines(types, str(end))] if is_long else [f"{begin} ⟦<{parts} as ExactAlternatives>⟧.chosen_values"]),
         f"{_TWO}⟦<{parts} as NotatedAlternatives>⟧.alternatives_notation ⟦<{parts} as Alternatives>⟧.chosen ⟦<Self as Choice>⟧.parts",
         f"{_TWO}(elim [",
         *(f"{_TWO}  | {it}" for it in made_cases(declared.variants, end)),

@@ -20,6 +20,7 @@ from .folder import NOTE
 from .imports import MOST_GROUPED
 from .layout import comment, filled, natural
 from .listed import LISTED_FILE, is_element, is_encoded, listed_terms
+from .many import MANY_FILE, has_many, many_terms
 from .named import named_file
 from .notation import defined, notation_file, notation_terms
 from .private_names import PrivateNames
@@ -116,6 +117,8 @@ class Crate:
         lists = [it for it in self.sorted_types() if isinstance(it, ListedDeclaration)]
         if lists:
             found[f"specs/{LISTED_FILE}.antt"] = self.file("--", listed_terms(lists), {it.module for it in lists})
+        if any(map(has_many, self.types.values())):
+            found[f"specs/{MANY_FILE}.antt"] = self.file("--", many_terms(), set())
         names = sorted([*(Path(it).stem for it in found if it.startswith("specs/")), *self.own_terms])
         if names:
             found["specs/Lib.antt"] = self.file("--", [f"pub mod {it}" for it in names], self.module_names())

@@ -18,6 +18,7 @@ from .faithful import faithful_default_impl, faithful_default_uses, faithful_imp
 from .imports import Uses
 from .layout import assigned, comment
 from .listed import is_encoded, listed_lines, listed_uses
+from .many import many_uses
 from .newtype import newtype_lines, newtype_uses
 from .private_names import PrivateNames
 from .struct import struct_lines, struct_uses
@@ -66,6 +67,7 @@ def types_file(types: list[Declaration], stem: str, context: Context) -> list[st
     uses, body = Uses(), []
     for it in types:
         uses.add(uses_of(it, context))
+        uses.add(many_uses(it, context.crate))
         body += ["", *with_derives(lines_of(it, stem, context), derived(it, context.derives))]
         for more, lines in promises(it, stem, context):
             uses.add(more)

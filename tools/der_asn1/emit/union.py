@@ -9,6 +9,7 @@ from .choice import alternatives_uses, cases_of, made_cases, variant_lines, vari
 from .comments import difference_note, sentence
 from .imports import PRELUDE, Uses
 from .layout import STEP, comment, signature, type_lines
+from .many import Quoted, has_many, many_lines
 from .private_names import PrivateNames
 
 # the file of the function that tries a type, and its name
@@ -89,17 +90,17 @@ def element_uses(names: set[str]) -> Uses:
 
 def union_lines(declared: UnionDeclaration, names: PrivateNames, home: str) -> list[str]:
     """The items of such a type. `home` is the module of terms of the types of its file."""
-    own = names.of(declared, "Parts")
+    own, quoted = names.of(declared, "Parts"), Quoted(part_types(declared), declared, names)
     items = [
         definition(declared),
-        type_lines("", f"type {own} = ", str(parts_type(part_types(declared))), ";"),
+        [*type_lines("", f"type {own} = ", str(parts_type(part_types(declared))), ";"), *quoted.lines],
         own_impl(declared),
         equal_impl(declared.name, parts(declared.name), "encoding()"),
         serialize_impl(declared.name, "encoding()"),
         try_via_impl(declared, home),
         *element_impls(declared.name),
         notated_impl(declared, own),
-        exact_impl(declared, own, home),
+        exact_impl(declared, own, home, quoted),
     ]
     return [line for number, it in enumerate(items) for line in ([""] if number else []) + it]
 
@@ -239,8 +240,9 @@ def notated_impl(declared: UnionDeclaration, own: str) -> list[str]:
     ]
 
 
-def exact_impl(declared: UnionDeclaration, own: str, home: str) -> list[str]:
+def exact_impl(declared: UnionDeclaration, own: str, home: str, quoted: Quoted) -> list[str]:
     """The implementation of `Exact`: each type is, and an element of one of them is that of a value."""
+    begin = f"{STEP}ghost values = {{ element_values"
     lists = [
         cases_of(declared.variants),
         made_cases(declared.variants),
@@ -254,7 +256,7 @@ def exact_impl(declared: UnionDeclaration, own: str, home: str) -> list[str]:
     return [
         f"impl Exact for {declared.name} {{",
         *variants_import(declared, home),
-        f"{STEP}ghost values = {{ element_values ⟦<{own} as ExactAlternatives>⟧.chosen_values",
+        *([begin, *many_lines(quoted.types, "NoneOf")] if has_many(declared) else [f"{begin} ⟦<{own} as ExactAlternatives>⟧.chosen_values"]),
         f"{_TWO}⟦<{own} as NotatedAlternatives>⟧.alternatives_notation ⟦<{own} as Alternatives>⟧.chosen",
         f"{_TWO}(λ it. ({parts(declared.name)} it).0.items)",
         *cases[0],
