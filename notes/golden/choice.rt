@@ -1,13 +1,13 @@
 #![tactic(auto)]
-ghost use Rattle.std.specs.Prelude.{ℕ, ◌≡◌, refl};
+ghost use Rattle.std.specs.Prelude.{ℕ, ◌≡◌, ◌+◌, refl};
 
 use std::convert::Infallible;
 
 pub trait Begins: PartialEq + Drop + Sized { ghost shape: { ℕ }; }
 
-pub enum OneOf<A, B> { This(A), Other(B) }
+#[derive(Drop)] pub enum OneOf<A, B> { This(A), Other(B) }
 
-pub trait Alternatives: BOUND { 
+pub trait Alternatives: Drop + Sized { 
     ghost shapes: { ℕ }; 
     fn read(tag: u8) -> Option<Self>;
 }
@@ -33,8 +33,8 @@ pub struct B { it: String }
 pub enum C { A(A), B(B) }
 
 impl Choice for C {
-    ghost use Rattle.NAME.specs.declared.C.TheVariants as variants;
-    ghost use Rattle.NAME.specs.declared.OneOf.TheVariants.{This, Other};
+    ghost use Rattle.d.specs.declared.C.TheVariants as variants;
+    ghost use Rattle.d.specs.declared.OneOf.TheVariants.{This, Other};
 
     type Alternatives = OneOf<A, OneOf<B, Infallible>>;
 
@@ -49,3 +49,6 @@ impl Choice for C {
 }
 
 pub fn some_c(tag: u8) -> Option<C> { read(tag) }
+impl<A: Begins, B: Alternatives> Alternatives for OneOf<A, B> { ghost shapes = { A.shape + B.shapes }; fn read(tag: u8) -> Option<OneOf<A, B>> { Some(OneOf::Other(B::read(tag)?)) } }
+impl Begins for A { ghost shape = { 1 }; }
+impl Begins for B { ghost shape = { 2 }; }
