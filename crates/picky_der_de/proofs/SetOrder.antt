@@ -1,26 +1,28 @@
 -- Members of sets: those that are shown before they are read, and those that are out of order.
-use Rattle.std.proofs.Common.{◌≡◌, ℕ, ◌-◌, ◌≤◌, Bool, List, [], ◌∷◌, ◌++◌, length, take, drop, Option, Some, None}
+use Rattle.std.proofs.Common.{◌≡◌, ◌≢◌, ℕ, ◌-◌, ◌≤◌, Bool, List, [], ◌∷◌, ◌++◌, length, take, drop, Option, Some, None}
 use Rattle.std.proofs.Common.{IfNone, IfSome, sym, ◌∙◌, ap, subst, arith, append_assoc, true, false, refl, ◌+◌, ◌^◌}
 use Rattle.std.proofs.Common.{◌<◌, map}
 use Rattle.std.specs.Io.{StartsWith}
 use Rattle.std.proofs.lemmas.List.{take-append-drop, append_cancel_left}
 use Rattle.std.proofs.lemmas.Grind.{common_steps}
 use Rattle.picky_der_core.specs.Element.{length_octets, tlv, IsElement}
+use Rattle.picky_der_core.specs.Failure.{failure_of}
 use Rattle.picky_der_core.specs.Order.{is_less}
 use Rattle.picky_der_de.specs.Ahead.{IsElementInFront}
-use Rattle.picky_der_de.specs.Order.{cut_at, with_last, is_out_of_order, sets_seen, SeesMember, out_of_order, order_of}
-use Rattle.picky_der_de.specs.Order.{sets_inside, AreInOrder}
-use Rattle.picky_der_de.proofs.Order.{cut_after, concerns_alike, judged_alike, fails_alike}
+use Rattle.picky_der_de.specs.Order.{with_last, is_out_of_order, out_of_order, without_memory, RefusesTest, order_of}
+use Rattle.picky_der_de.specs.Order.{AreInOrder}
+use Rattle.picky_der_de.specs.SetOrder.{SetOrder, known_bytes, IsCompared, SeesNext}
+use Rattle.picky_der_de.proofs.Order.{judged_alike}
 use Rattle.picky_der_core.specs.declared.error.Asn1DerError.{Asn1DerError}
 use Rattle.picky_der_core.specs.declared.error.Asn1DerError.TheVariants.{InvalidData, OutOfMemory}
 use Rattle.picky_der_core.specs.Tree.{Tree, ListKind, trees}
 use Rattle.picky_der_core.specs.Encoding.{der}
 use Rattle.picky_der_core.specs.EncodingLaws.{der-element, same_element}
 use Rattle.picky_der_core.specs.Shape.{Shape}
-use Rattle.picky_der_de.specs.State.{OpenSets, State}
+use Rattle.picky_der_de.specs.State.{State}
 use Rattle.picky_der_de.specs.Steps.{Consumed, Fails, failed_with, IsJudged, is_hard}
 use Rattle.picky_der_de.specs.RefusesBy.{Rule, RefusesBy}
-use Rattle.picky_der_de.specs.Reading.{Reads, Refuses, now}
+use Rattle.picky_der_de.specs.Reading.{Concerns, Reads, Refuses, now, ever}
 use Rattle.picky_der_de.proofs.Refusals.{front_consumed}
 use Rattle.picky_der_de.specs.Members.{ReadsMember, RefusesMember, members_encoding, AreBefore, BreaksOrder, RefusesAll}
 use Rattle.picky_der_de.specs.Members.{RefusesUnordered}
@@ -36,13 +38,13 @@ use Rattle.picky_der_de.proofs.Steps.{judged_after}
 use Rattle.picky_der_de.proofs.Ends.{judged_with_inner_end}
 use Rattle.picky_der_de.proofs.Headers.{header-read}
 
--- these bytes are known to be next
-pub record IsKnownNext (i : Option (List ℕ)) (bytes : List ℕ) : Type 0 where
-  pub left : List ℕ
-  pub known : i ≡ Some (bytes ++ left)
+-- the first so many of these bytes are known to be next, and the others after them
+pub record IsKnownNext (i : Option (List ℕ)) (all : List ℕ) (count : ℕ) : Type 0 where
+  pub rest : List ℕ
+  pub known : i ≡ Some (take count all ++ (drop count all ++ rest))
 
 pub known_next : (i : Option (List ℕ)) (all : List ℕ) (count : ℕ) → IfSome i (λ bytes. StartsWith bytes all)
-    → IfNone i (all ≡ []) → IsElementInFront all count → IsKnownNext i (take count all)
+    → IfNone i (all ≡ []) → IsElementInFront all count → IsKnownNext i all count
 known_next None all count h none e =
     let is : take count all ≡ e.tag ∷ (length_octets (length e.content) ++ e.content) = e.is in
     let nothing : take count all ≡ [] = ap (take count) none ∙ take_nothing count in
@@ -55,48 +57,93 @@ known_next (Some bytes) all count h none e =
     ∙ ap (λ x. x ++ drop (length all) bytes) h in
     let parts : all ≡ take count all ++ drop count all = sym (take-append-drop count all) in
     record {
-      left = drop count all ++ drop (length all) bytes;
+      rest = drop (length all) bytes;
       known = ap (λ x. Some x) (whole ∙ ap (λ x. x ++ drop (length all) bytes) parts
           ∙ append_assoc (take count all) (drop count all) (drop (length all) bytes));
     }
 
-pub element_next : {all : List ℕ} {count : ℕ} → IsElementInFront all count → IsElement (take count all)
+element_next : {all : List ℕ} {count : ℕ} → IsElementInFront all count → IsElement (take count all)
 unfolding tlv
 element_next e = record { tag = e.tag; content = e.content; number = e.number; is = e.is }
 
--- what is kept if it replaces the one before it
-pub cut_member : (d : Option ℕ) (start : ℕ) (kept member : List ℕ) → d ≡ Some start → start ≤ length kept
-    → cut_at d (take start kept ++ member) ≡ with_last (cut_at d kept) member
-cut_member None start kept member e l = absurd (let q : None ≡ Some start = e in cc)
-cut_member (Some n) start kept member e l =
-    let same : n ≡ start = cc in
-    let size : length (take start kept) ≡ start = grind (arith, common_steps) in
-    let q = cut_after (take start kept) member in
-    rw same (subst (λ k. cut_at (Some k) (take start kept ++ member)
-    ≡ record { last = Some member; around = take start kept }) size q)
+length-element : (member : List ℕ) → IsElement member → 0 < length member
+unfolding tlv
+length-element member e = rw e.is (omega arith)
 
--- whether it is less than the last one, which is from there on
-pub order_seen : (d : Option ℕ) (start : ℕ) (kept all member : List ℕ) (b r : Bool) → d ≡ Some start → all ≡ kept
-    → r ≡ is_less member (take (length all - start) (drop start all)) → r ≡ b
-    → is_out_of_order (cut_at d kept) member ≡ b
-order_seen d start kept all member b r e l h k =
-    let whole : take (length all - start) (drop start all) ≡ drop start all = grind (arith, common_steps) in
-    rw (e, ← l, ← whole) (sym h ∙ k)
+take_front : (count : ℕ) (near rest : List ℕ) → count ≤ length near → take count (take count near ++ rest) ≡ take count near
+take_front count near rest fits = grind (arith, common_steps)
 
--- ---- members of sets whose encodings were seen before they were read
+length_front : (count : ℕ) (near : List ℕ) → count ≤ length near → length (take count near) ≡ count
+length_front count near fits = grind (arith, common_steps)
 
-with_sets : (c : State) (x : OpenSets) → c.sets ≡ x → c ≡ record c { sets = x }
-with_sets c x e = subst (λ (y : OpenSets). c ≡ record c { sets = y }) e refl
+some_same : {A : Type 0} {x y : A} → Some x ≡ Some y → x ≡ y
+some_same e = cc
 
-consumes_alike : (a : State) {c : State} {x : List ℕ} (s p : OpenSets) → Consumed (record a { sets = s }) c x
-    → Consumed (record a { sets = p }) (record c { sets = p }) x
-consumes_alike a s p t = record {
+-- a member and the one after it, as they are shown
+not_before_end : (member : List ℕ) (until_end count : ℕ) → IsElement member → count ≡ until_end
+    → count + length member ≤ until_end → ⊥
+not_before_end member until_end count e here fits = omega (arith, here, fits, length-element member e)
+
+pub sees_none : {near : List ℕ} {until_end count : ℕ} {less : Bool} → IsElementInFront near count → count ≡ until_end
+    → SeesNext near until_end count less
+sees_none {near} {until_end} {count} e here = record {
+  element = e;
+  next = λ member rest left m is fits. absurd (not_before_end member until_end count m here fits);
+}
+
+pub sees_next : {near : List ℕ} {until_end count size : ℕ} {less : Bool} → IsElementInFront near count
+    → IsElementInFront (drop count near) size → less ≡ is_less (take size (drop count near)) (take count near)
+    → SeesNext near until_end count less
+sees_next {near} {until_end} {count} {size} {less} e f h = record {
+  element = e;
+  next = λ member rest left m is fits.
+      let after : take size (drop count near) ++ (drop size (drop count near) ++ rest) ≡ member ++ left =
+      sym (append_assoc (take size (drop count near)) (drop size (drop count near)) rest)
+      ∙ ap (λ x. x ++ rest) (take-append-drop size (drop count near)) ∙ is in
+      let same = (same_element (take size (drop count near)) member (drop size (drop count near) ++ rest) left
+      (element_next f) m after).0 in
+      ap (λ x. is_less x (take count near)) (sym same) ∙ sym h;
+}
+
+-- ---- the last member, from the deserializer's own state
+
+fails_in : {a c : State} {e : Asn1DerError} (o p : Option (List ℕ)) → Fails a c e
+    → Fails (record a { last = o }) (record c { last = p }) e
+fails_in o p f = record {
+  failed = f.failed;
+  again = λ k w. let q = f.again k w in
+      (q.0, record { input = q.1.input; consumed = q.1.consumed; peeked = q.1.peeked; faults = q.1.faults });
+  faults = f.faults;
+  unpeeked = f.unpeeked;
+  other = f.other;
+  took = record { bytes = f.took.bytes; input = f.took.input; count = f.took.count };
+  grows = f.grows;
+  end = f.end;
+  limit = f.limit;
+  within = λ w. let q = f.within (record { end = w.end; fetched = w.fetched }) in
+      record { end = q.end; fetched = q.fetched };
+  there = f.there;
+  references = f.references;
+}
+
+judged_in : {a c : State} {e : Asn1DerError} {o p : Option (List ℕ)}
+    → IsJudged (record a { last = o }) (record c { last = p }) e → IsJudged a c e
+judged_in j = record { had_not_failed = j.had_not_failed; faults = j.faults; memory = j.memory }
+
+concerns_in : {a c : State} {e : Asn1DerError} {end : ℕ} {bs : List ℕ} {o p : Option (List ℕ)}
+    → Concerns (record a { last = o }) (record c { last = p }) e end bs → Concerns a c e end bs
+concerns_in (now i r) = now i r
+concerns_in (ever w r d y left i q f) = ever w r d y left i q f
+
+consumes_in : {a c : State} {x : List ℕ} (o : Option (List ℕ)) → Consumed a c x
+    → Consumed (record a { last = o }) (record c { last = o }) x
+consumes_in o t = record {
   input = t.input;
   consumed = t.consumed;
   until_end = t.until_end;
   end = t.end;
   limit = t.limit;
-  sets = refl;
+  last = refl;
   unpeeked = t.unpeeked;
   fetched = t.fetched;
   had_not_failed = t.had_not_failed;
@@ -105,83 +152,139 @@ consumes_alike a s p t = record {
   references = t.references;
 }
 
-module _ {before a : State} {less : Bool} (h : SeesMember before a less) (whole : a.implicit_tag ≡ None) where
-  kept : OpenSets
-  kept = sets_seen less before.sets h.member
+reads_in : {s : Shape} {a c : State} {t : Tree} (o : Option (List ℕ)) → Reads s a c t
+    → Reads s (record a { last = o }) (record c { last = o }) t
+reads_in o r = record {
+  of_shape = r.of_shape;
+  readable = r.readable;
+  may_be_there = r.may_be_there;
+  consumes = consumes_in o r.consumes;
+  implicit_tag = r.implicit_tag;
+}
 
-  was_whole : before.implicit_tag ≡ None
-  was_whole = sym (ap (λ (z : State). z.implicit_tag) h.same) ∙ whole
+refuses_in : {V : Type 0} {meaning : V → Tree} {s : Shape} {a c : State} {e : Asn1DerError} (o p : Option (List ℕ))
+    → Refuses meaning s a c e → Refuses meaning s (record a { last = o }) (record c { last = p }) e
+refuses_in o p r = record {
+  fails = fails_in o p r.fails;
+  none = λ j end bs w v st. r.none (judged_in j) end bs (concerns_in w) v st;
+  first = λ j. r.first (judged_in j);
+}
 
-  reads_before : {s : Shape} {c : State} {t : Tree} → Reads s a c t → Reads s before (record c { sets = before.sets }) t
-  reads_before {s} {c} {t} r =
-      let q : Reads s (record before { sets = sets_seen less before.sets h.member }) c t =
-      subst (λ (z : State). Reads s z c t) h.same r in
-      record {
-        of_shape = q.of_shape;
-        readable = q.readable;
-        may_be_there = q.may_be_there;
-        consumes = consumes_alike before (sets_seen less before.sets h.member) before.sets q.consumes;
-        implicit_tag = q.implicit_tag;
-      }
+-- no value was read, so no member was
+pub member_refused : {V : Type 0} {meaning : V → Tree} {s : Shape} {rule : Rule} {a c : State} {e : Asn1DerError}
+    (o p : Option (List ℕ)) → a.implicit_tag ≡ None → Refuses meaning s a c e → RefusesBy rule a c e
+    → RefusesMember meaning s rule (record a { last = o }) (record c { last = p }) e
+member_refused o p whole r by = member_unread (refuses_in o p r) (λ j. by (judged_in j)) (λ w. whole)
 
-  -- what was read is what was seen
-  seen_is_read : {s : Shape} {c : State} {t : Tree} → Reads s a c t → der t ≡ h.member
-  seen_is_read {s} {c} {t} r =
-      let m : Consumed before (record c { sets = before.sets }) (der t) = consumes_whole (reads_before r) was_whole in
-      let p = front_consumed before.input c.input (der t) (h.member ++ h.left) m.input h.known in
-      sym (same_element h.member (der t) h.left p.0 h.element (der-element t r.readable) p.2).0
+-- a value was read, and may come next
+pub member_reads : {s : Shape} {a c : State} {t : Tree} (o l : Option (List ℕ)) → a.implicit_tag ≡ None
+    → Reads s a c t → is_out_of_order o (der t) ≡ false → l ≡ with_last o (der t)
+    → ReadsMember s (record a { last = o }) (record c { last = l }) t
+member_reads {c = c} o l whole r h is = record {
+  mid = record c { last = o };
+  reads = reads_in o r;
+  implicit_tag = whole;
+  follows = record { in_order = h; same = ap (λ x. record c { last = x }) is };
+}
 
-  refuses_before : {V : Type 0} {meaning : V → Tree} {s : Shape} {c : State} {e : Asn1DerError}
-      → Refuses meaning s a c e → Refuses meaning s before c e
-  refuses_before {V} {meaning} {s} {c} {e} r =
-      let k : OpenSets = sets_seen less before.sets h.member in
-      let q : Refuses meaning s (record before { sets = sets_seen less before.sets h.member }) c e =
-      subst (λ (z : State). Refuses meaning s z c e) h.same r in
-      record {
-        fails = fails_alike before.sets q.fails;
-        none = λ j end bs w v st. q.none (judged_alike k j) end bs (concerns_alike k w) v st;
-        first = λ j. q.first (judged_alike k j);
-      }
+-- a value was read whose test failed
+pub member_failed : {V : Type 0} {meaning : V → Tree} {s : Shape} {rule : Rule} {a c d : State} {e : Asn1DerError}
+    (o p : Option (List ℕ)) (v : V) → a.implicit_tag ≡ None → Reads s a c (meaning v)
+    → RefusesTest (der (meaning v)) (record c { last = o }) (record d { last = p }) e
+    → RefusesMember meaning s rule (record a { last = o }) (record d { last = p }) e
+member_failed o p v whole r t = member_untested v (reads_in o r) t (λ w. whole)
 
-  refused_before : (rule : Rule) {c : State} {e : Asn1DerError} → RefusesBy rule a c e → RefusesBy rule before c e
-  refused_before rule {c} {e} by j bs left k l =
-      let kept_sets : OpenSets = sets_seen less before.sets h.member in
-      let q : RefusesBy rule (record before { sets = sets_seen less before.sets h.member }) c e =
-      subst (λ (z : State). RefusesBy rule z c e) h.same by in
-      q (judged_alike kept_sets j) bs left k l
+-- it is less than the last one
+pub is_less_failed : {member : List ℕ} {c d : State} {e : Asn1DerError} (o : Option (List ℕ)) → Fails c d e
+    → e ≡ InvalidData → d ≡ failed_with c e → is_out_of_order o member ≡ true
+    → RefusesTest member (record c { last = o }) (record d { last = o }) e
+is_less_failed o f is same less = out_of_order (record {
+  fails = fails_in o o f;
+  less = less;
+  error = is;
+  same = ap (λ (z : State). record z { last = o }) same;
+})
 
-  pub seen_refused : {V : Type 0} {meaning : V → Tree} {s : Shape} {rule : Rule} {c : State} {e : Asn1DerError}
-      → Refuses meaning s a c e → RefusesBy rule a c e → RefusesMember meaning s rule before c e
-  seen_refused {rule = rule} r by = member_unread (refuses_before r) (refused_before rule by) (λ w. was_whole)
+-- an allocation failed
+pub memory_failed : {member : List ℕ} {c d : State} {e : Asn1DerError} (o : Option (List ℕ)) → o ≢ None → Fails c d e
+    → e ≡ OutOfMemory → d ≡ failed_with c e → RefusesTest member (record c { last = o }) (record d { last = o }) e
+memory_failed o some f is same =
+    without_memory some (fails_in o o f) is (ap (λ (z : State). record z { last = o }) same)
 
-pub seen_reads : {before a c : State} {s : Shape} {t : Tree} → SeesMember before a false → a.implicit_tag ≡ None
-    → Reads s a c t → ReadsMember s before c t
-seen_reads {before} {a} {c} {s} {t} h whole r =
-    let is = seen_is_read h whole r in
-    let last : c.sets ≡ with_last before.sets (der t) = r.consumes.sets ∙ ap (λ (z : State). z.sets) h.same
-    ∙ ap (λ x. with_last before.sets x) (sym is) in
-    record {
-      mid = record c { sets = before.sets };
-      reads = reads_before h whole r;
-      implicit_tag = was_whole h whole;
-      follows = record {
-        in_order = ap (λ x. is_out_of_order before.sets x) is ∙ h.order;
-        same =
-            with_sets c (with_last before.sets (der t)) last;
-      };
-    }
+-- ---- the last member, as it was shown or is kept
 
-pub seen_less : {V : Type 0} {meaning : V → Tree} {before a c d : State} {s : Shape} {rule : Rule} {e : Asn1DerError}
-    (v : V) → SeesMember before a true → a.implicit_tag ≡ None → Reads s a c (meaning v) → Fails c d e → e ≡ InvalidData
-    → d ≡ failed_with c e → RefusesMember meaning s rule before d e
-seen_less {meaning = meaning} {before = before} {a = a} {c = c} {s = s} v h whole r f is same =
-    let t : Tree = meaning v in
-    let sets : c.sets ≡ before.sets = r.consumes.sets ∙ ap (λ (z : State). z.sets) h.same in
-    let less : is_out_of_order c.sets (der t) ≡ true = ap (λ x. is_out_of_order x (der t)) sets
-    ∙ ap (λ x. is_out_of_order before.sets x) (seen_is_read h whole r) ∙ h.order in
-    let q : Reads s before c t = subst (λ (z : State). Reads s z c t) h.same r in
-    member_untested v q (out_of_order (record { fails = f; less = less; error = is; same = same }))
-    (λ w. was_whole h whole)
+with_some : (o : Option (List ℕ)) (member : List ℕ) → o ≢ None → Some member ≡ with_last o member
+with_some None member some = absurd (some refl)
+with_some (Some x) member some = refl
+
+pub kept_last : (o l : Option (List ℕ)) (member : List ℕ) → o ≢ None → l ≡ Some member → l ≡ with_last o member
+kept_last o l member some is = is ∙ with_some o member some
+
+-- what the reader shows was left before the member, and the bytes after it are left then
+module _ {a c : State} {near : List ℕ} {until_end count : ℕ} {less : Bool} {s : Shape} {t : Tree}
+    (front : IfSome a.input (λ bytes. StartsWith bytes near)) (none : IfNone a.input (near ≡ []))
+    (sees : SeesNext near until_end count less) (whole : a.implicit_tag ≡ None) (r : Reads s a c t) where
+  shown : IsKnownNext a.input near count
+  shown = known_next a.input near count front none sees.element
+
+  read : Consumed a c (der t)
+  read = consumes_whole r whole
+
+  after : (left : List ℕ) × (c.input ≡ Some left)
+      × (take count near ++ (drop count near ++ shown.rest) ≡ der t ++ left)
+  after = front_consumed a.input c.input (der t) (take count near ++ (drop count near ++ shown.rest)) read.input
+      shown.known
+
+  parts : (take count near ≡ der t) × (drop count near ++ shown.rest ≡ after.0)
+  parts = same_element (take count near) (der t) (drop count near ++ shown.rest) after.0 (element_next sees.element)
+      (der-element t r.readable) after.2
+
+  -- what was read is what was shown
+  pub shown_is_read : der t ≡ take count near
+  shown_is_read = sym parts.0
+
+  pub shown_last : (o l before : Option (List ℕ)) → o ≢ None → before ≡ a.input
+      → l ≡ Some (take count (known_bytes before)) → l ≡ Some (der t)
+  shown_last o l before some same is =
+      let bytes : take count (known_bytes before) ≡ take count near =
+      ap (λ i. take count (known_bytes i)) (same ∙ shown.known)
+      ∙ take_front count near (drop count near ++ shown.rest) sees.element.fits in
+      is ∙ ap (λ x. Some x) (bytes ∙ parts.0)
+
+  -- what is known of the one after it
+  pub next_compared : (l : SetOrder) → a.until_end ≡ until_end → l.last ≡ Some (der t) → l.less ≡ Some less
+      → IsCompared c l
+  next_compared l end last is member left b not_failed same element consumed fits =
+      let p = front_consumed c.input left member after.0 consumed after.1 in
+      let size : length (der t) ≡ count = ap length shown_is_read ∙ length_front count near sees.element.fits in
+      let one : less ≡ b = some_same (sym is ∙ same) in
+      ap (λ o. is_out_of_order o member) last ∙ ap (is_less member) shown_is_read
+      ∙ sees.next member shown.rest p.0 element (parts.1 ∙ p.2)
+      (omega (arith, read.until_end, size, fits, end)) ∙ one
+
+-- what is known of a member that was read unseen
+pub unseen_compared : {a c : State} {s : Shape} {t : Tree} (o : SetOrder) → a.failed ≡ None → a.implicit_tag ≡ None
+    → IsCompared a o → Reads s a c t → (less : Bool) → o.less ≡ Some less → is_out_of_order o.last (der t) ≡ less
+unseen_compared {a} {c} {t = t} o not_failed whole h r less is =
+    let read = consumes_whole r whole in
+    h (der t) c.input less not_failed is (der-element t r.readable) read.input (omega (arith, read.until_end))
+
+-- nothing is known, or nothing will be read
+pub uncompared : {a : State} (o : SetOrder) → o.less ≡ None → IsCompared a o
+uncompared o none member left less f same = absurd (let q : None ≡ Some less = sym none ∙ same in cc)
+
+pub failed_uncompared : {a c : State} {e : Asn1DerError} (o : SetOrder) → Fails a c e → IsCompared c o
+failed_uncompared {e = e} o f member left less not_failed =
+    absurd (let q : None ≡ Some (failure_of e) = sym not_failed ∙ f.failed in cc)
+
+-- none is less than no bytes
+pub first_compared : {a : State} (o : SetOrder) → o.last ≡ Some [] → o.less ≡ Some false → IsCompared a o
+first_compared o last is member left less f same element consumed fits =
+    ap (λ l. is_out_of_order l member) last ∙ not_less_nothing member ∙ some_same (sym is ∙ same)
+  where
+    not_less_nothing : (c : List ℕ) → is_less c [] ≡ false
+    not_less_nothing [] = refl
+    not_less_nothing (x ∷ c) = refl
 
 -- ---- sets whose members are out of order, as they are refused
 
@@ -231,9 +334,9 @@ module _ {V : Type 0} {meaning : V → Tree} {s : Shape} where
       } in
       let judged : IsJudged b c e =
       subst (λ z. IsJudged z c e) (sym h.opened)
-      (judged_alike (sets_inside (order_of 0x31) h.mid.sets)
+      (judged_alike (order_of 0x31)
       (judged_with_inner_end h.size Soft (judged_after h.begins.consumes j))) in
-      let breaks : BreaksOrder meaning s (AreInOrder b.sets) vs v = record {
+      let breaks : BreaksOrder meaning s (AreInOrder b.last) vs v = record {
         of_shape = out.of_shape;
         readable = out.readable;
         in_order = opened_in_order ListKind.set (trees (map meaning vs)) h out.in_order;

@@ -79,7 +79,7 @@ pub record AreUpToEnd (old new : State) (e : Asn1DerError) (bytes : List ℕ) : 
 pub record ReadsMembers (l : Layout) (old new : State) (ts : Trees) : Type 0 where
   pub of_shape : AreMembersOf l ts
   pub readable : AreReadable ts
-  pub order : AreInOrder old.sets (encodings ts)
+  pub order : AreInOrder old.last (encodings ts)
   pub consumes : Consumed (without_order old) (without_order new) (members_encoding ts)
   pub implicit_tag : new.implicit_tag ≡ None
 
@@ -88,7 +88,7 @@ pub record RefusesRest {V : Type 0} (P : V → Type 0) (members : V → Trees) (
   where
     pub fails : Fails old new e
     pub none : IsJudged old new e → (v : V) → P v → AreReadable (members v)
-        → AreInOrder old.sets (encodings (members v))
+        → AreInOrder old.last (encodings (members v))
         → AreUpToEnd old new e (members_encoding (members v)) → ⊥
 
 -- the encodings of members were consumed; without any, nothing was done
@@ -101,7 +101,7 @@ ConsumesMembers old new (Trees.more t ts) =
 pub record ReadsAll {V : Type 0} (meaning : V → Tree) (s : Shape) (old new : State) (vs : List V) : Type 0 where
   pub of_shape : EachIs (IsOf s) (trees (map meaning vs))
   pub readable : AreReadable (trees (map meaning vs))
-  pub order : AreInOrder old.sets (encodings (trees (map meaning vs)))
+  pub order : AreInOrder old.last (encodings (trees (map meaning vs)))
   pub consumes : ConsumesMembers old new (trees (map meaning vs))
   pub not_failed : new.failed ≡ None
   pub implicit_tag : new.implicit_tag ≡ None
@@ -126,7 +126,7 @@ pub record RefusesConsumed (old new : State) (e : Asn1DerError) (bytes : List �
 -- it was refused for that as soon as it was read.
 pub record RefusesAll {V : Type 0} (meaning : V → Tree) (s : Shape) (old new : State) (e : Asn1DerError) : Type 0 where
   pub rest : RefusesRest (λ vs. EachIs (IsOf s) (trees (map meaning vs))) (λ vs. trees (map meaning vs)) old new e
-  pub lesser : IsJudged old new e → (vs : List V) (v : V) → BreaksOrder meaning s (AreInOrder old.sets) vs v
+  pub lesser : IsJudged old new e → (vs : List V) (v : V) → BreaksOrder meaning s (AreInOrder old.last) vs v
       → AreBefore old new e (members_encoding (trees (map meaning (vs ++ v ∷ []))))
       → RefusesConsumed old new e (members_encoding (trees (map meaning (vs ++ v ∷ []))))
 

@@ -5,11 +5,12 @@ use Rattle.picky_der_core.specs.declared.misc.reader.ReadExt as reader
 use Rattle.picky_der_de.specs.declared.sequence.Sequence.{Sequence}
 use Rattle.picky_der_de.specs.State.{State}
 use Rattle.picky_der_de.specs.Ends.{EnclosingEnd}
+use Rattle.picky_der_de.specs.SetOrder.{in_order}
 
 module _ {R : Type 0} {g : reader.Ghosts R} {h : read.Ghosts R} where
-  -- the state of the deserializer
+  -- the state of the deserializer, and the last member of a set
   abbrev pub state_of : Sequence R g h → State
-  state_of sequence = sequence.de.now
+  state_of sequence = in_order sequence.de.now sequence.order
 
   -- which deserializer it is
   abbrev pub borrowed_by : Sequence R g h → GName

@@ -1,16 +1,9 @@
 -- What contracts see of a deserializer.
-use Rattle.std.specs.Prelude.{ℕ, List, [], Option, None}
+use Rattle.std.specs.Prelude.{ℕ, List, Option, None}
 use Rattle.picky_der_core.specs.declared.failure.Failure.{Failure}
 use Rattle.picky_der_core.specs.Faults.{Fault}
 use Rattle.picky_der_de.specs.declared.end.End.{End}
 use Rattle.picky_der_de.specs.declared.end.End.TheVariants.{Limit}
-
--- What is kept of the sets that are open: the encodings of their last members.
-pub record OpenSets : Type 0 where
-  -- where the innermost end is that of a set, the member that was read last, and no bytes before the first one
-  pub last : Option (List ℕ)
-  -- the encodings of the sets around it, one after the other
-  pub around : List ℕ
 
 pub record State : Type 0 where
   -- the known bytes that are left in the reader, with a peeked byte in front
@@ -24,8 +17,8 @@ pub record State : Type 0 where
   -- how far ahead the innermost end is, and what it is
   pub until_end : ℕ
   pub end : End
-  -- the last members of the sets that are open
-  pub sets : OpenSets
+  -- of a set whose members are read one by one: the encoding of the last one, and no bytes before the first one
+  pub last : Option (List ℕ)
   -- the number of the implicit tag directly under which it is
   pub implicit_tag : Option ℕ
   -- the kind of the error that it has failed with
@@ -44,7 +37,7 @@ fresh input limit faults references = record {
   limit = limit;
   until_end = limit;
   end = Limit;
-  sets = record { last = None; around = [] };
+  last = None;
   implicit_tag = None;
   failed = None;
   faults = faults;
