@@ -1,7 +1,7 @@
 -- Members of sets: those that are shown before they are read, and those that are out of order.
 use Rattle.std.proofs.Common.{◌≡◌, ◌≢◌, ℕ, ◌-◌, ◌≤◌, Bool, List, [], ◌∷◌, ◌++◌, length, take, drop, Option, Some, None}
 use Rattle.std.proofs.Common.{IfNone, IfSome, sym, ◌∙◌, ap, subst, arith, append_assoc, true, false, refl, ◌+◌, ◌^◌}
-use Rattle.std.proofs.Common.{◌<◌, map}
+use Rattle.std.proofs.Common.{◌<◌, map, Result, Ok, Err, IfOk, IfErr}
 use Rattle.std.specs.Io.{StartsWith}
 use Rattle.std.proofs.lemmas.List.{take-append-drop, append_cancel_left}
 use Rattle.std.proofs.lemmas.Grind.{common_steps}
@@ -13,6 +13,7 @@ use Rattle.picky_der_de.specs.Order.{with_last, is_out_of_order, out_of_order, w
 use Rattle.picky_der_de.specs.Order.{AreInOrder}
 use Rattle.picky_der_de.specs.SetOrder.{SetOrder, known_bytes, IsCompared, SeesNext}
 use Rattle.picky_der_de.proofs.Order.{judged_alike}
+use Rattle.picky_der_de.proofs.InOrder.{fails_in, judged_in, reads_in, refuses_in}
 use Rattle.picky_der_core.specs.declared.error.Asn1DerError.{Asn1DerError}
 use Rattle.picky_der_core.specs.declared.error.Asn1DerError.TheVariants.{InvalidData, OutOfMemory}
 use Rattle.picky_der_core.specs.Tree.{Tree, ListKind, trees}
@@ -22,7 +23,7 @@ use Rattle.picky_der_core.specs.Shape.{Shape}
 use Rattle.picky_der_de.specs.State.{State}
 use Rattle.picky_der_de.specs.Steps.{Consumed, Fails, failed_with, IsJudged, is_hard}
 use Rattle.picky_der_de.specs.RefusesBy.{Rule, RefusesBy}
-use Rattle.picky_der_de.specs.Reading.{Concerns, Reads, Refuses, now, ever}
+use Rattle.picky_der_de.specs.Reading.{Reads, Refuses, now}
 use Rattle.picky_der_de.proofs.Refusals.{front_consumed}
 use Rattle.picky_der_de.specs.Members.{ReadsMember, RefusesMember, members_encoding, AreBefore, BreaksOrder, RefusesAll}
 use Rattle.picky_der_de.specs.Members.{RefusesUnordered}
@@ -105,70 +106,7 @@ sees_next {near} {until_end} {count} {size} {less} e f h = record {
       ap (λ x. is_less x (take count near)) (sym same) ∙ sym h;
 }
 
--- ---- the last member, from the deserializer's own state
-
-fails_in : {a c : State} {e : Asn1DerError} (o p : Option (List ℕ)) → Fails a c e
-    → Fails (record a { last = o }) (record c { last = p }) e
-fails_in o p f = record {
-  failed = f.failed;
-  again = λ k w. let q = f.again k w in
-      (q.0, record { input = q.1.input; consumed = q.1.consumed; peeked = q.1.peeked; faults = q.1.faults });
-  faults = f.faults;
-  unpeeked = f.unpeeked;
-  other = f.other;
-  took = record { bytes = f.took.bytes; input = f.took.input; count = f.took.count };
-  grows = f.grows;
-  end = f.end;
-  limit = f.limit;
-  within = λ w. let q = f.within (record { end = w.end; fetched = w.fetched }) in
-      record { end = q.end; fetched = q.fetched };
-  there = f.there;
-  references = f.references;
-}
-
-judged_in : {a c : State} {e : Asn1DerError} {o p : Option (List ℕ)}
-    → IsJudged (record a { last = o }) (record c { last = p }) e → IsJudged a c e
-judged_in j = record { had_not_failed = j.had_not_failed; faults = j.faults; memory = j.memory }
-
-concerns_in : {a c : State} {e : Asn1DerError} {end : ℕ} {bs : List ℕ} {o p : Option (List ℕ)}
-    → Concerns (record a { last = o }) (record c { last = p }) e end bs → Concerns a c e end bs
-concerns_in (now i r) = now i r
-concerns_in (ever w r d y left i q f) = ever w r d y left i q f
-
-consumes_in : {a c : State} {x : List ℕ} (o : Option (List ℕ)) → Consumed a c x
-    → Consumed (record a { last = o }) (record c { last = o }) x
-consumes_in o t = record {
-  input = t.input;
-  consumed = t.consumed;
-  until_end = t.until_end;
-  end = t.end;
-  limit = t.limit;
-  last = refl;
-  unpeeked = t.unpeeked;
-  fetched = t.fetched;
-  had_not_failed = t.had_not_failed;
-  not_failed = t.not_failed;
-  faults = t.faults;
-  references = t.references;
-}
-
-reads_in : {s : Shape} {a c : State} {t : Tree} (o : Option (List ℕ)) → Reads s a c t
-    → Reads s (record a { last = o }) (record c { last = o }) t
-reads_in o r = record {
-  of_shape = r.of_shape;
-  readable = r.readable;
-  may_be_there = r.may_be_there;
-  consumes = consumes_in o r.consumes;
-  implicit_tag = r.implicit_tag;
-}
-
-refuses_in : {V : Type 0} {meaning : V → Tree} {s : Shape} {a c : State} {e : Asn1DerError} (o p : Option (List ℕ))
-    → Refuses meaning s a c e → Refuses meaning s (record a { last = o }) (record c { last = p }) e
-refuses_in o p r = record {
-  fails = fails_in o p r.fails;
-  none = λ j end bs w v st. r.none (judged_in j) end bs (concerns_in w) v st;
-  first = λ j. r.first (judged_in j);
-}
+-- ---- members, read and refused
 
 -- no value was read, so no member was
 pub member_refused : {V : Type 0} {meaning : V → Tree} {s : Shape} {rule : Rule} {a c : State} {e : Asn1DerError}
@@ -193,6 +131,21 @@ pub member_failed : {V : Type 0} {meaning : V → Tree} {s : Shape} {rule : Rule
     → RefusesTest (der (meaning v)) (record c { last = o }) (record d { last = p }) e
     → RefusesMember meaning s rule (record a { last = o }) (record d { last = p }) e
 member_failed o p v whole r t = member_untested v (reads_in o r) t (λ w. whole)
+
+-- the same of a list whose order isn't tested
+pub unordered_reads : {A : Type 0} {meaning : A → Tree} {s : Shape} {a c : State} {o : Option (List ℕ)}
+    (r : Result A Asn1DerError) → o ≡ None → a.implicit_tag ≡ None → IfOk r (λ v. Reads s a c (meaning v))
+    → IfOk r (λ v. ReadsMember s (record a { last = o }) (record c { last = o }) (meaning v))
+unordered_reads {o = o} (Ok v) none whole r =
+    member_reads o o whole r (ap (λ l. is_out_of_order l _) none) (none ∙ sym (ap (λ l. with_last l _) none))
+unordered_reads (Err e) none whole r = tt
+
+pub unordered_refused : {A V : Type 0} {meaning : V → Tree} {s : Shape} {rule : Rule} {a c : State}
+    (r : Result A Asn1DerError) (o : Option (List ℕ)) → a.implicit_tag ≡ None → IfErr r (Refuses meaning s a c)
+    → IfErr r (RefusesBy rule a c)
+    → IfErr r (RefusesMember meaning s rule (record a { last = o }) (record c { last = o }))
+unordered_refused (Ok v) o whole r by = tt
+unordered_refused (Err e) o whole r by = member_refused o o whole r by
 
 -- it is less than the last one
 pub is_less_failed : {member : List ℕ} {c d : State} {e : Asn1DerError} (o : Option (List ℕ)) → Fails c d e
@@ -314,9 +267,9 @@ no_header_refused (Some number) n until_end y hard r d small fits is = cc
 
 module _ {V : Type 0} {meaning : V → Tree} {s : Shape} where
   -- a member was refused
-  pub unordered_refused : {a b c : State} {outer : EnclosingEnd} {e : Asn1DerError} → OpensList 0x31 a b outer
+  pub set_unordered : {a b c : State} {outer : EnclosingEnd} {e : Asn1DerError} → OpensList 0x31 a b outer
       → RefusesAll meaning s b c e → RefusesUnordered meaning s a c e
-  unordered_refused {a} {b} {c} {outer} {e} h r j vs v out bs rest known in_set =
+  set_unordered {a} {b} {c} {outer} {e} h r j vs v out bs rest known in_set =
       let members = members_encoding (trees (map meaning (vs ++ v ∷ []))) in
       let p = front_consumed a.input h.mid.input (header_bytes a.implicit_tag 0x31 h.size) bs h.begins.consumes.input
       known in
@@ -352,8 +305,8 @@ module _ {V : Type 0} {meaning : V → Tree} {s : Shape} where
       }
 
   -- the header was refused, so none is there
-  pub unordered_unopened : {a c : State} {e : Asn1DerError} → RefusesList 0x31 a c e → RefusesUnordered meaning s a c e
-  unordered_unopened {a} {c} {e} h j vs v out bs rest known in_set =
+  pub set_unopened : {a c : State} {e : Asn1DerError} → RefusesList 0x31 a c e → RefusesUnordered meaning s a c e
+  set_unopened {a} {c} {e} h j vs v out bs rest known in_set =
       let p = h.begin.header j in
       let k = p.1.just j bs known in
       absurd (no_header_refused a.implicit_tag in_set.size a.until_end

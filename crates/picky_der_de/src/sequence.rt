@@ -193,7 +193,7 @@ impl<'a, R: ReadExt> Sequence<'a, R> {
         match self.next_optional::<T>()? {
             Some(value) => {
                 if D::is_default(&value) {
-                    return Err(self.de.refuse(Asn1DerError::InvalidData));
+                    return Err(self.refuse(Asn1DerError::InvalidData));
                 }
                 Ok(value)
             }

@@ -1,6 +1,6 @@
 //! The order of the members of a set (X.690, 11.6). Two members that the reader shows one after the other are compared
 //! before the first of them is read, so neither is kept. Another member is kept until the next one was read.
-ghost use Rattle.std.specs.Prelude.{◌≡◌, ◌≢◌, Bool, true, take, None, Some, IfSome, IfOk, IfErr, OnOk};
+ghost use Rattle.std.specs.Prelude.{◌≡◌, ◌≢◌, Bool, true, false, take, None, Some, IfSome, IfOk, IfErr, OnOk};
 ghost use Rattle.picky_der_core.specs.Order.{is_less};
 ghost use Rattle.picky_der_core.specs.Encoding.{der};
 ghost use Rattle.picky_der_core.specs.Peeking.{left_in};
@@ -101,7 +101,7 @@ impl<R: ReadExt> SetOrder<R> {
     #[inline(always)]
     pub(crate) fn is_tested(&self) -> bool
         ensures yes { result ≡ true → self.now.last ≢ None }
-        ensures no { result ≡ false → self.now.last ≡ None }
+        ensures no { result ≡ false → (self.now.last ≡ None) × (self.now.less ≡ None) }
     {
         self.next != Next::Untested
     }
