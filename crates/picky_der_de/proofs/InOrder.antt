@@ -4,93 +4,97 @@ use Rattle.picky_der_core.specs.declared.error.Asn1DerError.{Asn1DerError}
 use Rattle.picky_der_core.specs.Failure.{failure_of}
 use Rattle.picky_der_core.specs.Shape.{Shape}
 use Rattle.picky_der_core.specs.Tree.{Tree}
+use Rattle.picky_der_de.specs.declared.sequence.order.SetOrder.{SetOrder}
 use Rattle.picky_der_de.specs.State.{State}
 use Rattle.picky_der_de.specs.Steps.{Consumed, Fails, IsJudged, IsMissing, end_is_here, input_ended, failed_with}
 use Rattle.picky_der_de.specs.Refusing.{FailsAs}
+use Rattle.picky_der_de.specs.RefusesBy.{Rule, RefusesBy}
 use Rattle.picky_der_de.specs.Reading.{Concerns, now, ever, Reads, Refuses, AreNotRefused}
+use Rattle.picky_der_de.specs.SetOrder.{last_by, in_order}
 use Rattle.picky_der_de.specs.LookAhead.{Peeks, Identifies, IdentifiesIn, RefusesIdentifier, RefusesPeek}
 use Rattle.picky_der_de.specs.LookAhead.{identifier_refusal, identifier_refusal_in}
 
-pub fails_in : {a c : State} {e : Asn1DerError} (o p : Option (List ℕ)) → Fails a c e
-    → Fails (record a { last = o }) (record c { last = p }) e
-fails_in o p f = record {
-  failed = f.failed;
-  again = λ k w. let q = f.again k w in
-      (q.0, record { input = q.1.input; consumed = q.1.consumed; peeked = q.1.peeked; faults = q.1.faults });
-  faults = f.faults;
-  unpeeked = f.unpeeked;
-  other = f.other;
-  took = record { bytes = f.took.bytes; input = f.took.input; count = f.took.count };
-  grows = f.grows;
-  end = f.end;
-  limit = f.limit;
-  within = λ w. let q = f.within (record { end = w.end; fetched = w.fetched }) in
-      record { end = q.end; fetched = q.fetched };
-  there = f.there;
-  references = f.references;
-}
+-- the same with other members of sets
+abbrev pub with_members : Option (List ℕ) → List ℕ → State → State
+with_members last seen s = record s { last = last; seen = seen }
 
-pub judged_in : {a c : State} {e : Asn1DerError} {o p : Option (List ℕ)}
-    → IsJudged (record a { last = o }) (record c { last = p }) e → IsJudged a c e
-judged_in j = record { had_not_failed = j.had_not_failed; faults = j.faults; memory = j.memory }
+module _ {l m : Option (List ℕ)} {x y : List ℕ} {a c : State} where
+  pub fails_in : {e : Asn1DerError} → Fails a c e → Fails (with_members l x a) (with_members m y c) e
+  fails_in f = record {
+    failed = f.failed;
+    again = λ k w. let q = f.again k w in
+        (q.0, record { input = q.1.input; consumed = q.1.consumed; peeked = q.1.peeked; faults = q.1.faults });
+    faults = f.faults;
+    unpeeked = f.unpeeked;
+    other = f.other;
+    took = record { bytes = f.took.bytes; input = f.took.input; count = f.took.count };
+    grows = f.grows;
+    end = f.end;
+    limit = f.limit;
+    within = λ w. let q = f.within (record { end = w.end; fetched = w.fetched }) in
+        record { end = q.end; fetched = q.fetched };
+    there = f.there;
+    references = f.references;
+  }
 
-concerns_in : {a c : State} {e : Asn1DerError} {end : ℕ} {bs : List ℕ} {o p : Option (List ℕ)}
-    → Concerns (record a { last = o }) (record c { last = p }) e end bs → Concerns a c e end bs
-concerns_in (now i r) = now i r
-concerns_in (ever w r d y left i q f) = ever w r d y left i q f
+  pub judged_in : {e : Asn1DerError} → IsJudged (with_members l x a) (with_members m y c) e → IsJudged a c e
+  judged_in j = record { had_not_failed = j.had_not_failed; faults = j.faults; memory = j.memory }
 
-consumes_in : {a c : State} {x : List ℕ} (o : Option (List ℕ)) → Consumed a c x
-    → Consumed (record a { last = o }) (record c { last = o }) x
-consumes_in o t = record {
-  input = t.input;
-  consumed = t.consumed;
-  until_end = t.until_end;
-  end = t.end;
-  limit = t.limit;
-  last = refl;
-  unpeeked = t.unpeeked;
-  fetched = t.fetched;
-  had_not_failed = t.had_not_failed;
-  not_failed = t.not_failed;
-  faults = t.faults;
-  references = t.references;
-}
+  concerns_in : {e : Asn1DerError} {end : ℕ} {bs : List ℕ}
+      → Concerns (with_members l x a) (with_members m y c) e end bs → Concerns a c e end bs
+  concerns_in (now i r) = now i r
+  concerns_in (ever w r d z left i q f) = ever w r d z left i q f
 
-pub reads_in : {s : Shape} {a c : State} {t : Tree} (o : Option (List ℕ)) → Reads s a c t
-    → Reads s (record a { last = o }) (record c { last = o }) t
-reads_in o r = record {
-  of_shape = r.of_shape;
-  readable = r.readable;
-  may_be_there = r.may_be_there;
-  consumes = consumes_in o r.consumes;
-  implicit_tag = r.implicit_tag;
-}
+  pub consumes_in : {bs : List ℕ} → m ≡ l → Consumed a c bs → Consumed (with_members l x a) (with_members m y c) bs
+  consumes_in same t = record {
+    input = t.input;
+    consumed = t.consumed;
+    until_end = t.until_end;
+    end = t.end;
+    limit = t.limit;
+    last = same;
+    unpeeked = t.unpeeked;
+    fetched = t.fetched;
+    had_not_failed = t.had_not_failed;
+    not_failed = t.not_failed;
+    faults = t.faults;
+    references = t.references;
+  }
 
-pub refuses_in : {V : Type 0} {meaning : V → Tree} {s : Shape} {a c : State} {e : Asn1DerError} (o p : Option (List ℕ))
-    → Refuses meaning s a c e → Refuses meaning s (record a { last = o }) (record c { last = p }) e
-refuses_in o p r = record {
-  fails = fails_in o p r.fails;
-  none = λ j end bs w v st. r.none (judged_in j) end bs (concerns_in w) v st;
-  first = λ j. r.first (judged_in j);
-}
+  pub reads_in : {s : Shape} {t : Tree} → m ≡ l → Reads s a c t → Reads s (with_members l x a) (with_members m y c) t
+  reads_in same r = record {
+    of_shape = r.of_shape;
+    readable = r.readable;
+    may_be_there = r.may_be_there;
+    consumes = consumes_in same r.consumes;
+    implicit_tag = r.implicit_tag;
+  }
 
-pub same_last : (z : State) → z.last ≡ None → record z { last = None } ≡ z
-same_last z none = subst (λ l. record z { last = l } ≡ z) none refl
+  pub refuses_in : {V : Type 0} {meaning : V → Tree} {s : Shape} {e : Asn1DerError} → Refuses meaning s a c e
+      → Refuses meaning s (with_members l x a) (with_members m y c) e
+  refuses_in r = record {
+    fails = fails_in r.fails;
+    none = λ j end bs w v st. r.none (judged_in j) end bs (concerns_in w) v st;
+    first = λ j. r.first (judged_in j);
+  }
+
+  pub refused_in : (rule : Rule) {e : Asn1DerError} → RefusesBy rule a c e
+      → RefusesBy rule (with_members l x a) (with_members m y c) e
+  refused_in rule by j = by (judged_in j)
 
 -- ---- failures
 
-pub failed_in : {a c : State} {e : Asn1DerError} (o : Option (List ℕ)) → c ≡ failed_with a e
-    → record c { last = o } ≡ failed_with (record a { last = o }) e
-failed_in o same = ap (λ (z : State). record z { last = o }) same
+pub failed_in : {a c : State} {e : Asn1DerError} (o : SetOrder) → c ≡ failed_with a e
+    → in_order c o ≡ failed_with (in_order a o) e
+failed_in o same = ap (λ (z : State). in_order z o) same
 
-pub fails_as_in : {a c : State} {kind e : Asn1DerError} (o : Option (List ℕ)) → FailsAs kind a e c
-    → FailsAs kind (record a { last = o }) e (record c { last = o })
+pub fails_as_in : {a c : State} {kind e : Asn1DerError} (o : SetOrder) → FailsAs kind a e c
+    → FailsAs kind (in_order a o) e (in_order c o)
 fails_as_in o h = (h.0, failed_in o h.1)
 
 -- ---- the next byte
 
-peeks_in : {a c : State} {b : ℕ} (o : Option (List ℕ)) → Peeks a c b
-    → Peeks (record a { last = o }) (record c { last = o }) b
+peeks_in : {a c : State} {b : ℕ} (o : SetOrder) → Peeks a c b → Peeks (in_order a o) (in_order c o) b
 peeks_in o p = record {
   had_not_failed = p.had_not_failed;
   implicit_tag = p.implicit_tag;
@@ -99,36 +103,35 @@ peeks_in o p = record {
   next = p.next;
   again = p.again;
   input = p.input;
-  same = ap (λ (z : State). record z { last = o }) p.same;
+  same = ap (λ (z : State). in_order z o) p.same;
 }
 
-is_in : (d : Option ℕ) {a c : State} {tag : ℕ} (o : Option (List ℕ)) → IdentifiesIn d a c tag
-    → IdentifiesIn d (record a { last = o }) (record c { last = o }) tag
+is_in : (d : Option ℕ) {a c : State} {tag : ℕ} (o : SetOrder) → IdentifiesIn d a c tag
+    → IdentifiesIn d (in_order a o) (in_order c o) tag
 is_in None o p = peeks_in o p
-is_in (Some awaited) o p = (p.0, ap (λ (z : State). record z { last = o }) p.1)
+is_in (Some awaited) o p = (p.0, ap (λ (z : State). in_order z o) p.1)
 
-refusal_in : (d : Option ℕ) (a : State) (o : Option (List ℕ)) (rest : List ℕ)
-    → identifier_refusal_in d (record a { last = o }) rest ≡ identifier_refusal_in d a rest
+refusal_in : (d : Option ℕ) (a : State) (o : SetOrder) (rest : List ℕ)
+    → identifier_refusal_in d (in_order a o) rest ≡ identifier_refusal_in d a rest
 refusal_in None a o [] = refl
 refusal_in None a o (b ∷ rest) = refl
 refusal_in (Some number) a o rest = refl
 
-pub identifies_in : {a c : State} {tag : ℕ} (o : Option (List ℕ)) → Identifies a c tag
-    → Identifies (record a { last = o }) (record c { last = o }) tag
+pub identifies_in : {a c : State} {tag : ℕ} (o : SetOrder) → Identifies a c tag
+    → Identifies (in_order a o) (in_order c o) tag
 identifies_in {a} o h = record {
   is = is_in a.implicit_tag o h.is;
   no_refusal = λ bs k. refusal_in a.implicit_tag a o (take a.until_end bs) ∙ h.no_refusal bs k;
 }
 
-missing_in : {a : State} {e : Asn1DerError} (o : Option (List ℕ)) → IsMissing a e
-    → IsMissing (record a { last = o }) e
+missing_in : {a : State} {e : Asn1DerError} (o : SetOrder) → IsMissing a e → IsMissing (in_order a o) e
 missing_in o (end_is_here z is) = end_is_here z is
 missing_in o (input_ended some ended is) = input_ended some ended is
 
-peek_refused_in : {a c : State} {e : Asn1DerError} (o : Option (List ℕ)) → RefusesPeek identifier_refusal a c e
-    → RefusesPeek identifier_refusal (record a { last = o }) (record c { last = o }) e
+peek_refused_in : {a c : State} {e : Asn1DerError} (o : SetOrder) → RefusesPeek identifier_refusal a c e
+    → RefusesPeek identifier_refusal (in_order a o) (in_order c o) e
 peek_refused_in {a} o r = record {
-  fails = fails_in o o r.fails;
+  fails = fails_in r.fails;
   just = λ j bs k. let q = r.just (judged_in j) bs k in
       record {
         left = q.left;
@@ -138,11 +141,11 @@ peek_refused_in {a} o r = record {
         used = q.used;
       };
   memory = r.memory;
-  same = ap (λ (z : State). record z { last = o }) r.same;
+  same = ap (λ (z : State). in_order z o) r.same;
 }
 
-pub identifier_refused_in : {a c : State} {e : Asn1DerError} (o : Option (List ℕ)) → RefusesIdentifier a c e
-    → RefusesIdentifier (record a { last = o }) (record c { last = o }) e
+pub identifier_refused_in : {a c : State} {e : Asn1DerError} (o : SetOrder) → RefusesIdentifier a c e
+    → RefusesIdentifier (in_order a o) (in_order c o) e
 identifier_refused_in o r = record {
   refuses = peek_refused_in o r.refuses;
   missing = λ j. let q = r.missing (judged_in j) in (q.0, missing_in o q.1);

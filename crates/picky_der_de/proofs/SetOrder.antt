@@ -1,8 +1,9 @@
 -- Members of sets: those that are shown before they are read, and those that are out of order.
 use Rattle.std.proofs.Common.{◌≡◌, ◌≢◌, ℕ, ◌-◌, ◌≤◌, Bool, List, [], ◌∷◌, ◌++◌, length, take, drop, Option, Some, None}
 use Rattle.std.proofs.Common.{IfNone, IfSome, sym, ◌∙◌, ap, subst, arith, append_assoc, true, false, refl, ◌+◌, ◌^◌}
-use Rattle.std.proofs.Common.{◌<◌, map, Result, Ok, Err, IfOk, IfErr}
+use Rattle.std.proofs.Common.{◌<◌, map, Result, Ok, Err, IfOk, IfErr, true≢false}
 use Rattle.std.specs.Io.{StartsWith}
+use Rattle.std.specs.Io.KnownBytes.{Consumes}
 use Rattle.std.proofs.lemmas.List.{take-append-drop, append_cancel_left}
 use Rattle.std.proofs.lemmas.Grind.{common_steps}
 use Rattle.picky_der_core.specs.Element.{length_octets, tlv, IsElement}
@@ -10,10 +11,12 @@ use Rattle.picky_der_core.specs.Failure.{failure_of}
 use Rattle.picky_der_core.specs.Order.{is_less}
 use Rattle.picky_der_de.specs.Ahead.{IsElementInFront}
 use Rattle.picky_der_de.specs.Order.{with_last, is_out_of_order, out_of_order, without_memory, RefusesTest, order_of}
-use Rattle.picky_der_de.specs.Order.{AreInOrder}
-use Rattle.picky_der_de.specs.SetOrder.{SetOrder, known_bytes, IsCompared, SeesNext}
+use Rattle.picky_der_de.specs.Order.{AreInOrder, Follows, known_bytes}
+use Rattle.picky_der_de.specs.declared.sequence.order.Next.TheVariants.{Untested, Kept}
+use Rattle.picky_der_de.specs.declared.sequence.order.SetOrder.{SetOrder}
+use Rattle.picky_der_de.specs.SetOrder.{last_by, is_in_order, in_order, IsCompared, SeesNext}
 use Rattle.picky_der_de.proofs.Order.{judged_alike}
-use Rattle.picky_der_de.proofs.InOrder.{fails_in, judged_in, reads_in, refuses_in}
+use Rattle.picky_der_de.proofs.InOrder.{with_members, fails_in, reads_in, refuses_in, refused_in, failed_in}
 use Rattle.picky_der_core.specs.declared.error.Asn1DerError.{Asn1DerError}
 use Rattle.picky_der_core.specs.declared.error.Asn1DerError.TheVariants.{InvalidData, OutOfMemory}
 use Rattle.picky_der_core.specs.Tree.{Tree, ListKind, trees}
@@ -77,25 +80,22 @@ take_front count near rest fits = grind (arith, common_steps)
 length_front : (count : ℕ) (near : List ℕ) → count ≤ length near → length (take count near) ≡ count
 length_front count near fits = grind (arith, common_steps)
 
-some_same : {A : Type 0} {x y : A} → Some x ≡ Some y → x ≡ y
-some_same e = cc
-
 -- a member and the one after it, as they are shown
 not_before_end : (member : List ℕ) (until_end count : ℕ) → IsElement member → count ≡ until_end
     → count + length member ≤ until_end → ⊥
 not_before_end member until_end count e here fits = omega (arith, here, fits, length-element member e)
 
-pub sees_none : {near : List ℕ} {until_end count : ℕ} {less : Bool} → IsElementInFront near count → count ≡ until_end
-    → SeesNext near until_end count less
+pub sees_none : {near : List ℕ} {until_end count : ℕ} → IsElementInFront near count → count ≡ until_end
+    → SeesNext near until_end count
 sees_none {near} {until_end} {count} e here = record {
   element = e;
   next = λ member rest left m is fits. absurd (not_before_end member until_end count m here fits);
 }
 
-pub sees_next : {near : List ℕ} {until_end count size : ℕ} {less : Bool} → IsElementInFront near count
-    → IsElementInFront (drop count near) size → less ≡ is_less (take size (drop count near)) (take count near)
-    → SeesNext near until_end count less
-sees_next {near} {until_end} {count} {size} {less} e f h = record {
+pub sees_next : {near : List ℕ} {until_end count size : ℕ} → IsElementInFront near count
+    → IsElementInFront (drop count near) size → is_less (take size (drop count near)) (take count near) ≡ false
+    → SeesNext near until_end count
+sees_next {near} {until_end} {count} {size} e f h = record {
   element = e;
   next = λ member rest left m is fits.
       let after : take size (drop count near) ++ (drop size (drop count near) ++ rest) ≡ member ++ left =
@@ -103,80 +103,107 @@ sees_next {near} {until_end} {count} {size} {less} e f h = record {
       ∙ ap (λ x. x ++ rest) (take-append-drop size (drop count near)) ∙ is in
       let same = (same_element (take size (drop count near)) member (drop size (drop count near) ++ rest) left
       (element_next f) m after).0 in
-      ap (λ x. is_less x (take count near)) (sym same) ∙ sym h;
+      ap (λ x. is_less x (take count near)) (sym same) ∙ h;
 }
 
 -- ---- members, read and refused
 
 -- no value was read, so no member was
 pub member_refused : {V : Type 0} {meaning : V → Tree} {s : Shape} {rule : Rule} {a c : State} {e : Asn1DerError}
-    (o p : Option (List ℕ)) → a.implicit_tag ≡ None → Refuses meaning s a c e → RefusesBy rule a c e
-    → RefusesMember meaning s rule (record a { last = o }) (record c { last = p }) e
-member_refused o p whole r by = member_unread (refuses_in o p r) (λ j. by (judged_in j)) (λ w. whole)
+    (o p : SetOrder) → a.implicit_tag ≡ None → Refuses meaning s a c e → RefusesBy rule a c e
+    → RefusesMember meaning s rule (in_order a o) (in_order c p) e
+member_refused {rule = rule} o p whole r by = member_unread (refuses_in r) (refused_in rule by) (λ w. whole)
 
 -- a value was read, and may come next
-pub member_reads : {s : Shape} {a c : State} {t : Tree} (o l : Option (List ℕ)) → a.implicit_tag ≡ None
-    → Reads s a c t → is_out_of_order o (der t) ≡ false → l ≡ with_last o (der t)
-    → ReadsMember s (record a { last = o }) (record c { last = l }) t
-member_reads {c = c} o l whole r h is = record {
-  mid = record c { last = o };
-  reads = reads_in o r;
+pub member_reads : {s : Shape} {a c : State} {t : Tree} (o p : SetOrder) (seen : List ℕ) → a.implicit_tag ≡ None
+    → Reads s a c t → is_out_of_order (in_order a o).last (der t) ≡ false
+    → last_by p.next seen p.kept.items ≡ with_last (in_order a o).last (der t)
+    → ReadsMember s (in_order a o) (in_order (record c { seen = seen }) p) t
+member_reads {a = a} {c = c} o p seen whole r h is = record {
+  mid = with_members (in_order a o).last seen c;
+  reads = reads_in refl r;
   implicit_tag = whole;
-  follows = record { in_order = h; same = ap (λ x. record c { last = x }) is };
+  follows = record { in_order = h; same = ap (λ l. with_members l seen c) is };
 }
 
--- a value was read whose test failed
+-- the same with the test afterwards
+still_last : {a c : State} (o : SetOrder) → c.seen ≡ a.seen → (in_order c o).last ≡ (in_order a o).last
+still_last o same = ap (λ x. last_by o.next x o.kept.items) same
+
+pub member_follows : {s : Shape} {a c d : State} {t : Tree} (o p : SetOrder) → a.implicit_tag ≡ None
+    → Reads s a c t → c.seen ≡ a.seen → Follows (der t) (in_order c o) (in_order d p)
+    → ReadsMember s (in_order a o) (in_order d p) t
+member_follows {c = c} o p whole r same follows = record {
+  mid = in_order c o;
+  reads = reads_in (still_last o same) r;
+  implicit_tag = whole;
+  follows = follows;
+}
+
 pub member_failed : {V : Type 0} {meaning : V → Tree} {s : Shape} {rule : Rule} {a c d : State} {e : Asn1DerError}
-    (o p : Option (List ℕ)) (v : V) → a.implicit_tag ≡ None → Reads s a c (meaning v)
-    → RefusesTest (der (meaning v)) (record c { last = o }) (record d { last = p }) e
-    → RefusesMember meaning s rule (record a { last = o }) (record d { last = p }) e
-member_failed o p v whole r t = member_untested v (reads_in o r) t (λ w. whole)
-
--- the same of a list whose order isn't tested
-pub unordered_reads : {A : Type 0} {meaning : A → Tree} {s : Shape} {a c : State} {o : Option (List ℕ)}
-    (r : Result A Asn1DerError) → o ≡ None → a.implicit_tag ≡ None → IfOk r (λ v. Reads s a c (meaning v))
-    → IfOk r (λ v. ReadsMember s (record a { last = o }) (record c { last = o }) (meaning v))
-unordered_reads {o = o} (Ok v) none whole r =
-    member_reads o o whole r (ap (λ l. is_out_of_order l _) none) (none ∙ sym (ap (λ l. with_last l _) none))
-unordered_reads (Err e) none whole r = tt
-
-pub unordered_refused : {A V : Type 0} {meaning : V → Tree} {s : Shape} {rule : Rule} {a c : State}
-    (r : Result A Asn1DerError) (o : Option (List ℕ)) → a.implicit_tag ≡ None → IfErr r (Refuses meaning s a c)
-    → IfErr r (RefusesBy rule a c)
-    → IfErr r (RefusesMember meaning s rule (record a { last = o }) (record c { last = o }))
-unordered_refused (Ok v) o whole r by = tt
-unordered_refused (Err e) o whole r by = member_refused o o whole r by
+    (o p : SetOrder) (v : V) → a.implicit_tag ≡ None → Reads s a c (meaning v) → c.seen ≡ a.seen
+    → RefusesTest (der (meaning v)) (in_order c o) (in_order d p) e
+    → RefusesMember meaning s rule (in_order a o) (in_order d p) e
+member_failed o p v whole r same t = member_untested v (reads_in (still_last o same) r) t (λ w. whole)
 
 -- it is less than the last one
-pub is_less_failed : {member : List ℕ} {c d : State} {e : Asn1DerError} (o : Option (List ℕ)) → Fails c d e
-    → e ≡ InvalidData → d ≡ failed_with c e → is_out_of_order o member ≡ true
-    → RefusesTest member (record c { last = o }) (record d { last = o }) e
-is_less_failed o f is same less = out_of_order (record {
-  fails = fails_in o o f;
+pub order_failed : {member : List ℕ} {c d : State} {e : Asn1DerError} (o : SetOrder) → Fails c d e → e ≡ InvalidData
+    → d ≡ failed_with c e → is_out_of_order (in_order c o).last member ≡ true
+    → RefusesTest member (in_order c o) (in_order d o) e
+order_failed o f is same less = out_of_order (record {
+  fails = fails_in f;
   less = less;
   error = is;
-  same = ap (λ (z : State). record z { last = o }) same;
+  same = failed_in o same;
 })
 
 -- an allocation failed
-pub memory_failed : {member : List ℕ} {c d : State} {e : Asn1DerError} (o : Option (List ℕ)) → o ≢ None → Fails c d e
-    → e ≡ OutOfMemory → d ≡ failed_with c e → RefusesTest member (record c { last = o }) (record d { last = o }) e
-memory_failed o some f is same =
-    without_memory some (fails_in o o f) is (ap (λ (z : State). record z { last = o }) same)
+pub memory_failed : {member : List ℕ} {c d : State} {e : Asn1DerError} (o : SetOrder) → (in_order c o).last ≢ None
+    → Fails c d e → e ≡ OutOfMemory → d ≡ failed_with c e → RefusesTest member (in_order c o) (in_order d o) e
+memory_failed o some f is same = without_memory some (fails_in f) is (failed_in o same)
 
--- ---- the last member, as it was shown or is kept
+-- a list whose order isn't tested
+pub unordered_reads : {A : Type 0} {meaning : A → Tree} {s : Shape} {a c : State} (o : SetOrder)
+    (r : Result A Asn1DerError) → o.next ≡ Untested → a.implicit_tag ≡ None → IfOk r (λ v. Reads s a c (meaning v))
+    → IfOk r (λ v. ReadsMember s (in_order a o) (in_order c o) (meaning v))
+unordered_reads {meaning = meaning} {a = a} {c = c} o (Ok v) none whole r =
+    let before : (in_order a o).last ≡ None = ap (λ n. last_by n a.seen o.kept.items) none in
+    let after : (in_order c o).last ≡ None = ap (λ n. last_by n c.seen o.kept.items) none in
+    member_reads o o c.seen whole r (ap (λ l. is_out_of_order l (der (meaning v))) before)
+    (after ∙ sym (ap (λ l. with_last l (der (meaning v))) before))
+unordered_reads o (Err e) none whole r = tt
 
-with_some : (o : Option (List ℕ)) (member : List ℕ) → o ≢ None → Some member ≡ with_last o member
+pub unordered_refused : {A V : Type 0} {meaning : V → Tree} {s : Shape} {rule : Rule} {a c : State} (o : SetOrder)
+    (r : Result A Asn1DerError) → a.implicit_tag ≡ None → IfErr r (Refuses meaning s a c)
+    → IfErr r (RefusesBy rule a c) → IfErr r (RefusesMember meaning s rule (in_order a o) (in_order c o))
+unordered_refused o (Ok v) whole r by = tt
+unordered_refused o (Err e) whole r by = member_refused o o whole r by
+
+-- ---- the last member
+
+with_some : (l : Option (List ℕ)) (member : List ℕ) → l ≢ None → Some member ≡ with_last l member
 with_some None member some = absurd (some refl)
 with_some (Some x) member some = refl
 
-pub kept_last : (o l : Option (List ℕ)) (member : List ℕ) → o ≢ None → l ≡ Some member → l ≡ with_last o member
-kept_last o l member some is = is ∙ with_some o member some
+pub is_last : (l n : Option (List ℕ)) (member : List ℕ) → l ≢ None → n ≡ Some member → n ≡ with_last l member
+is_last l n member some is = is ∙ with_some l member some
+
+-- after a member that is kept
+pub kept_follows : {member : List ℕ} {c : State} (o p : SetOrder) → (in_order c o).last ≢ None
+    → is_out_of_order (in_order c o).last member ≡ false → p.next ≡ Kept → p.kept.items ≡ member
+    → Follows member (in_order c o) (in_order c p)
+kept_follows {member} {c} o p some h kept is =
+    let last : (in_order c p).last ≡ Some member =
+    ap (λ n. last_by n c.seen p.kept.items) kept ∙ ap (λ x. Some x) is in
+    record {
+      in_order = h;
+      same = ap (λ l. record c { last = l }) (is_last (in_order c o).last (in_order c p).last member some last);
+    }
 
 -- what the reader shows was left before the member, and the bytes after it are left then
-module _ {a c : State} {near : List ℕ} {until_end count : ℕ} {less : Bool} {s : Shape} {t : Tree}
+module _ {a c : State} {near : List ℕ} {until_end count : ℕ} {s : Shape} {t : Tree}
     (front : IfSome a.input (λ bytes. StartsWith bytes near)) (none : IfNone a.input (near ≡ []))
-    (sees : SeesNext near until_end count less) (whole : a.implicit_tag ≡ None) (r : Reads s a c t) where
+    (sees : SeesNext near until_end count) (whole : a.implicit_tag ≡ None) (r : Reads s a c t) where
   shown : IsKnownNext a.input near count
   shown = known_next a.input near count front none sees.element
 
@@ -196,48 +223,49 @@ module _ {a c : State} {near : List ℕ} {until_end count : ℕ} {less : Bool} {
   pub shown_is_read : der t ≡ take count near
   shown_is_read = sym parts.0
 
-  pub shown_last : (o l before : Option (List ℕ)) → o ≢ None → before ≡ a.input
-      → l ≡ Some (take count (known_bytes before)) → l ≡ Some (der t)
-  shown_last o l before some same is =
-      let bytes : take count (known_bytes before) ≡ take count near =
-      ap (λ i. take count (known_bytes i)) (same ∙ shown.known)
-      ∙ take_front count near (drop count near ++ shown.rest) sees.element.fits in
-      is ∙ ap (λ x. Some x) (bytes ∙ parts.0)
+  pub seen_is_read : take count (known_bytes a.input) ≡ der t
+  seen_is_read =
+      ap (λ i. take count (known_bytes i)) shown.known
+      ∙ take_front count near (drop count near ++ shown.rest) sees.element.fits ∙ parts.0
 
   -- what is known of the one after it
-  pub next_compared : (l : SetOrder) → a.until_end ≡ until_end → l.last ≡ Some (der t) → l.less ≡ Some less
-      → IsCompared c l
-  next_compared l end last is member left b not_failed same element consumed fits =
-      let p = front_consumed c.input left member after.0 consumed after.1 in
+  pub next_compared : (d : State) (p : SetOrder) → a.until_end ≡ until_end → d ≡ record c { seen = der t }
+      → IsCompared d p
+  next_compared d p end is = subst (λ z. IsCompared z p) (sym is) (λ f q member left element consumed fits.
+      let k = front_consumed c.input left member after.0 consumed after.1 in
       let size : length (der t) ≡ count = ap length shown_is_read ∙ length_front count near sees.element.fits in
-      let one : less ≡ b = some_same (sym is ∙ same) in
-      ap (λ o. is_out_of_order o member) last ∙ ap (is_less member) shown_is_read
-      ∙ sees.next member shown.rest p.0 element (parts.1 ∙ p.2)
-      (omega (arith, read.until_end, size, fits, end)) ∙ one
+      ap (is_less member) shown_is_read
+      ∙ sees.next member shown.rest k.0 element (parts.1 ∙ k.2) (omega (arith, read.until_end, size, fits, end)))
+
+-- what is known of a member that is shown
+known_consumes : (i : Option (List ℕ)) (x rest : List ℕ) → i ≡ Some (x ++ rest) → Consumes i (Some rest) x
+known_consumes None x rest e = tt
+known_consumes (Some bytes) x rest e = cc
+
+pub shown_compared : {a : State} {near : List ℕ} {count : ℕ} (o : SetOrder) → a.failed ≡ None → IsCompared a o
+    → IfSome a.input (λ bytes. StartsWith bytes near) → IfNone a.input (near ≡ []) → IsElementInFront near count
+    → length near ≤ a.until_end → is_in_order o.next ≡ true → is_less (take count near) a.seen ≡ false
+shown_compared {a} {near} {count} o not_failed h front none e fits is =
+    let k = known_next a.input near count front none e in
+    h not_failed is (take count near) (Some (drop count near ++ k.rest)) (element_next e)
+    (known_consumes a.input (take count near) (drop count near ++ k.rest) k.known)
+    (omega (arith, length_front count near e.fits, e.fits, fits))
 
 -- what is known of a member that was read unseen
 pub unseen_compared : {a c : State} {s : Shape} {t : Tree} (o : SetOrder) → a.failed ≡ None → a.implicit_tag ≡ None
-    → IsCompared a o → Reads s a c t → (less : Bool) → o.less ≡ Some less → is_out_of_order o.last (der t) ≡ less
-unseen_compared {a} {c} {t = t} o not_failed whole h r less is =
+    → IsCompared a o → Reads s a c t → c.seen ≡ a.seen → is_in_order o.next ≡ true → is_less (der t) c.seen ≡ false
+unseen_compared {a} {c} {t = t} o not_failed whole h r same is =
     let read = consumes_whole r whole in
-    h (der t) c.input less not_failed is (der-element t r.readable) read.input (omega (arith, read.until_end))
+    ap (is_less (der t)) same ∙ h not_failed is (der t) c.input (der-element t r.readable) read.input
+    (omega (arith, read.until_end))
 
 -- nothing is known, or nothing will be read
-pub uncompared : {a : State} (o : SetOrder) → o.less ≡ None → IsCompared a o
-uncompared o none member left less f same = absurd (let q : None ≡ Some less = sym none ∙ same in cc)
+pub uncompared : {a : State} (o : SetOrder) → is_in_order o.next ≡ false → IsCompared a o
+uncompared o none f is = absurd (true≢false (sym is ∙ none))
 
 pub failed_uncompared : {a c : State} {e : Asn1DerError} (o : SetOrder) → Fails a c e → IsCompared c o
-failed_uncompared {e = e} o f member left less not_failed =
+failed_uncompared {e = e} o f not_failed =
     absurd (let q : None ≡ Some (failure_of e) = sym not_failed ∙ f.failed in cc)
-
--- none is less than no bytes
-pub first_compared : {a : State} (o : SetOrder) → o.last ≡ Some [] → o.less ≡ Some false → IsCompared a o
-first_compared o last is member left less f same element consumed fits =
-    ap (λ l. is_out_of_order l member) last ∙ not_less_nothing member ∙ some_same (sym is ∙ same)
-  where
-    not_less_nothing : (c : List ℕ) → is_less c [] ≡ false
-    not_less_nothing [] = refl
-    not_less_nothing (x ∷ c) = refl
 
 -- ---- sets whose members are out of order, as they are refused
 

@@ -1,5 +1,5 @@
 -- What reading the members of a sequence or set does.
-use Rattle.std.specs.Prelude.{◌≡◌, ◌≤◌, ◌+◌, ℕ, Bool, List, [], ◌∷◌, ◌++◌, length, map, Some, None, IfSome}
+use Rattle.std.specs.Prelude.{◌≡◌, ◌≤◌, ◌+◌, ℕ, List, [], ◌∷◌, ◌++◌, length, map, Some, None, IfSome}
 use Rattle.std.specs.List.{concat}
 use Rattle.picky_der_core.specs.declared.error.Asn1DerError.{Asn1DerError}
 use Rattle.picky_der_core.specs.declared.error.Asn1DerError.TheVariants.{InvalidData}
@@ -12,7 +12,7 @@ use Rattle.picky_der_de.specs.declared.end.End.TheVariants.{Soft}
 use Rattle.picky_der_de.specs.State.{State}
 use Rattle.picky_der_de.specs.Steps.{Consumed, Fails, IsJudged, failed_with}
 use Rattle.picky_der_de.specs.Headers.{header_bytes}
-use Rattle.picky_der_de.specs.Order.{AreInOrder, without_order, SeesMember, Follows, RefusesTest}
+use Rattle.picky_der_de.specs.Order.{AreInOrder, without_order, Follows, RefusesTest}
 use Rattle.picky_der_de.specs.Reading.{Reads, Refuses, Concerns}
 use Rattle.picky_der_de.specs.RefusesBy.{Rule, RefusesBy}
 
@@ -40,14 +40,6 @@ pub record RefusesMember {V : Type 0} (meaning : V → Tree) (s : Shape) (rule :
     pub fails : Fails old new e
     pub refuses : RefusesNext meaning s rule old new e
     pub implicit_tag : old.failed ≡ None → old.implicit_tag ≡ None
-
--- the same, from before the member was seen
-abbrev pub ReadsSeen : Bool → Shape → State → State → Tree → Type 0
-ReadsSeen less s old new t = (before : State) → SeesMember before old less → ReadsMember s before new t
-
-abbrev pub RefusesSeen : {V : Type 0} → Bool → (V → Tree) → Shape → Rule → State → State → Asn1DerError → Type 0
-RefusesSeen less meaning s rule old new e = (before : State) → SeesMember before old less
-    → RefusesMember meaning s rule before new e
 
 -- the end is here, and nothing was done
 pub record HasNoMore (old new : State) : Type 0 where

@@ -11,6 +11,11 @@ use Rattle.picky_der_de.specs.Steps.{Fails, failed_with}
 abbrev pub order_of : ℕ → Option (List ℕ)
 order_of tag = if tag == 0x31 then Some [] else None
 
+-- the known bytes
+abbrev pub known_bytes : Option (List ℕ) → List ℕ
+known_bytes None = []
+known_bytes (Some bytes) = bytes
+
 -- ---- members
 
 -- whether an encoding is less than the last one, where the order is tested

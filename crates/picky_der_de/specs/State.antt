@@ -1,5 +1,5 @@
 -- What contracts see of a deserializer.
-use Rattle.std.specs.Prelude.{ℕ, List, Option, None}
+use Rattle.std.specs.Prelude.{ℕ, List, [], Option, None}
 use Rattle.picky_der_core.specs.declared.failure.Failure.{Failure}
 use Rattle.picky_der_core.specs.Faults.{Fault}
 use Rattle.picky_der_de.specs.declared.end.End.{End}
@@ -19,6 +19,8 @@ pub record State : Type 0 where
   pub end : End
   -- of a set whose members are read one by one: the encoding of the last one, and no bytes before the first one
   pub last : Option (List ℕ)
+  -- the bytes of the member of a set that was shown last before it was read; reading another value keeps or forgets them
+  pub seen : List ℕ
   -- the number of the implicit tag directly under which it is
   pub implicit_tag : Option ℕ
   -- the kind of the error that it has failed with
@@ -38,6 +40,7 @@ fresh input limit faults references = record {
   until_end = limit;
   end = Limit;
   last = None;
+  seen = [];
   implicit_tag = None;
   failed = None;
   faults = faults;

@@ -1,10 +1,11 @@
 //! What reads values of any type from an input, and how far the input may be read.
-ghost use Rattle.std.specs.Prelude.{◌≡◌, ◌≢◌, ◌<◌, ◌≤◌, ◌^◌, ℕ, List, [], length, false, Option, None, Some, IfNone, IfSome};
+ghost use Rattle.std.specs.Prelude.{◌≡◌, ◌≢◌, ◌<◌, ◌≤◌, ◌^◌, ℕ, List, [], length, take, false, Option, None, Some, IfNone, IfSome};
 ghost use Rattle.picky_der_de.specs.State.{fresh};
 ghost use Rattle.std.specs.IoError.{error_kind};
 ghost use Rattle.picky_der_core.specs.Error.{error_of_kind};
 ghost use Rattle.picky_der_core.specs.Failure.{failure_of};
-ghost use Rattle.picky_der_core.specs.Peeking.{prepend, left_in};
+ghost use Rattle.picky_der_core.specs.Peeking.{prepend};
+ghost use Rattle.picky_der_de.specs.Order.{known_bytes};
 ghost use Rattle.std.specs.Io.{StartsWith};
 ghost use Rattle.picky_der_de.specs.Steps.{IsWithin, Fails, IsOther, failed_with};
 ghost use Rattle.picky_der_de.specs.Refusing.{FailsAs};
@@ -17,6 +18,7 @@ mod octets;
 mod peek;
 mod plain;
 mod raw;
+mod seen;
 mod texts;
 mod unsupported;
 mod wrapper;
@@ -24,12 +26,13 @@ mod wrapper;
 use crate::End;
 pub(crate) use ahead::element_at_front;
 pub(crate) use nesting::EnclosingEnd;
+use seen::Seen;
 use picky_der_core::misc::{PeekableReader, ReadExt};
 use picky_der_core::{Asn1DerError, Failure, Result};
 use std::alloc::Global;
 use std::io;
 use std::marker::Model;
-use std::snapshot::Snapshot;
+use std::mem;
 
 /// Reads values from a reader. After an error it has failed: each later call returns an error of its kind and consumes
 /// nothing.
@@ -41,6 +44,8 @@ pub struct Deserializer<R: ReadExt> {
     // The innermost end: how many bytes are before it, and what it is.
     until_end: usize,
     end: End,
+    // The member of a set that was shown last. It has no effect at run time.
+    seen: Seen<R>,
     implicit_tag: Option<u8>,
     failed: Option<Failure>,
     // The content to which a reference was returned last.
@@ -64,6 +69,7 @@ impl<R: ReadExt> Model for Deserializer<R> {
       until_end = d.until_end;
       end = d.end;
       last = None;
+      seen = d.seen;
       implicit_tag = d.implicit_tag;
       failed = d.failed;
       faults = R.faults d.reader.reader;
@@ -98,12 +104,15 @@ impl<R: ReadExt> Deserializer<R> {
         ensures { result ≡ fresh (R.remaining reader) max_len (R.faults reader)
             (R.references reader) }
     {
+        let reader = PeekableReader::new(reader);
+        let seen = Seen::of(&reader, 0);
         Deserializer {
             alloc,
-            reader: PeekableReader::new(reader),
+            reader,
             limit: max_len,
             until_end: max_len,
             end: End::Limit,
+            seen,
             implicit_tag: None,
             failed: None,
             content: Vec::new(alloc),
@@ -123,6 +132,7 @@ impl<R: ReadExt> Deserializer<R> {
             limit: _,
             until_end: _,
             end: _,
+            seen: _,
             implicit_tag: _,
             failed: _,
             content: _,
@@ -182,12 +192,29 @@ impl<R: ReadExt> Deserializer<R> {
         self.until_end
     }
 
-    // The reader as it is. Only clauses read it.
+    // The next bytes of the reader, so many of them. Only clauses read them.
     #[inline(always)]
-    pub(crate) fn reader_seen(&self) -> Snapshot<PeekableReader<R>>
-        ensures { left_in R.remaining result.value ≡ self.now.input }
+    pub(crate) fn seen_ahead(&self, count: usize) -> Seen<R>
+        ensures { result ≡ take count (known_bytes self.now.input) }
     {
-        Snapshot::of(&self.reader)
+        Seen::of(&self.reader, count)
+    }
+
+    // Forgets the member that was seen last, and returns it.
+    #[inline(always)]
+    pub(crate) fn take_seen(&mut self) -> Seen<R>
+        ensures seen { result ≡ self.old.seen }
+        ensures same { self.new ≡ record self.old { seen = [] } }
+    {
+        mem::replace(&mut self.seen, Seen::of(&self.reader, 0))
+    }
+
+    // This member was seen.
+    #[inline(always)]
+    pub(crate) fn set_seen(&mut self, member: Seen<R>)
+        ensures { self.new ≡ record self.old { seen = member } }
+    {
+        self.seen = member;
     }
 
     // The allocator of the vectors.

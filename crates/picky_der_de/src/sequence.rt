@@ -32,7 +32,7 @@ pub struct Sequence<'a, R: ReadExt> {
     de: &'a mut Deserializer<R>,
     // The end around its own.
     outer: EnclosingEnd,
-    order: SetOrder<R>,
+    order: SetOrder,
     ghost within: { de.now.consumed + de.now.until_end ≤ outer.position },
     ghost bounded: { outer.position ≤ de.now.limit },
     ghost whole: { de.now.failed ≡ None → de.now.implicit_tag ≡ None },
@@ -61,7 +61,7 @@ impl<'a, R: ReadExt> Sequence<'a, R> {
         ensures opened { OpensLazily len de.old (state_of result) (outer_of result) }
     {
         let outer = de.open_lazily(len);
-        let order = SetOrder::new(de, Tag::SEQUENCE);
+        let order = SetOrder::new(de.alloc(), Tag::SEQUENCE);
         Sequence { de, outer, order }
     }
 
@@ -339,7 +339,7 @@ impl<R: ReadExt> Deserializer<R> {
         ensures ok { IfOk result (λ q. OpensList tag self.old (state_of q) (outer_of q)) }
     {
         let outer = self.open_list(tag)?;
-        let order = SetOrder::new(self, tag);
+        let order = SetOrder::new(self.alloc(), tag);
         Ok(Sequence {
             de: self,
             outer,

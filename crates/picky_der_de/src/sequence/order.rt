@@ -1,34 +1,31 @@
-//! The order of the members of a set (X.690, 11.6). Two members that the reader shows one after the other are compared
-//! before the first of them is read, so neither is kept. Another member is kept until the next one was read.
-ghost use Rattle.std.specs.Prelude.{◌≡◌, ◌≢◌, Bool, true, false, take, None, Some, IfSome, IfOk, IfErr, OnOk};
+//! The order of the members of a set (X.690, 11.6). Where the reader shows a member and the one after it, the two are
+//! compared before the first of them is read, so neither is kept. Another member is kept until the next one was read.
+ghost use Rattle.std.specs.Prelude.{◌≡◌, ◌≢◌, ◌==◌, true, false, None, if◌then◌else◌, IfSome, IfOk, IfErr, OnOk};
 ghost use Rattle.picky_der_core.specs.Order.{is_less};
 ghost use Rattle.picky_der_core.specs.Encoding.{der};
-ghost use Rattle.picky_der_core.specs.Peeking.{left_in};
 ghost use Rattle.picky_der_de.specs.Members.{ReadsMember, RefusesMember};
-ghost use Rattle.picky_der_de.specs.Order.{order_of, is_out_of_order, Follows, RefusesTest};
-ghost use Rattle.picky_der_de.specs.SetOrder.{known_bytes, in_order, IsCompared, SeesNext};
+ghost use Rattle.picky_der_de.specs.Order.{Follows, RefusesTest};
+ghost use Rattle.picky_der_de.specs.Reading.{Reads, Refuses};
+ghost use Rattle.picky_der_de.specs.RefusesBy.{RefusesBy};
+ghost use Rattle.picky_der_de.specs.SetOrder.{is_in_order, in_order, IsCompared, SeesNext};
+ghost use Rattle.picky_der_de.specs.declared.sequence.order.Next.TheVariants.{Untested, Kept};
 
 use crate::deserializer::element_at_front;
 use crate::{Deserialize, Deserializer};
 use picky_der_core::asn1::Tag;
-use picky_der_core::misc::{PeekableReader, ReadExt};
+use picky_der_core::misc::ReadExt;
 use picky_der_core::{Asn1DerError, Result};
 use picky_der_ser::{Serialize, to_vec};
 use std::alloc::Global;
-use std::marker::Model;
-use std::snapshot::Snapshot;
 
 // What is known of the next member.
-#[derive(Clone, Copy, PartialEq, Eq)]
+#[derive(Clone, Copy)]
 pub(crate) enum Next {
     // It may come next, whatever it is: the members are those of a sequence.
     Untested,
 
-    // If it is whole before the end it isn't less than the last one.
+    // If it is whole before the end it isn't less than the last one, which isn't kept.
     InOrder,
-
-    // If it is whole before the end it is less than the last one.
-    Less,
 
     // It has to be compared with the last one, which is kept.
     Kept,
@@ -36,25 +33,9 @@ pub(crate) enum Next {
 
 // The order of the members of a list. That of a sequence isn't tested.
 #[derive(Drop)]
-pub(crate) struct SetOrder<R: ReadExt> {
+pub(crate) struct SetOrder {
     next: Next,
     kept: Vec<u8>,
-    // The reader before the last member, and how many bytes that has, unless it is kept. Both have no effect at run
-    // time.
-    before: Snapshot<PeekableReader<R>>,
-    count: Snapshot<usize>,
-}
-
-impl<R: ReadExt> Model for SetOrder<R> {
-    ghost use Rattle.picky_der_core.specs.Peeking.{left_in};
-    ghost use Rattle.picky_der_de.specs.SetOrder.{SetOrder, last_by, less_by};
-
-    ghost Value = { SetOrder };
-
-    ghost view = { λ o. record {
-      last = last_by o.next (left_in R.remaining o.before.value) o.count.value o.kept.items;
-      less = less_by o.next;
-    } };
 }
 
 // Whether a member is less than the last one.
@@ -64,81 +45,87 @@ fn is_before(member: &[u8], last: &[u8]) -> bool
     member.cmp(last).is_lt()
 }
 
-// How many bytes the member at the front of these bytes has, and whether the member after it is less. `None` if one of
-// them isn't there whole, or if its length has more than three bytes. At the end none has to be there.
-fn next_at_front(near: &[u8], until_end: usize) -> Option<(usize, bool)>
-    ensures { IfSome result (λ n. SeesNext near.now until_end n.0 n.1) }
+// What is known of the first member of a list under this tag.
+#[inline(always)]
+fn first_of(tag: Tag) -> Next
+    ensures { result ≡ (if tag == 0x31 then Kept else Untested) }
 {
-    let count = element_at_front(near)?;
-    if count == until_end {
-        return Some((count, false));
+    if tag == Tag::SET {
+        return Next::Kept;
     }
-    let after = &near[count..];
-    let size = element_at_front(after)?;
-    Some((count, is_before(&after[..size], &near[..count])))
+    Next::Untested
 }
 
-impl<R: ReadExt> SetOrder<R> {
-    // The order before the first member of a list under this tag.
+impl SetOrder {
+    ghost use Rattle.std.specs.Prelude.{◌≡◌, ◌≢◌, ℕ, List, true, false, None};
+    ghost use Rattle.picky_der_de.specs.Order.{order_of, is_out_of_order};
+    ghost use Rattle.picky_der_de.specs.SetOrder.{last_by, is_in_order};
+    ghost use Rattle.picky_der_de.specs.declared.sequence.order.Next.TheVariants.{Untested};
+
+    // The order before the first member of a list under this tag. Of a set no bytes are kept, than which nothing is
+    // less.
     #[inline(always)]
-    pub(crate) fn new(de: &Deserializer<R>, tag: Tag) -> SetOrder<R>
-        ensures last { result.last ≡ order_of tag }
-        ensures compared { IsCompared de.now result }
+    pub(crate) fn new(alloc: Global, tag: Tag) -> SetOrder
+        ensures last { (seen : List ℕ) → last_by result.next seen result.kept.items ≡ order_of tag }
+        ensures not_compared { is_in_order result.next ≡ false }
     {
         SetOrder {
-            next: if tag == Tag::SET {
-                Next::InOrder
-            } else {
-                Next::Untested
-            },
-            kept: Vec::new(de.alloc()),
-            before: de.reader_seen(),
-            count: Snapshot::of(&0),
+            next: first_of(tag),
+            kept: Vec::new(alloc),
         }
     }
 
     // Whether the order is tested.
     #[inline(always)]
     pub(crate) fn is_tested(&self) -> bool
-        ensures yes { result ≡ true → self.now.last ≢ None }
-        ensures no { result ≡ false → (self.now.last ≡ None) × (self.now.less ≡ None) }
+        ensures yes { result ≡ true → (seen : List ℕ) → last_by self.now.next seen self.now.kept.items ≢ None }
+        ensures no { result ≡ false → self.now.next ≡ Untested }
     {
-        self.next != Next::Untested
+        !matches!(self.next, Next::Untested)
     }
 
-    // Whether a member is less than the last one. If the two were compared before, it isn't looked at.
+    // Whether a member is less than the last one. If it is known to be in order, it isn't looked at.
     #[inline(always)]
     fn is_less(&self, member: &[u8]) -> bool
-        requires compared { (less : Bool) → self.now.less ≡ Some less
-            → is_out_of_order self.now.last member.now ≡ less }
-        ensures { result ≡ is_out_of_order self.now.last member.now }
+        ensures { (seen : List ℕ) → (is_in_order self.now.next ≡ true → is_less member.now seen ≡ false)
+            → result ≡ is_out_of_order (last_by self.now.next seen self.now.kept.items) member.now }
     {
         match self.next {
             Next::Untested | Next::InOrder => false,
-            Next::Less => true,
             Next::Kept => is_before(member, &self.kept),
         }
     }
+}
 
-    // A member was read, of which the next one is known to be less or not.
-    #[inline(always)]
-    fn follow(&mut self, before: Snapshot<PeekableReader<R>>, count: usize, is_less: bool)
-        ensures last { self.new.last ≡ Some (take count (known_bytes (left_in R.remaining before.value))) }
-        ensures less { self.new.less ≡ Some is_less }
-    {
-        self.next = if is_less { Next::Less } else { Next::InOrder };
-        self.before = before;
-        self.count = Snapshot::of(&count);
+// How many bytes the member at the front of these bytes has, if it and the member after it are there whole and in order.
+// At the end none has to be there. `None` too if the length of one of them has more than three bytes.
+fn next_at_front(near: &[u8], until_end: usize) -> Option<usize>
+    ensures { IfSome result (SeesNext near.now until_end) }
+{
+    let count = element_at_front(near)?;
+    if count == until_end {
+        return Some(count);
     }
+    let after = &near[count..];
+    let size = element_at_front(after)?;
+    if is_before(&after[..size], &near[..count]) {
+        return None;
+    }
+    Some(count)
+}
 
-    // A member was read, and is kept.
-    fn keep(&mut self, member: Vec<u8>)
-        ensures last { self.new.last ≡ Some member.items }
-        ensures less { self.new.less ≡ None }
-    {
-        self.next = Next::Kept;
-        self.kept = member;
-    }
+// Reads a value. The member that was seen last stays that, whatever the value is.
+#[inline(always)]
+fn read_aside<T: Deserialize, R: ReadExt>(de: &mut Deserializer<R>) -> Result<T>
+    ensures ok { IfOk result (λ value. Reads T.shape de.old de.new (T.meaning value)) }
+    ensures err { IfErr result (Refuses T.meaning T.shape de.old de.new) }
+    ensures refused_by { IfErr result (RefusesBy T.facts.rule de.old de.new) }
+    ensures seen { de.new.seen ≡ de.old.seen }
+{
+    let seen = de.take_seen();
+    let result = T::deserialize(de);
+    de.set_seen(seen);
+    result
 }
 
 // The next member of a set. Most members are those of sequences, so this function isn't inlined.
@@ -147,11 +134,11 @@ impl<R: ReadExt> SetOrder<R> {
 #[inline(never)]
 pub(super) fn read_in_set<T: Deserialize, R: ReadExt>(
     de: &mut Deserializer<R>,
-    order: &mut SetOrder<R>,
+    order: &mut SetOrder,
 ) -> Result<T>
     requires had_not_failed { de.old.failed ≡ None }
     requires whole { de.old.implicit_tag ≡ None }
-    requires in_set { order.old.last ≢ None }
+    requires in_set { (in_order de.old order.old).last ≢ None }
     requires compared { IsCompared de.old order.old }
     ensures ok { IfOk result (λ value. ReadsMember T.shape (in_order de.old order.old)
         (in_order de.new order.new) (T.meaning value)) }
@@ -160,33 +147,35 @@ pub(super) fn read_in_set<T: Deserialize, R: ReadExt>(
     ensures compared { IsCompared de.new order.new }
 {
     let near = de.near();
-    let Some((count, next_is_less)) = next_at_front(near, de.until_end()) else {
+    let Some(count) = next_at_front(near, de.until_end()) else {
         return read_unseen(de, order);
     };
     let is_less = order.is_less(&near[..count]);
-    let before = de.reader_seen();
-    match T::deserialize(de) {
+    let member = de.seen_ahead(count);
+    match read_aside(de) {
         Ok(value) => {
             if is_less {
                 return Err(de.fail(Asn1DerError::InvalidData));
             }
-            order.follow(before, count, next_is_less);
+            de.set_seen(member);
+            order.next = Next::InOrder;
             Ok(value)
         }
         Err(error) => Err(error),
     }
 }
 
-// Reads a member that isn't in memory whole, or after which the next one isn't, and compares its encoding after that.
+// Reads a member that isn't in memory whole, or after which none is that is in order, and compares its encoding after
+// that.
 #[cold]
 #[inline(never)]
 fn read_unseen<T: Deserialize, R: ReadExt>(
     de: &mut Deserializer<R>,
-    order: &mut SetOrder<R>,
+    order: &mut SetOrder,
 ) -> Result<T>
     requires had_not_failed { de.old.failed ≡ None }
     requires whole { de.old.implicit_tag ≡ None }
-    requires in_set { order.old.last ≢ None }
+    requires in_set { (in_order de.old order.old).last ≢ None }
     requires compared { IsCompared de.old order.old }
     ensures ok { IfOk result (λ value. ReadsMember T.shape (in_order de.old order.old)
         (in_order de.new order.new) (T.meaning value)) }
@@ -194,7 +183,7 @@ fn read_unseen<T: Deserialize, R: ReadExt>(
         (in_order de.old order.old) (in_order de.new order.new)) }
     ensures compared { IsCompared de.new order.new }
 {
-    let value = match T::deserialize(de) {
+    let value = match read_aside(de) {
         Ok(value) => value,
         Err(error) => return Err(error),
     };
@@ -208,13 +197,13 @@ fn read_unseen<T: Deserialize, R: ReadExt>(
 // encoding is written again. A value that was read can be written, so the only failure is that of an allocation.
 fn test_order<T: Serialize, R: ReadExt>(
     de: &mut Deserializer<R>,
-    order: &mut SetOrder<R>,
+    order: &mut SetOrder,
     value: &T,
 ) -> Result<()>
     requires had_not_failed { de.old.failed ≡ None }
-    requires in_set { order.old.last ≢ None }
-    requires compared { (less : Bool) → order.old.less ≡ Some less
-        → is_out_of_order order.old.last (der (T.meaning value.now)) ≡ less }
+    requires in_set { (in_order de.old order.old).last ≢ None }
+    requires compared { is_in_order order.old.next ≡ true
+        → is_less (der (T.meaning value.now)) de.old.seen ≡ false }
     ensures ok { OnOk result (Follows (der (T.meaning value.now)) (in_order de.old order.old)
         (in_order de.new order.new)) }
     ensures err { IfErr result (RefusesTest (der (T.meaning value.now)) (in_order de.old order.old)
@@ -227,6 +216,7 @@ fn test_order<T: Serialize, R: ReadExt>(
     if order.is_less(&member) {
         return Err(de.fail(Asn1DerError::InvalidData));
     }
-    order.keep(member);
+    order.kept = member;
+    order.next = Next::Kept;
     Ok(())
 }

@@ -22,9 +22,9 @@ returns-then-branch-clause-err g c =
       same =
           refl;
     })
-    (c.args.self.now.whole k.0) (fails_in c.args.self.now.order.last c.args.self.now.order.last c.fail.ensures.fails)
+    (c.args.self.now.whole k.0) (fails_in c.fail.ensures.fails)
     c.fail.ensures.error
-    (failed_in c.args.self.now.order.last (failed_same c.args.self.now.de.now c.fail.ensures.error c.fail.ensures.same))
+    (failed_in c.args.self.now.order (failed_same c.args.self.now.de.now c.fail.ensures.error c.fail.ensures.same))
 
 pub returns-clause-err : goal.returns-clause-err
 returns-clause-err g c =

@@ -73,7 +73,7 @@ pub returns-in_default-add-clause-err : goal.returns-in_default-add-clause-err
 returns-in_default-add-clause-err g c =
     let r = c.in_ok-value.ensures.ok in
     c.loop-values.invariant.some.refuses _ _ (all_next r (all_for_memory
-    (fails_in _ _ c.fail.ensures.fails) c.fail.ensures.error))
+    (fails_in c.fail.ensures.fails) c.fail.ensures.error))
 
 pub returns-clause-ok : goal.returns-clause-ok
 returns-clause-ok g c =
