@@ -8,7 +8,6 @@ ghost use Rattle.picky_der_de.specs.Order.{Follows, RefusesTest};
 ghost use Rattle.picky_der_de.specs.Reading.{Reads, Refuses};
 ghost use Rattle.picky_der_de.specs.RefusesBy.{RefusesBy};
 ghost use Rattle.picky_der_de.specs.SetOrder.{is_in_order, in_order, IsCompared, SeesNext};
-ghost use Rattle.picky_der_de.specs.declared.sequence.order.Next.TheVariants.{Untested, Kept};
 
 use crate::deserializer::element_at_front;
 use crate::{Deserialize, Deserializer};
@@ -48,7 +47,7 @@ fn is_before(member: &[u8], last: &[u8]) -> bool
 // What is known of the first member of a list under this tag.
 #[inline(always)]
 fn first_of(tag: Tag) -> Next
-    ensures { result ≡ (if tag == 0x31 then Kept else Untested) }
+    ensures { result ≡ (if tag == 0x31 then Next.Kept else Next.Untested) }
 {
     if tag == Tag::SET {
         return Next::Kept;
@@ -60,7 +59,6 @@ impl SetOrder {
     ghost use Rattle.std.specs.Prelude.{◌≡◌, ◌≢◌, ℕ, List, true, false, None};
     ghost use Rattle.picky_der_de.specs.Order.{order_of, is_out_of_order};
     ghost use Rattle.picky_der_de.specs.SetOrder.{last_by, is_in_order};
-    ghost use Rattle.picky_der_de.specs.declared.sequence.order.Next.TheVariants.{Untested};
 
     // The order before the first member of a list under this tag. Of a set no bytes are kept, than which nothing is
     // less.
@@ -79,7 +77,7 @@ impl SetOrder {
     #[inline(always)]
     pub(crate) fn is_tested(&self) -> bool
         ensures yes { result ≡ true → (seen : List ℕ) → last_by self.now.next seen self.now.kept.items ≢ None }
-        ensures no { result ≡ false → self.now.next ≡ Untested }
+        ensures no { result ≡ false → self.now.next ≡ Next.Untested }
     {
         !matches!(self.next, Next::Untested)
     }
