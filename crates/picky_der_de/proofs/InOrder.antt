@@ -1,7 +1,6 @@
 -- What a call does to a deserializer whose next value is a member, whichever the last member is.
-use Rattle.std.proofs.Common.{◌≡◌, ℕ, List, [], ◌∷◌, Option, Some, None, take, refl, ◌∙◌, ap, subst}
+use Rattle.std.proofs.Common.{◌≡◌, ℕ, List, [], ◌∷◌, Option, Some, None, take, refl, ◌∙◌, ap}
 use Rattle.picky_der_core.specs.declared.error.Asn1DerError.{Asn1DerError}
-use Rattle.picky_der_core.specs.Failure.{failure_of}
 use Rattle.picky_der_core.specs.Shape.{Shape}
 use Rattle.picky_der_core.specs.Tree.{Tree}
 use Rattle.picky_der_de.specs.declared.sequence.order.SetOrder.{SetOrder}
@@ -9,8 +8,8 @@ use Rattle.picky_der_de.specs.State.{State}
 use Rattle.picky_der_de.specs.Steps.{Consumed, Fails, IsJudged, IsMissing, end_is_here, input_ended, failed_with}
 use Rattle.picky_der_de.specs.Refusing.{FailsAs}
 use Rattle.picky_der_de.specs.RefusesBy.{Rule, RefusesBy}
-use Rattle.picky_der_de.specs.Reading.{Concerns, now, ever, Reads, Refuses, AreNotRefused}
-use Rattle.picky_der_de.specs.SetOrder.{last_by, in_order}
+use Rattle.picky_der_de.specs.Reading.{Concerns, now, ever, Reads, Refuses}
+use Rattle.picky_der_de.specs.SetOrder.{in_order}
 use Rattle.picky_der_de.specs.LookAhead.{Peeks, Identifies, IdentifiesIn, RefusesIdentifier, RefusesPeek}
 use Rattle.picky_der_de.specs.LookAhead.{identifier_refusal, identifier_refusal_in}
 

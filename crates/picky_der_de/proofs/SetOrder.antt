@@ -74,7 +74,8 @@ length-element : (member : List ℕ) → IsElement member → 0 < length member
 unfolding tlv
 length-element member e = rw e.is (omega arith)
 
-take_front : (count : ℕ) (near rest : List ℕ) → count ≤ length near → take count (take count near ++ rest) ≡ take count near
+take_front : (count : ℕ) (near rest : List ℕ) → count ≤ length near
+    → take count (take count near ++ rest) ≡ take count near
 take_front count near rest fits = grind (arith, common_steps)
 
 length_front : (count : ℕ) (near : List ℕ) → count ≤ length near → length (take count near) ≡ count
