@@ -1,5 +1,6 @@
 -- What a call does to a deserializer whose next value is a member, whichever the last member is.
-use Rattle.std.proofs.Common.{◌≡◌, ℕ, List, [], ◌∷◌, Option, Some, None, take, refl, ◌∙◌, ap}
+use Rattle.std.proofs.Common.{◌≡◌, ℕ, List, [], ◌∷◌, Option, Some, None, take, refl, ◌∙◌, ap, subst}
+use Rattle.std.proofs.Common.{Result, Ok, Err, IfOk, IfErr}
 use Rattle.picky_der_core.specs.declared.error.Asn1DerError.{Asn1DerError}
 use Rattle.picky_der_core.specs.Shape.{Shape}
 use Rattle.picky_der_core.specs.Tree.{Tree}
@@ -80,6 +81,36 @@ module _ {l m : Option (List ℕ)} {x y : List ℕ} {a c : State} where
   pub refused_in : (rule : Rule) {e : Asn1DerError} → RefusesBy rule a c e
       → RefusesBy rule (with_members l x a) (with_members m y c) e
   refused_in rule by j = by (judged_in j)
+
+-- a value that was read while the member that was seen last was forgotten
+module _ {A : Type 0} {s : Shape} {a b c : State} (r : Result A Asn1DerError) (seen : List ℕ)
+    (same : b ≡ record a { seen = [] }) where
+  pub reads_aside : {meaning : A → Tree} → IfOk r (λ v. Reads s b c (meaning v))
+      → IfOk r (λ v. Reads s a (record c { seen = seen }) (meaning v))
+  reads_aside {meaning} h = aside r (subst (λ z. IfOk r (λ v. Reads s z c (meaning v))) same h)
+    where
+      aside : (q : Result A Asn1DerError) → IfOk q (λ v. Reads s (record a { seen = [] }) c (meaning v))
+          → IfOk q (λ v. Reads s a (record c { seen = seen }) (meaning v))
+      aside (Ok v) k = reads_in k.consumes.last k
+      aside (Err e) k = tt
+
+  pub refuses_aside : {V : Type 0} {meaning : V → Tree} → IfErr r (Refuses meaning s b c)
+      → IfErr r (Refuses meaning s a (record c { seen = seen }))
+  refuses_aside {V} {meaning} h = aside r (subst (λ z. IfErr r (Refuses meaning s z c)) same h)
+    where
+      aside : (q : Result A Asn1DerError) → IfErr q (Refuses meaning s (record a { seen = [] }) c)
+          → IfErr q (Refuses meaning s a (record c { seen = seen }))
+      aside (Ok v) k = tt
+      aside (Err e) k = refuses_in k
+
+  pub refused_aside : (rule : Rule) → IfErr r (RefusesBy rule b c)
+      → IfErr r (RefusesBy rule a (record c { seen = seen }))
+  refused_aside rule h = aside r (subst (λ z. IfErr r (RefusesBy rule z c)) same h)
+    where
+      aside : (q : Result A Asn1DerError) → IfErr q (RefusesBy rule (record a { seen = [] }) c)
+          → IfErr q (RefusesBy rule a (record c { seen = seen }))
+      aside (Ok v) k = tt
+      aside (Err e) k = refused_in rule k
 
 -- ---- failures
 

@@ -128,7 +128,7 @@ member_reads {a = a} {c = c} o p seen whole r h is = record {
 }
 
 -- the same with the test afterwards
-still_last : {a c : State} (o : SetOrder) → c.seen ≡ a.seen → (in_order c o).last ≡ (in_order a o).last
+pub still_last : {a c : State} (o : SetOrder) → c.seen ≡ a.seen → (in_order c o).last ≡ (in_order a o).last
 still_last o same = ap (λ x. last_by o.next x o.kept.items) same
 
 pub member_follows : {s : Shape} {a c d : State} {t : Tree} (o p : SetOrder) → a.implicit_tag ≡ None
@@ -251,6 +251,17 @@ shown_compared {a} {near} {count} o not_failed h front none e fits is =
     h not_failed is (take count near) (Some (drop count near ++ k.rest)) (element_next e)
     (known_consumes a.input (take count near) (drop count near ++ k.rest) k.known)
     (omega (arith, length_front count near e.fits, e.fits, fits))
+
+-- whether it is less than the last one
+pub shown_less : {a : State} {near : List ℕ} {count : ℕ} (o : SetOrder) → a.failed ≡ None → IsCompared a o
+    → IfSome a.input (λ bytes. StartsWith bytes near) → IfNone a.input (near ≡ []) → IsElementInFront near count
+    → length near ≤ a.until_end → {t : Tree} → der t ≡ take count near → {less : Bool}
+    → ((seen : List ℕ) → (is_in_order o.next ≡ true → is_less (take count near) seen ≡ false)
+    → less ≡ is_out_of_order (last_by o.next seen o.kept.items) (take count near))
+    → is_out_of_order (in_order a o).last (der t) ≡ less
+shown_less {a} {near} {count} o not_failed h front none e fits is test =
+    ap (is_out_of_order (in_order a o).last) is
+    ∙ sym (test a.seen (shown_compared o not_failed h front none e fits))
 
 -- what is known of a member that was read unseen
 pub unseen_compared : {a c : State} {s : Shape} {t : Tree} (o : SetOrder) → a.failed ≡ None → a.implicit_tag ≡ None
