@@ -26,13 +26,12 @@ mod wrapper;
 use crate::End;
 pub(crate) use ahead::element_at_front;
 pub(crate) use nesting::EnclosingEnd;
-use seen::Seen;
 use picky_der_core::misc::{PeekableReader, ReadExt};
 use picky_der_core::{Asn1DerError, Failure, Result};
+use seen::Seen;
 use std::alloc::Global;
-use std::io;
 use std::marker::Model;
-use std::mem;
+use std::{io, mem};
 
 /// Reads values from a reader. After an error it has failed: each later call returns an error of its kind and consumes
 /// nothing.

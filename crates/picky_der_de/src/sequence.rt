@@ -6,10 +6,10 @@ mod order;
 
 use crate::deserializer::EnclosingEnd;
 use crate::{Begins, Deserialize, Deserializer};
+use order::{SetOrder, read_in_set};
 use picky_der_core::asn1::Tag;
 use picky_der_core::misc::ReadExt;
 use picky_der_core::{Asn1DerError, Result};
-use order::{SetOrder, read_in_set};
 use picky_der_ser::DefaultOf;
 use std::alloc::AllocError;
 

@@ -14,9 +14,9 @@ invariant-loop-values g l = record {
   outer : l.self.outer ≡ l.initial.self.outer;
   by : (d : State) (e : Asn1DerError)
       → RefusesEachBy g.T.Serialize.meaning g.T.Deserialize.shape g.T.Deserialize.facts.rule
-          (in_order l.self.de.now l.self.order) d e
+      (in_order l.self.de.now l.self.order) d e
       → RefusesEachBy g.T.Serialize.meaning g.T.Deserialize.shape g.T.Deserialize.facts.rule
-          (in_order l.initial.self.de.now l.initial.self.order) d e;
+      (in_order l.initial.self.de.now l.initial.self.order) d e;
 }
 
 abbrev pub decreases-loop-values : goal.decreases-loop-values
