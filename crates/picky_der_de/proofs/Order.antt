@@ -15,7 +15,8 @@ use Rattle.picky_der_de.proofs.Steps.{consumes_beside, fails_beside, fails_after
 
 -- ---- whichever the last member is
 
-pub concerns_alike : {b c : State} {e : Asn1DerError} {end : ℕ} {bs : List ℕ} (s : Option (List ℕ)) → Concerns b c e end bs
+pub concerns_alike : {b c : State} {e : Asn1DerError} {end : ℕ} {bs : List ℕ} (s : Option (List ℕ))
+    → Concerns b c e end bs
     → Concerns (record b { last = s }) c e end bs
 concerns_alike s (now i r) = now i r
 concerns_alike s (ever w r d y left i q f) = ever w r d y left i q f
@@ -24,7 +25,8 @@ pub judged_alike : {b c : State} {e : Asn1DerError} (s : Option (List ℕ)) → 
     → IsJudged (record b { last = s }) c e
 judged_alike s j = record { had_not_failed = j.had_not_failed; faults = j.faults; memory = j.memory }
 
-pub fails_alike : {b c : State} {e : Asn1DerError} (s : Option (List ℕ)) → Fails b c e → Fails (record b { last = s }) c e
+pub fails_alike : {b c : State} {e : Asn1DerError} (s : Option (List ℕ)) → Fails b c e
+    → Fails (record b { last = s }) c e
 fails_alike s f = fails_beside (omega arith) f
 
 pub concerns_without_order : {b c : State} {e : Asn1DerError} {end : ℕ} {bs : List ℕ} → Concerns b c e end bs

@@ -69,7 +69,8 @@ consumes_beside ends kind same t = record {
 }
 
 -- a call that failed before a nearer end failed before the one around it
-pub fails_beside : {a c : State} {e : Asn1DerError} {n : ℕ} {i : End} {s : Option (List ℕ)} {d : Option ℕ} → n ≤ a.until_end
+pub fails_beside : {a c : State} {e : Asn1DerError} {n : ℕ} {i : End} {s : Option (List ℕ)} {d : Option ℕ}
+    → n ≤ a.until_end
     → Fails (beside a n i s d) c e → Fails a c e
 fails_beside nearer f = record {
   failed = f.failed;

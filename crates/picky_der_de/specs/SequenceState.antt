@@ -1,5 +1,5 @@
--- What contracts see of a sequence that is being read: the deserializer that it borrows, the end around its own, and the
--- order of its members.
+-- What contracts see of a sequence that is being read: the deserializer that it borrows, the end around its own, and
+-- the order of its members.
 use Rattle.std.specs.Borrow.{GName}
 use Rattle.std.specs.declared.io.Read as read
 use Rattle.picky_der_core.specs.declared.misc.reader.ReadExt as reader

@@ -19,7 +19,7 @@ pub record State : Type 0 where
   pub end : End
   -- of a set whose members are read one by one: the encoding of the last one, and no bytes before the first one
   pub last : Option (List ℕ)
-  -- the bytes of the member of a set that was shown last before it was read; reading another value keeps or forgets them
+  -- the member of a set that was shown last, before it was read; where another value is read, nothing is said of it
   pub seen : List ℕ
   -- the number of the implicit tag directly under which it is
   pub implicit_tag : Option ℕ

@@ -1,5 +1,6 @@
 //! What reads values of any type from an input, and how far the input may be read.
-ghost use Rattle.std.specs.Prelude.{◌≡◌, ◌≢◌, ◌<◌, ◌≤◌, ◌^◌, ℕ, List, [], length, take, false, Option, None, Some, IfNone, IfSome};
+ghost use Rattle.std.specs.Prelude.{◌≡◌, ◌≢◌, ◌<◌, ◌≤◌, ◌^◌, ℕ, List, [], length, take, false};
+ghost use Rattle.std.specs.Prelude.{Option, None, Some, IfNone, IfSome};
 ghost use Rattle.picky_der_de.specs.State.{fresh};
 ghost use Rattle.std.specs.IoError.{error_kind};
 ghost use Rattle.picky_der_core.specs.Error.{error_of_kind};

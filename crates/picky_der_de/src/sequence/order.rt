@@ -95,8 +95,8 @@ impl SetOrder {
     }
 }
 
-// How many bytes the member at the front of these bytes has, if it and the member after it are there whole and in order.
-// At the end none has to be there. `None` too if the length of one of them has more than three bytes.
+// How many bytes the member at the front of these bytes has, if it and the member after it are there whole and in
+// order. At the end none has to be there. `None` too if the length of one of them has more than three bytes.
 fn next_at_front(near: &[u8], until_end: usize) -> Option<usize>
     ensures { IfSome result (SeesNext near.now until_end) }
 {
