@@ -1,6 +1,6 @@
 -- Members of sets: those that are shown before they are read, and those that are out of order.
 use Rattle.std.proofs.Common.{◌≡◌, ◌≢◌, ℕ, ◌-◌, ◌≤◌, Bool, List, [], ◌∷◌, ◌++◌, length, take, drop, Option, Some, None}
-use Rattle.std.proofs.Common.{IfNone, IfSome, sym, ◌∙◌, ap, subst, arith, append_assoc, true, false, refl, ◌+◌, ◌^◌}
+use Rattle.std.proofs.Common.{IfNone, IfSome, sym, ◌∙◌, ap, ap₂, subst, arith, append_assoc, true, false, refl, ◌+◌, ◌^◌}
 use Rattle.std.proofs.Common.{◌<◌, map, Result, Ok, Err, IfOk, IfErr, true≢false}
 use Rattle.std.specs.Io.{StartsWith}
 use Rattle.std.specs.Io.KnownBytes.{Consumes}
@@ -12,8 +12,8 @@ use Rattle.picky_der_core.specs.Order.{is_less}
 use Rattle.picky_der_de.specs.Ahead.{IsElementInFront}
 use Rattle.picky_der_de.specs.Order.{with_last, is_out_of_order, out_of_order, without_memory, RefusesTest, order_of}
 use Rattle.picky_der_de.specs.Order.{AreInOrder, Follows, known_bytes}
-use Rattle.picky_der_de.specs.declared.sequence.order.Next.TheVariants.{Untested, Kept}
-use Rattle.picky_der_de.specs.declared.sequence.order.SetOrder.{SetOrder}
+use Rattle.picky_der_de.specs.declared.sequence.order.Next.{Next}
+use Rattle.picky_der_de.specs.declared.sequence.order.Next.TheVariants.{Untested, InOrder, Kept}
 use Rattle.picky_der_de.specs.SetOrder.{last_by, is_in_order, in_order, IsCompared, SeesNext}
 use Rattle.picky_der_de.proofs.Order.{judged_alike}
 use Rattle.picky_der_de.proofs.InOrder.{with_members, fails_in, reads_in, refuses_in, refused_in, failed_in}
@@ -111,44 +111,45 @@ sees_next {near} {until_end} {count} {size} e f h = record {
 
 -- no value was read, so no member was
 pub member_refused : {V : Type 0} {meaning : V → Tree} {s : Shape} {rule : Rule} {a c : State} {e : Asn1DerError}
-    (o p : SetOrder) → a.implicit_tag ≡ None → Refuses meaning s a c e → RefusesBy rule a c e
+    (o p : Next) → a.implicit_tag ≡ None → Refuses meaning s a c e → RefusesBy rule a c e
     → RefusesMember meaning s rule (in_order a o) (in_order c p) e
 member_refused {rule = rule} o p whole r by = member_unread (refuses_in r) (refused_in rule by) (λ w. whole)
 
 -- a value was read, and may come next
-pub member_reads : {s : Shape} {a c : State} {t : Tree} (o p : SetOrder) (seen : List ℕ) → a.implicit_tag ≡ None
+pub member_reads : {s : Shape} {a c : State} {t : Tree} (o p : Next) (seen : List ℕ) → a.implicit_tag ≡ None
     → Reads s a c t → is_out_of_order (in_order a o).last (der t) ≡ false
-    → last_by p.next seen p.kept.items ≡ with_last (in_order a o).last (der t)
+    → last_by p seen c.kept ≡ with_last (in_order a o).last (der t)
     → ReadsMember s (in_order a o) (in_order (record c { seen = seen }) p) t
 member_reads {a = a} {c = c} o p seen whole r h is = record {
-  mid = with_members (in_order a o).last seen c;
+  mid = with_members (in_order a o).last seen c.kept c;
   reads = reads_in refl r;
   implicit_tag = whole;
-  follows = record { in_order = h; same = ap (λ l. with_members l seen c) is };
+  follows = record { in_order = h; same = ap (λ l. with_members l seen c.kept c) is };
 }
 
 -- the same with the test afterwards
-pub still_last : {a c : State} (o : SetOrder) → c.seen ≡ a.seen → (in_order c o).last ≡ (in_order a o).last
-still_last o same = ap (λ x. last_by o.next x o.kept.items) same
+pub still_last : {a c : State} (o : Next) → c.seen ≡ a.seen → c.kept ≡ a.kept
+    → (in_order c o).last ≡ (in_order a o).last
+still_last o seen kept = ap₂ (last_by o) seen kept
 
-pub member_follows : {s : Shape} {a c d : State} {t : Tree} (o p : SetOrder) → a.implicit_tag ≡ None
-    → Reads s a c t → c.seen ≡ a.seen → Follows (der t) (in_order c o) (in_order d p)
+pub member_follows : {s : Shape} {a c d : State} {t : Tree} (o p : Next) → a.implicit_tag ≡ None
+    → Reads s a c t → c.seen ≡ a.seen → c.kept ≡ a.kept → Follows (der t) (in_order c o) (in_order d p)
     → ReadsMember s (in_order a o) (in_order d p) t
-member_follows {c = c} o p whole r same follows = record {
+member_follows {c = c} o p whole r seen kept follows = record {
   mid = in_order c o;
-  reads = reads_in (still_last o same) r;
+  reads = reads_in (still_last o seen kept) r;
   implicit_tag = whole;
   follows = follows;
 }
 
 pub member_failed : {V : Type 0} {meaning : V → Tree} {s : Shape} {rule : Rule} {a c d : State} {e : Asn1DerError}
-    (o p : SetOrder) (v : V) → a.implicit_tag ≡ None → Reads s a c (meaning v) → c.seen ≡ a.seen
-    → RefusesTest (der (meaning v)) (in_order c o) (in_order d p) e
+    (o p : Next) (v : V) → a.implicit_tag ≡ None → Reads s a c (meaning v) → c.seen ≡ a.seen
+    → c.kept ≡ a.kept → RefusesTest (der (meaning v)) (in_order c o) (in_order d p) e
     → RefusesMember meaning s rule (in_order a o) (in_order d p) e
-member_failed o p v whole r same t = member_untested v (reads_in (still_last o same) r) t (λ w. whole)
+member_failed o p v whole r seen kept t = member_untested v (reads_in (still_last o seen kept) r) t (λ w. whole)
 
 -- it is less than the last one
-pub order_failed : {member : List ℕ} {c d : State} {e : Asn1DerError} (o : SetOrder) → Fails c d e → e ≡ InvalidData
+pub order_failed : {member : List ℕ} {c d : State} {e : Asn1DerError} (o : Next) → Fails c d e → e ≡ InvalidData
     → d ≡ failed_with c e → is_out_of_order (in_order c o).last member ≡ true
     → RefusesTest member (in_order c o) (in_order d o) e
 order_failed o f is same less = out_of_order (record {
@@ -159,22 +160,22 @@ order_failed o f is same less = out_of_order (record {
 })
 
 -- an allocation failed
-pub memory_failed : {member : List ℕ} {c d : State} {e : Asn1DerError} (o : SetOrder) → (in_order c o).last ≢ None
+pub memory_failed : {member : List ℕ} {c d : State} {e : Asn1DerError} (o : Next) → (in_order c o).last ≢ None
     → Fails c d e → e ≡ OutOfMemory → d ≡ failed_with c e → RefusesTest member (in_order c o) (in_order d o) e
 memory_failed o some f is same = without_memory some (fails_in f) is (failed_in o same)
 
 -- a list whose order isn't tested
-pub unordered_reads : {A : Type 0} {meaning : A → Tree} {s : Shape} {a c : State} (o : SetOrder)
-    (r : Result A Asn1DerError) → o.next ≡ Untested → a.implicit_tag ≡ None → IfOk r (λ v. Reads s a c (meaning v))
+pub unordered_reads : {A : Type 0} {meaning : A → Tree} {s : Shape} {a c : State} (o : Next)
+    (r : Result A Asn1DerError) → o ≡ Untested → a.implicit_tag ≡ None → IfOk r (λ v. Reads s a c (meaning v))
     → IfOk r (λ v. ReadsMember s (in_order a o) (in_order c o) (meaning v))
 unordered_reads {meaning = meaning} {a = a} {c = c} o (Ok v) none whole r =
-    let before : (in_order a o).last ≡ None = ap (λ n. last_by n a.seen o.kept.items) none in
-    let after : (in_order c o).last ≡ None = ap (λ n. last_by n c.seen o.kept.items) none in
+    let before : (in_order a o).last ≡ None = ap (λ n. last_by n a.seen a.kept) none in
+    let after : (in_order c o).last ≡ None = ap (λ n. last_by n c.seen c.kept) none in
     member_reads o o c.seen whole r (ap (λ l. is_out_of_order l (der (meaning v))) before)
     (after ∙ sym (ap (λ l. with_last l (der (meaning v))) before))
 unordered_reads o (Err e) none whole r = tt
 
-pub unordered_refused : {A V : Type 0} {meaning : V → Tree} {s : Shape} {rule : Rule} {a c : State} (o : SetOrder)
+pub unordered_refused : {A V : Type 0} {meaning : V → Tree} {s : Shape} {rule : Rule} {a c : State} (o : Next)
     (r : Result A Asn1DerError) → a.implicit_tag ≡ None → IfErr r (Refuses meaning s a c)
     → IfErr r (RefusesBy rule a c) → IfErr r (RefusesMember meaning s rule (in_order a o) (in_order c o))
 unordered_refused o (Ok v) whole r by = tt
@@ -190,16 +191,14 @@ pub is_last : (l n : Option (List ℕ)) (member : List ℕ) → l ≢ None → n
 is_last l n member some is = is ∙ with_some l member some
 
 -- after a member that is kept
-pub kept_follows : {member : List ℕ} {c : State} (o p : SetOrder) → (in_order c o).last ≢ None
-    → is_out_of_order (in_order c o).last member ≡ false → p.next ≡ Kept → p.kept.items ≡ member
-    → Follows member (in_order c o) (in_order c p)
-kept_follows {member} {c} o p some h kept is =
-    let last : (in_order c p).last ≡ Some member =
-    ap (λ n. last_by n c.seen p.kept.items) kept ∙ ap (λ x. Some x) is in
-    record {
-      in_order = h;
-      same = ap (λ l. record c { last = l }) (is_last (in_order c o).last (in_order c p).last member some last);
-    }
+pub kept_follows : {member : List ℕ} {c d : State} (o : Next) → (in_order c o).last ≢ None
+    → is_out_of_order (in_order c o).last member ≡ false → d ≡ record c { kept = member }
+    → Follows member (in_order c o) (in_order d Kept)
+kept_follows {member} {c} o some h is = record {
+  in_order = h;
+  same = ap (λ (z : State). in_order z Kept) is
+      ∙ ap (λ l. record c { last = l; kept = member }) (with_some (in_order c o).last member some);
+}
 
 -- what the reader shows was left before the member, and the bytes after it are left then
 module _ {a c : State} {near : List ℕ} {until_end count : ℕ} {s : Shape} {t : Tree}
@@ -230,7 +229,7 @@ module _ {a c : State} {near : List ℕ} {until_end count : ℕ} {s : Shape} {t 
       ∙ take_front count near (drop count near ++ shown.rest) sees.element.fits ∙ parts.0
 
   -- what is known of the one after it
-  pub next_compared : (d : State) (p : SetOrder) → a.until_end ≡ until_end → d ≡ record c { seen = der t }
+  pub next_compared : (d : State) (p : Next) → a.until_end ≡ until_end → d ≡ record c { seen = der t }
       → IsCompared d p
   next_compared d p end is = subst (λ z. IsCompared z p) (sym is) (λ f q member left element consumed fits.
       let k = front_consumed c.input left member after.0 consumed after.1 in
@@ -243,39 +242,36 @@ known_consumes : (i : Option (List ℕ)) (x rest : List ℕ) → i ≡ Some (x +
 known_consumes None x rest e = tt
 known_consumes (Some bytes) x rest e = cc
 
-pub shown_compared : {a : State} {near : List ℕ} {count : ℕ} (o : SetOrder) → a.failed ≡ None → IsCompared a o
+pub shown_compared : {a : State} {near : List ℕ} {count : ℕ} (o : Next) → a.failed ≡ None → IsCompared a o
     → IfSome a.input (λ bytes. StartsWith bytes near) → IfNone a.input (near ≡ []) → IsElementInFront near count
-    → length near ≤ a.until_end → is_in_order o.next ≡ true → is_less (take count near) a.seen ≡ false
+    → length near ≤ a.until_end → is_in_order o ≡ true → is_less (take count near) a.seen ≡ false
 shown_compared {a} {near} {count} o not_failed h front none e fits is =
     let k = known_next a.input near count front none e in
     h not_failed is (take count near) (Some (drop count near ++ k.rest)) (element_next e)
     (known_consumes a.input (take count near) (drop count near ++ k.rest) k.known)
     (omega (arith, length_front count near e.fits, e.fits, fits))
 
--- whether it is less than the last one
-pub shown_less : {a : State} {near : List ℕ} {count : ℕ} (o : SetOrder) → a.failed ≡ None → IsCompared a o
+-- so it may come next
+pub shown_in_order : {a : State} {near : List ℕ} {count : ℕ} → a.failed ≡ None → IsCompared a InOrder
     → IfSome a.input (λ bytes. StartsWith bytes near) → IfNone a.input (near ≡ []) → IsElementInFront near count
-    → length near ≤ a.until_end → {t : Tree} → der t ≡ take count near → {less : Bool}
-    → ((seen : List ℕ) → (is_in_order o.next ≡ true → is_less (take count near) seen ≡ false)
-    → less ≡ is_out_of_order (last_by o.next seen o.kept.items) (take count near))
-    → is_out_of_order (in_order a o).last (der t) ≡ less
-shown_less {a} {near} {count} o not_failed h front none e fits is test =
-    ap (is_out_of_order (in_order a o).last) is
-    ∙ sym (test a.seen (shown_compared o not_failed h front none e fits))
+    → length near ≤ a.until_end → {t : Tree} → der t ≡ take count near
+    → is_out_of_order (in_order a InOrder).last (der t) ≡ false
+shown_in_order {a} not_failed h front none e fits is =
+    ap (λ x. is_less x a.seen) is ∙ shown_compared InOrder not_failed h front none e fits refl
 
 -- what is known of a member that was read unseen
-pub unseen_compared : {a c : State} {s : Shape} {t : Tree} (o : SetOrder) → a.failed ≡ None → a.implicit_tag ≡ None
-    → IsCompared a o → Reads s a c t → c.seen ≡ a.seen → is_in_order o.next ≡ true → is_less (der t) c.seen ≡ false
+pub unseen_compared : {a c : State} {s : Shape} {t : Tree} (o : Next) → a.failed ≡ None → a.implicit_tag ≡ None
+    → IsCompared a o → Reads s a c t → c.seen ≡ a.seen → is_in_order o ≡ true → is_less (der t) c.seen ≡ false
 unseen_compared {a} {c} {t = t} o not_failed whole h r same is =
     let read = consumes_whole r whole in
     ap (is_less (der t)) same ∙ h not_failed is (der t) c.input (der-element t r.readable) read.input
     (omega (arith, read.until_end))
 
 -- nothing is known, or nothing will be read
-pub uncompared : {a : State} (o : SetOrder) → is_in_order o.next ≡ false → IsCompared a o
+pub uncompared : {a : State} (o : Next) → is_in_order o ≡ false → IsCompared a o
 uncompared o none f is = absurd (true≢false (sym is ∙ none))
 
-pub failed_uncompared : {a c : State} {e : Asn1DerError} (o : SetOrder) → Fails a c e → IsCompared c o
+pub failed_uncompared : {a c : State} {e : Asn1DerError} (o : Next) → Fails a c e → IsCompared c o
 failed_uncompared {e = e} o f not_failed =
     absurd (let q : None ≡ Some (failure_of e) = sym not_failed ∙ f.failed in cc)
 

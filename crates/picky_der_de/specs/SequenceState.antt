@@ -11,7 +11,7 @@ use Rattle.picky_der_de.specs.SetOrder.{in_order}
 module _ {R : Type 0} {g : reader.Ghosts R} {h : read.Ghosts R} where
   -- the state of the deserializer, and the last member of a set
   abbrev pub state_of : Sequence R g h → State
-  state_of sequence = in_order sequence.de.now sequence.order
+  state_of sequence = in_order sequence.de.now sequence.next
 
   -- which deserializer it is
   abbrev pub borrowed_by : Sequence R g h → GName

@@ -21,6 +21,8 @@ pub record State : Type 0 where
   pub last : Option (List ℕ)
   -- the member of a set that was shown last, before it was read; where another value is read, nothing is said of it
   pub seen : List ℕ
+  -- the one that was kept last, of which the same holds
+  pub kept : List ℕ
   -- the number of the implicit tag directly under which it is
   pub implicit_tag : Option ℕ
   -- the kind of the error that it has failed with
@@ -41,6 +43,7 @@ fresh input limit faults references = record {
   end = Limit;
   last = None;
   seen = [];
+  kept = [];
   implicit_tag = None;
   failed = None;
   faults = faults;

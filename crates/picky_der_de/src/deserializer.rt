@@ -6,6 +6,7 @@ ghost use Rattle.std.specs.IoError.{error_kind};
 ghost use Rattle.picky_der_core.specs.Error.{error_of_kind};
 ghost use Rattle.picky_der_core.specs.Failure.{failure_of};
 ghost use Rattle.picky_der_core.specs.Peeking.{prepend};
+ghost use Rattle.picky_der_core.specs.Order.{is_less};
 ghost use Rattle.picky_der_de.specs.Order.{known_bytes};
 ghost use Rattle.std.specs.Io.{StartsWith};
 ghost use Rattle.picky_der_de.specs.Steps.{IsWithin, Fails, IsOther, failed_with};
@@ -31,8 +32,9 @@ use picky_der_core::misc::{PeekableReader, ReadExt};
 use picky_der_core::{Asn1DerError, Failure, Result};
 use seen::Seen;
 use std::alloc::Global;
+use std::io;
 use std::marker::Model;
-use std::{io, mem};
+use std::mem::replace;
 
 /// Reads values from a reader. After an error it has failed: each later call returns an error of its kind and consumes
 /// nothing.
@@ -46,6 +48,8 @@ pub struct Deserializer<R: ReadExt> {
     end: End,
     // The member of a set that was shown last. It has no effect at run time.
     seen: Seen<R>,
+    // The one that was kept last. It is empty for most inputs.
+    kept: Vec<u8>,
     implicit_tag: Option<u8>,
     failed: Option<Failure>,
     // The content to which a reference was returned last.
@@ -70,6 +74,7 @@ impl<R: ReadExt> Model for Deserializer<R> {
       end = d.end;
       last = None;
       seen = d.seen;
+      kept = d.kept.items;
       implicit_tag = d.implicit_tag;
       failed = d.failed;
       faults = R.faults d.reader.reader;
@@ -113,6 +118,7 @@ impl<R: ReadExt> Deserializer<R> {
             until_end: max_len,
             end: End::Limit,
             seen,
+            kept: Vec::new(alloc),
             implicit_tag: None,
             failed: None,
             content: Vec::new(alloc),
@@ -133,6 +139,7 @@ impl<R: ReadExt> Deserializer<R> {
             until_end: _,
             end: _,
             seen: _,
+            kept: _,
             implicit_tag: _,
             failed: _,
             content: _,
@@ -206,7 +213,7 @@ impl<R: ReadExt> Deserializer<R> {
         ensures seen { result ≡ self.old.seen }
         ensures same { self.new ≡ record self.old { seen = [] } }
     {
-        mem::replace(&mut self.seen, Seen::of(&self.reader, 0))
+        replace(&mut self.seen, Seen::of(&self.reader, 0))
     }
 
     // This member was seen.
@@ -215,6 +222,28 @@ impl<R: ReadExt> Deserializer<R> {
         ensures { self.new ≡ record self.old { seen = member } }
     {
         self.seen = member;
+    }
+
+    // Whether a member is less than the one that is kept.
+    pub(crate) fn is_less_than_kept(&self, member: &[u8]) -> bool
+        ensures { result ≡ is_less member.now self.now.kept }
+    {
+        member.cmp(&self.kept).is_lt()
+    }
+
+    // Forgets the member that is kept, and returns it.
+    pub(crate) fn take_kept(&mut self) -> Vec<u8>
+        ensures kept { result.items ≡ self.old.kept }
+        ensures same { self.new ≡ record self.old { kept = [] } }
+    {
+        replace(&mut self.kept, Vec::new(self.alloc))
+    }
+
+    // Keeps this member.
+    pub(crate) fn set_kept(&mut self, member: Vec<u8>)
+        ensures { self.new ≡ record self.old { kept = member.items } }
+    {
+        self.kept = member;
     }
 
     // The allocator of the vectors.

@@ -6,7 +6,7 @@ mod order;
 
 use crate::deserializer::EnclosingEnd;
 use crate::{Begins, Deserialize, Deserializer};
-use order::{SetOrder, read_in_set};
+use order::{Next, first_of, is_tested, read_in_set};
 use picky_der_core::asn1::Tag;
 use picky_der_core::misc::ReadExt;
 use picky_der_core::{Asn1DerError, Result};
@@ -32,11 +32,11 @@ pub struct Sequence<'a, R: ReadExt> {
     de: &'a mut Deserializer<R>,
     // The end around its own.
     outer: EnclosingEnd,
-    order: SetOrder,
+    next: Next,
     ghost within: { de.now.consumed + de.now.until_end ≤ outer.position },
     ghost bounded: { outer.position ≤ de.now.limit },
     ghost whole: { de.now.failed ≡ None → de.now.implicit_tag ≡ None },
-    ghost compared: { IsCompared de.now order },
+    ghost compared: { IsCompared de.now next },
 }
 
 impl<'a, R: ReadExt> Sequence<'a, R> {
@@ -61,8 +61,8 @@ impl<'a, R: ReadExt> Sequence<'a, R> {
         ensures opened { OpensLazily len de.old (state_of result) (outer_of result) }
     {
         let outer = de.open_lazily(len);
-        let order = SetOrder::new(de.alloc(), Tag::SEQUENCE);
-        Sequence { de, outer, order }
+        let next = first_of(Tag::SEQUENCE);
+        Sequence { de, outer, next }
     }
 
     /// The next member, or `None` exactly at the end.
@@ -119,8 +119,8 @@ impl<'a, R: ReadExt> Sequence<'a, R> {
         ensures err { IfErr result (RefusesMember T.meaning T.shape T.facts.rule (state_of self.old)
             (state_of self.new)) }
     {
-        if self.order.is_tested() {
-            return read_in_set(self.de, &mut self.order);
+        if is_tested(self.next) {
+            return read_in_set(self.de, &mut self.next);
         }
         T::deserialize(self.de)
     }
@@ -248,7 +248,7 @@ impl<'a, R: ReadExt> Sequence<'a, R> {
         let Sequence {
             de,
             outer,
-            order: _,
+            next: _,
         } = self;
         de.close_end(outer)
     }
@@ -339,11 +339,12 @@ impl<R: ReadExt> Deserializer<R> {
         ensures ok { IfOk result (λ q. OpensList tag self.old (state_of q) (outer_of q)) }
     {
         let outer = self.open_list(tag)?;
-        let order = SetOrder::new(self.alloc(), tag);
+        let _ = self.take_seen();
+        let next = first_of(tag);
         Ok(Sequence {
             de: self,
             outer,
-            order,
+            next,
         })
     }
 

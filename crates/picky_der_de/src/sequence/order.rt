@@ -1,13 +1,13 @@
 //! The order of the members of a set (X.690, 11.6). Where the reader shows a member and the one after it, the two are
 //! compared before the first of them is read, so neither is kept. Another member is kept until the next one was read.
-ghost use Rattle.std.specs.Prelude.{◌≡◌, ◌≢◌, ◌==◌, true, false, None, if◌then◌else◌, IfSome, IfOk, IfErr, OnOk};
+ghost use Rattle.std.specs.Prelude.{◌≡◌, ◌≢◌, true, false, None, IfSome, IfOk, IfErr, OnOk};
 ghost use Rattle.picky_der_core.specs.Order.{is_less};
 ghost use Rattle.picky_der_core.specs.Encoding.{der};
 ghost use Rattle.picky_der_de.specs.Members.{ReadsMember, RefusesMember};
 ghost use Rattle.picky_der_de.specs.Order.{Follows, RefusesTest};
 ghost use Rattle.picky_der_de.specs.Reading.{Reads, Refuses};
 ghost use Rattle.picky_der_de.specs.RefusesBy.{RefusesBy};
-ghost use Rattle.picky_der_de.specs.SetOrder.{is_in_order, in_order, IsCompared, SeesNext};
+ghost use Rattle.picky_der_de.specs.SetOrder.{first_by, is_in_order, in_order, IsCompared, SeesNext};
 
 use crate::deserializer::element_at_front;
 use crate::{Deserialize, Deserializer};
@@ -15,9 +15,9 @@ use picky_der_core::asn1::Tag;
 use picky_der_core::misc::ReadExt;
 use picky_der_core::{Asn1DerError, Result};
 use picky_der_ser::{Serialize, to_vec};
-use std::alloc::Global;
 
-// What is known of the next member.
+// What is known of the next member. The member before it is with the deserializer, since a value that is consumed, as a
+// sequence at its end, owns no memory.
 #[derive(Clone, Copy)]
 pub(crate) enum Next {
     // It may come next, whatever it is: the members are those of a sequence.
@@ -30,69 +30,31 @@ pub(crate) enum Next {
     Kept,
 }
 
-// The order of the members of a list. That of a sequence isn't tested.
-#[derive(Drop)]
-pub(crate) struct SetOrder {
-    next: Next,
-    kept: Vec<u8>,
-}
-
-// Whether a member is less than the last one.
-fn is_before(member: &[u8], last: &[u8]) -> bool
-    ensures { result ≡ is_less member.now last.now }
-{
-    member.cmp(last).is_lt()
-}
-
-// What is known of the first member of a list under this tag.
+// What is known of the first member of a list under this tag, if no bytes were seen before it.
 #[inline(always)]
-fn first_of(tag: Tag) -> Next
-    ensures { result ≡ (if tag == 0x31 then Next.Kept else Next.Untested) }
+pub(super) fn first_of(tag: Tag) -> Next
+    ensures { result ≡ first_by tag }
 {
     if tag == Tag::SET {
-        return Next::Kept;
+        return Next::InOrder;
     }
     Next::Untested
 }
 
-impl SetOrder {
-    ghost use Rattle.std.specs.Prelude.{◌≡◌, ◌≢◌, ℕ, List, true, false, None};
-    ghost use Rattle.picky_der_de.specs.Order.{order_of, is_out_of_order};
-    ghost use Rattle.picky_der_de.specs.SetOrder.{last_by, is_in_order};
+// Whether the order is tested.
+#[inline(always)]
+pub(super) fn is_tested(next: Next) -> bool
+    ensures yes { result ≡ true → next ≢ Next.Untested }
+    ensures no { result ≡ false → next ≡ Next.Untested }
+{
+    !matches!(next, Next::Untested)
+}
 
-    // The order before the first member of a list under this tag. Of a set no bytes are kept, than which nothing is
-    // less.
-    #[inline(always)]
-    pub(crate) fn new(alloc: Global, tag: Tag) -> SetOrder
-        ensures last { (seen : List ℕ) → last_by result.next seen result.kept.items ≡ order_of tag }
-        ensures not_compared { is_in_order result.next ≡ false }
-    {
-        SetOrder {
-            next: first_of(tag),
-            kept: Vec::new(alloc),
-        }
-    }
-
-    // Whether the order is tested.
-    #[inline(always)]
-    pub(crate) fn is_tested(&self) -> bool
-        ensures yes { result ≡ true → (seen : List ℕ) → last_by self.now.next seen self.now.kept.items ≢ None }
-        ensures no { result ≡ false → self.now.next ≡ Next.Untested }
-    {
-        !matches!(self.next, Next::Untested)
-    }
-
-    // Whether a member is less than the last one. If it is known to be in order, it isn't looked at.
-    #[inline(always)]
-    fn is_less(&self, member: &[u8]) -> bool
-        ensures { (seen : List ℕ) → (is_in_order self.now.next ≡ true → is_less member.now seen ≡ false)
-            → result ≡ is_out_of_order (last_by self.now.next seen self.now.kept.items) member.now }
-    {
-        match self.next {
-            Next::Untested | Next::InOrder => false,
-            Next::Kept => is_before(member, &self.kept),
-        }
-    }
+// Whether a member is less than the one before it.
+fn is_before(member: &[u8], last: &[u8]) -> bool
+    ensures { result ≡ is_less member.now last.now }
+{
+    member.cmp(last).is_lt()
 }
 
 // How many bytes the member at the front of these bytes has, if it and the member after it are there whole and in
@@ -126,66 +88,77 @@ fn read_aside<T: Deserialize, R: ReadExt>(de: &mut Deserializer<R>) -> Result<T>
     result
 }
 
+// The same, and the member that is kept stays, too.
+fn read_beside<T: Deserialize, R: ReadExt>(de: &mut Deserializer<R>) -> Result<T>
+    ensures ok { IfOk result (λ value. Reads T.shape de.old de.new (T.meaning value)) }
+    ensures err { IfErr result (Refuses T.meaning T.shape de.old de.new) }
+    ensures refused_by { IfErr result (RefusesBy T.facts.rule de.old de.new) }
+    ensures seen { de.new.seen ≡ de.old.seen }
+    ensures kept { de.new.kept ≡ de.old.kept }
+{
+    let kept = de.take_kept();
+    let result = read_aside(de);
+    de.set_kept(kept);
+    result
+}
+
 // The next member of a set. Most members are those of sequences, so this function isn't inlined.
 //
 // The errors are those of `next_element`.
 #[inline(never)]
 pub(super) fn read_in_set<T: Deserialize, R: ReadExt>(
     de: &mut Deserializer<R>,
-    order: &mut SetOrder,
+    next: &mut Next,
 ) -> Result<T>
     requires had_not_failed { de.old.failed ≡ None }
     requires whole { de.old.implicit_tag ≡ None }
-    requires in_set { (in_order de.old order.old).last ≢ None }
-    requires compared { IsCompared de.old order.old }
-    ensures ok { IfOk result (λ value. ReadsMember T.shape (in_order de.old order.old)
-        (in_order de.new order.new) (T.meaning value)) }
+    requires in_set { (in_order de.old next.old).last ≢ None }
+    requires compared { IsCompared de.old next.old }
+    ensures ok { IfOk result (λ value. ReadsMember T.shape (in_order de.old next.old)
+        (in_order de.new next.new) (T.meaning value)) }
     ensures err { IfErr result (RefusesMember T.meaning T.shape T.facts.rule
-        (in_order de.old order.old) (in_order de.new order.new)) }
-    ensures compared { IsCompared de.new order.new }
+        (in_order de.old next.old) (in_order de.new next.new)) }
+    ensures compared { IsCompared de.new next.new }
 {
-    let near = de.near();
-    let Some(count) = next_at_front(near, de.until_end()) else {
-        return read_unseen(de, order);
+    if !matches!(*next, Next::InOrder) {
+        return read_unseen(de, next);
+    }
+    let Some(count) = next_at_front(de.near(), de.until_end()) else {
+        return read_unseen(de, next);
     };
-    let is_less = order.is_less(&near[..count]);
     let member = de.seen_ahead(count);
     match read_aside(de) {
         Ok(value) => {
-            if is_less {
-                return Err(de.fail(Asn1DerError::InvalidData));
-            }
             de.set_seen(member);
-            order.next = Next::InOrder;
             Ok(value)
         }
         Err(error) => Err(error),
     }
 }
 
-// Reads a member that isn't in memory whole, or after which none is that is in order, and compares its encoding after
-// that.
+// Reads a member that isn't in memory whole, or after which none is that is in order, or that has to be compared with
+// one that is kept. Its encoding is compared after that, and kept.
 #[cold]
 #[inline(never)]
 fn read_unseen<T: Deserialize, R: ReadExt>(
     de: &mut Deserializer<R>,
-    order: &mut SetOrder,
+    next: &mut Next,
 ) -> Result<T>
     requires had_not_failed { de.old.failed ≡ None }
     requires whole { de.old.implicit_tag ≡ None }
-    requires in_set { (in_order de.old order.old).last ≢ None }
-    requires compared { IsCompared de.old order.old }
-    ensures ok { IfOk result (λ value. ReadsMember T.shape (in_order de.old order.old)
-        (in_order de.new order.new) (T.meaning value)) }
+    requires in_set { (in_order de.old next.old).last ≢ None }
+    requires compared { IsCompared de.old next.old }
+    ensures ok { IfOk result (λ value. ReadsMember T.shape (in_order de.old next.old)
+        (in_order de.new next.new) (T.meaning value)) }
     ensures err { IfErr result (RefusesMember T.meaning T.shape T.facts.rule
-        (in_order de.old order.old) (in_order de.new order.new)) }
-    ensures compared { IsCompared de.new order.new }
+        (in_order de.old next.old) (in_order de.new next.new)) }
+    ensures compared { IsCompared de.new next.new }
 {
-    let value = match read_aside(de) {
+    let value = match read_beside(de) {
         Ok(value) => value,
         Err(error) => return Err(error),
     };
-    match test_order(de, order, &value) {
+    match test_order(de, next, &value) {
         Ok(()) => Ok(value),
         Err(error) => Err(error),
     }
@@ -195,26 +168,26 @@ fn read_unseen<T: Deserialize, R: ReadExt>(
 // encoding is written again. A value that was read can be written, so the only failure is that of an allocation.
 fn test_order<T: Serialize, R: ReadExt>(
     de: &mut Deserializer<R>,
-    order: &mut SetOrder,
+    next: &mut Next,
     value: &T,
 ) -> Result<()>
     requires had_not_failed { de.old.failed ≡ None }
-    requires in_set { (in_order de.old order.old).last ≢ None }
-    requires compared { is_in_order order.old.next ≡ true
+    requires in_set { (in_order de.old next.old).last ≢ None }
+    requires compared { is_in_order next.old ≡ true
         → is_less (der (T.meaning value.now)) de.old.seen ≡ false }
-    ensures ok { OnOk result (Follows (der (T.meaning value.now)) (in_order de.old order.old)
-        (in_order de.new order.new)) }
-    ensures err { IfErr result (RefusesTest (der (T.meaning value.now)) (in_order de.old order.old)
-        (in_order de.new order.new)) }
-    ensures compared { IsCompared de.new order.new }
+    ensures ok { OnOk result (Follows (der (T.meaning value.now)) (in_order de.old next.old)
+        (in_order de.new next.new)) }
+    ensures err { IfErr result (RefusesTest (der (T.meaning value.now)) (in_order de.old next.old)
+        (in_order de.new next.new)) }
+    ensures compared { IsCompared de.new next.new }
 {
     let Ok(member) = to_vec(de.alloc(), value) else {
         return Err(de.fail(Asn1DerError::OutOfMemory));
     };
-    if order.is_less(&member) {
+    if matches!(*next, Next::Kept) && de.is_less_than_kept(&member) {
         return Err(de.fail(Asn1DerError::InvalidData));
     }
-    order.kept = member;
-    order.next = Next::Kept;
+    de.set_kept(member);
+    *next = Next::Kept;
     Ok(())
 }
