@@ -133,10 +133,11 @@ pub still_last : {a c : State} (o : Next) → c.seen ≡ a.seen → c.kept ≡ a
 still_last o seen kept = ap₂ (last_by o) seen kept
 
 pub member_follows : {s : Shape} {a c d : State} {t : Tree} (o p : Next) → a.implicit_tag ≡ None
-    → Reads s a c t → c.seen ≡ a.seen → c.kept ≡ a.kept → Follows (der t) (in_order c o) (in_order d p)
+    → Reads s a c t → c.seen ≡ a.seen → c.kept ≡ a.kept
+    → Follows (der t) (record (in_order c o) { kept = d.kept }) (in_order d p)
     → ReadsMember s (in_order a o) (in_order d p) t
-member_follows {c = c} o p whole r seen kept follows = record {
-  mid = in_order c o;
+member_follows {c = c} {d = d} o p whole r seen kept follows = record {
+  mid = with_members (in_order c o).last c.seen d.kept c;
   reads = reads_in (still_last o seen kept) r;
   implicit_tag = whole;
   follows = follows;
@@ -193,12 +194,12 @@ is_last l n member some is = is ∙ with_some l member some
 -- after a member that is kept
 pub kept_follows : {member : List ℕ} {c d : State} (o : Next) → (in_order c o).last ≢ None
     → is_out_of_order (in_order c o).last member ≡ false → d ≡ record c { kept = member }
-    → Follows member (in_order c o) (in_order d Kept)
-kept_follows {member} {c} o some h is = record {
-  in_order = h;
-  same = ap (λ (z : State). in_order z Kept) is
-      ∙ ap (λ l. record c { last = l; kept = member }) (with_some (in_order c o).last member some);
-}
+    → Follows member (record (in_order c o) { kept = d.kept }) (in_order d Kept)
+kept_follows {member} {c} {d} o some h is =
+    subst (λ (z : State). Follows member (record (in_order c o) { kept = z.kept }) (in_order z Kept)) (sym is) (record {
+      in_order = h;
+      same = ap (λ l. record c { last = l; kept = member }) (with_some (in_order c o).last member some);
+    })
 
 -- what the reader shows was left before the member, and the bytes after it are left then
 module _ {a c : State} {near : List ℕ} {until_end count : ℕ} {s : Shape} {t : Tree}

@@ -245,11 +245,7 @@ impl<'a, R: ReadExt> Sequence<'a, R> {
             (state_of self.entry) self.exit.0.now) }
         ensures err { IfErr result (RefusesClose (state_of self.entry) self.exit.0.now) }
     {
-        let Sequence {
-            de,
-            outer,
-            next: _,
-        } = self;
+        let Sequence { de, outer, next: _ } = self;
         de.close_end(outer)
     }
 }

@@ -140,10 +140,7 @@ pub(super) fn read_in_set<T: Deserialize, R: ReadExt>(
 // one that is kept. Its encoding is compared after that, and kept.
 #[cold]
 #[inline(never)]
-fn read_unseen<T: Deserialize, R: ReadExt>(
-    de: &mut Deserializer<R>,
-    next: &mut Next,
-) -> Result<T>
+fn read_unseen<T: Deserialize, R: ReadExt>(de: &mut Deserializer<R>, next: &mut Next) -> Result<T>
     requires had_not_failed { de.old.failed ≡ None }
     requires whole { de.old.implicit_tag ≡ None }
     requires in_set { (in_order de.old next.old).last ≢ None }
@@ -175,8 +172,8 @@ fn test_order<T: Serialize, R: ReadExt>(
     requires in_set { (in_order de.old next.old).last ≢ None }
     requires compared { is_in_order next.old ≡ true
         → is_less (der (T.meaning value.now)) de.old.seen ≡ false }
-    ensures ok { OnOk result (Follows (der (T.meaning value.now)) (in_order de.old next.old)
-        (in_order de.new next.new)) }
+    ensures ok { OnOk result (Follows (der (T.meaning value.now))
+        (record (in_order de.old next.old) { kept = de.new.kept }) (in_order de.new next.new)) }
     ensures err { IfErr result (RefusesTest (der (T.meaning value.now)) (in_order de.old next.old)
         (in_order de.new next.new)) }
     ensures compared { IsCompared de.new next.new }

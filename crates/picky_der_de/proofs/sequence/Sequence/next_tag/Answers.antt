@@ -9,7 +9,7 @@ returns-in_err-is_at_end-clause-err g c =
     rw (p.1, p.2) (identifier_again c.in_err-is_at_end.ensures.err)
 
 pub returns-in-Ok-clause-tag : goal.returns-in-Ok-clause-tag
-returns-in-Ok-clause-tag g c = identifies_in c.args.self.now.order c.in-Ok.ensures.tag
+returns-in-Ok-clause-tag g c = identifies_in c.args.self.now.next c.in-Ok.ensures.tag
 
 pub returns-in-Err-clause-err : goal.returns-in-Err-clause-err
-returns-in-Err-clause-err g c = identifier_refused_in c.args.self.now.order c.in-Err.ensures.err
+returns-in-Err-clause-err g c = identifier_refused_in c.args.self.now.next c.in-Err.ensures.err
