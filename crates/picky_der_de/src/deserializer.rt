@@ -228,7 +228,8 @@ impl<R: ReadExt> Deserializer<R> {
     pub(crate) fn is_less_than_kept(&self, member: &[u8]) -> bool
         ensures { result ≡ is_less member.now self.now.kept }
     {
-        member.cmp(&self.kept).is_lt()
+        let kept: &[u8] = &self.kept;
+        member.cmp(kept).is_lt()
     }
 
     // Forgets the member that is kept, and returns it.
