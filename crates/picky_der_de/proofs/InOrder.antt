@@ -85,7 +85,8 @@ module _ {l m : Option (List ℕ)} {x y u w : List ℕ} {a c : State} where
 -- a value that was read while other members were there
 module _ {A : Type 0} {s : Shape} {a b c d : State} (r : Result A Asn1DerError) {x u y w : List ℕ}
     (before : b ≡ record a { seen = x; kept = u }) (after : d ≡ record c { seen = y; kept = w }) where
-  pub reads_aside : {meaning : A → Tree} → IfOk r (λ v. Reads s b c (meaning v)) → IfOk r (λ v. Reads s a d (meaning v))
+  pub reads_aside : {meaning : A → Tree} → IfOk r (λ v. Reads s b c (meaning v))
+      → IfOk r (λ v. Reads s a d (meaning v))
   reads_aside {meaning} h = rw after (aside r (subst (λ z. IfOk r (λ v. Reads s z c (meaning v))) before h))
     where
       aside : (q : Result A Asn1DerError) → IfOk q (λ v. Reads s (record a { seen = x; kept = u }) c (meaning v))

@@ -1,7 +1,7 @@
 -- Members of sets: those that are shown before they are read, and those that are out of order.
 use Rattle.std.proofs.Common.{◌≡◌, ◌≢◌, ℕ, ◌-◌, ◌≤◌, Bool, List, [], ◌∷◌, ◌++◌, length, take, drop, Option, Some, None}
-use Rattle.std.proofs.Common.{IfNone, IfSome, sym, ◌∙◌, ap, ap₂, subst, arith, append_assoc, true, false, refl, ◌+◌, ◌^◌}
-use Rattle.std.proofs.Common.{◌<◌, map, Result, Ok, Err, IfOk, IfErr, true≢false}
+use Rattle.std.proofs.Common.{IfNone, IfSome, sym, ◌∙◌, ap, ap₂, subst, arith, append_assoc, true, false, refl}
+use Rattle.std.proofs.Common.{◌+◌, ◌^◌, ◌<◌, map, Result, Ok, Err, IfOk, IfErr, true≢false}
 use Rattle.std.specs.Io.{StartsWith}
 use Rattle.std.specs.Io.KnownBytes.{Consumes}
 use Rattle.std.proofs.lemmas.List.{take-append-drop, append_cancel_left}
