@@ -61,7 +61,8 @@ module _ {l m : Option (List ℕ)} {x y u w : List ℕ} {a c : State} where
     references = t.references;
   }
 
-  pub reads_in : {s : Shape} {t : Tree} → m ≡ l → Reads s a c t → Reads s (with_members l x u a) (with_members m y w c) t
+  pub reads_in : {s : Shape} {t : Tree} → m ≡ l → Reads s a c t
+      → Reads s (with_members l x u a) (with_members m y w c) t
   reads_in same r = record {
     of_shape = r.of_shape;
     readable = r.readable;
