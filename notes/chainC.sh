@@ -1,0 +1,8 @@
+#!/bin/bash
+echo -12 > /proc/self/autogroup
+while pgrep -f "/work/ctl/chainB.sh" > /dev/null; do sleep 1; done
+cd /work/m1
+run() { local jobs=$1; shift; env -u CI -u RT_JOBS python3 /work/ctl/rtci.py $jobs 0.04 "$@" > /work/ctl/ci.$1.log 2>&1; local r=$?; echo "rtci $* ended $r $(date)" >> /work/ctl/chain.done; return $r; }
+run 4 der_program_base der_show der_tool_lib || exit 1
+run 4 der_examples || exit 1
+run 4 der_first der_tool der_path_rows der_ber_rows || exit 1
