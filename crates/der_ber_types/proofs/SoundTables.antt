@@ -1,5 +1,5 @@
 -- A table that passes the test keeps the rules by which elements are distinguished.
-use Rattle.std.proofs.Common.{◌≡◌, ℕ, zero, suc, Bool, true, List, [], ◌∷◌, Some, slice_get, length, map, ap, subst}
+use Rattle.std.proofs.Common.{◌≡◌, ℕ, zero, suc, Bool, true, ◌&&◌, List, [], ◌∷◌, Some, slice_get, length, map, ap, subst}
 use Rattle.std.specs.Borrow.{Bor}
 use Rattle.std.specs.List.{AllByRecursion, list_all}
 use Rattle.der_types.specs.CharacterStringLaws.{both}
@@ -35,10 +35,15 @@ record AreKept (nodes : List Node) (n : ℕ) (k : Kind) : Type 0 where
 
 are-kept : (nodes : List Node) (n : ℕ) (k : Kind) → keeps_rules_at nodes n k ≡ true → AreKept nodes n k
 are-kept nodes n k e =
-    let first = both (are_all_apart (tags_at nodes n) (map (λ a. a.node) (alternatives_of k))) _ e in
-    let second = both (are_members_apart (tags_at nodes n) (members_of k)) _ first.1 in
-    let third = both (list_all (λ m. keeps_default nodes n m.node m.presence) (members_of k)) _ second.1 in
-    let fourth = both (keeps_tag (is_in_tag nodes n) k) _ third.1 in
+    let defaults = list_all (λ (m : Member). keeps_default nodes n m.node m.presence) (members_of k) in
+    let tag = keeps_tag (is_in_tag nodes n) k in
+    let set = keeps_set (tags_at nodes n) nodes (in_set k) in
+    let members = are_members_apart (tags_at nodes n) (members_of k) in
+    let first = both (are_all_apart (tags_at nodes n) (map (λ a. a.node) (alternatives_of k)))
+    (members && (defaults && (tag && set))) e in
+    let second = both members (defaults && (tag && set)) first.1 in
+    let third = both defaults (tag && set) second.1 in
+    let fourth = both tag set third.1 in
     record { alternatives = first.0; members = second.0; defaults = third.0; tag = fourth.0; set = fourth.1 }
 
 each-other : (nodes : List Node) (n : ℕ) (ms : List Member)

@@ -1,15 +1,17 @@
 -- A table that passes the test keeps the rule of defaults.
 use Rattle.std.proofs.Common.{◌≡◌, ℕ, zero, suc, ◌+◌, ◌<◌, ◌≤◌, Bool, true, false, ◌&&◌, ◌||◌, List, [], ◌∷◌, Option, Some}
 use Rattle.std.proofs.Common.{None, slice_get, ℤ, pos, inl, inr, ◌⊎◌, refl, sym, ap, ◌∙◌, subst, arith}
-use Rattle.std.proofs.lemmas.Bool.{false≢true, true≢false, cases_lt, le-leb, ltb-true}
-use Rattle.std.specs.Prelude.{nat_le, nat_lt, if◌then◌else◌}
+use Rattle.std.proofs.lemmas.Bool.{false≢true, true≢false, cases_lt, le-leb, lt-ltb, ltb-true}
+use Rattle.std.specs.Int.{complement_if}
+use Rattle.std.specs.Int.Digits.{number_from_digits}
+use Rattle.std.specs.Prelude.{nat_lt, if◌then◌else◌}
 use Rattle.picky_der_core.specs.declared.asn1.wrapper.Wrapper.{Wrapper}
 use Rattle.picky_der_core.specs.declared.asn1.wrapper.Wrapper.TheVariants as wrapper
 use Rattle.picky_der_core.specs.Element.{tlv}
 use Rattle.picky_der_core.specs.Encoding.{der, implicit_content}
 use Rattle.picky_der_core.specs.EncodingLaws.{der-primitive, der-wrapped_present, implicit_content-plain}
 use Rattle.picky_der_core.specs.EncodingLaws.{is_absent-readable}
-use Rattle.picky_der_core.specs.Integer.{integer_content, integer_value}
+use Rattle.picky_der_core.specs.Integer.{integer_content, integer_value, is_negative, turned_if}
 use Rattle.picky_der_core.specs.IntegerLaws.{content-value, same_integer, value-content}
 use Rattle.picky_der_core.specs.OpenWrappers.{wrapped_content}
 use Rattle.picky_der_core.specs.Primitive.{Primitive, boolean_content, primitive_content, primitive_tag}
@@ -19,6 +21,7 @@ use Rattle.picky_der_core.specs.Tag.{number_of, IsTagNumber}
 use Rattle.picky_der_core.specs.Tree.{Tree}
 use Rattle.picky_der_core.specs.Wrapper.{HasTagNumber, wrapper_tag}
 use Rattle.picky_der_core.specs.WrapperLaws.{wrapper_tag_number, has_tag_number-true}
+use Rattle.der_types.specs.Constraints.{is_between}
 use Rattle.der_types.specs.Denotes.{Denotes, tree_number}
 use Rattle.der_types.specs.Notation as asn1
 use Rattle.der_types.specs.Notation.{Notation}
@@ -56,18 +59,18 @@ record IsNode (test : Node → Bool) (o : Option Node) : Type 0 where
   pub is : o ≡ Some node
   pub holds : test node ≡ true
 
-found : (test : Node → Bool) (o : Option Node) → node_holds test o ≡ true → IsNode test o
-found test None e = absurd (false≢true e)
-found test (Some node) e = record { node = node; is = refl; holds = e }
+found-node : (test : Node → Bool) (o : Option Node) → node_holds test o ≡ true → IsNode test o
+found-node test None e = absurd (false≢true e)
+found-node test (Some node) e = record { node = node; is = refl; holds = e }
 
 record IsIndex (test : ℕ → Bool) (o : Option ℕ) : Type 0 where
   pub index : ℕ
   pub is : o ≡ Some index
   pub holds : test index ≡ true
 
-index : (test : ℕ → Bool) (o : Option ℕ) → index_holds test o ≡ true → IsIndex test o
-index test None e = absurd (false≢true e)
-index test (Some i) e = record { index = i; is = refl; holds = e }
+found-index : (test : ℕ → Bool) (o : Option ℕ) → index_holds test o ≡ true → IsIndex test o
+found-index test None e = absurd (false≢true e)
+found-index test (Some i) e = record { index = i; is = refl; holds = e }
 
 -- ---- kinds
 
@@ -85,28 +88,28 @@ same-inside k j x e = refl
 
 -- an explicit tag
 record IsExplicit (k : Kind) (j : ℕ) : Type 0 where
-  pub wrapper : Wrapper
-  pub is : k ≡ kind.Wrapped wrapper j
-  pub inside : inside_here (kind.Wrapped wrapper j) ≡ inside.One j
-  pub alone : same_content (kind.Wrapped wrapper j) ≡ None
-  pub content : (t : Tree) → wrapped_content wrapper t ≡ der t
+  pub around : Wrapper
+  pub is : k ≡ kind.Wrapped around j
+  pub one : inside_here (kind.Wrapped around j) ≡ inside.One j
+  pub alone : same_content (kind.Wrapped around j) ≡ None
+  pub content : (t : Tree) → wrapped_content around t ≡ der t
 
 explicit-is : (k : Kind) (j : ℕ) → in_explicit k ≡ Some j → IsExplicit k j
 explicit-is (kind.Wrapped (wrapper.Explicit n) i) j e =
     let here : i ≡ j = cc in
     record {
-      wrapper = wrapper.Explicit n;
+      around = wrapper.Explicit n;
       is = ap (kind.Wrapped (wrapper.Explicit n)) here;
-      inside = refl;
+      one = refl;
       alone = refl;
       content = λ t. refl;
     }
 explicit-is (kind.Wrapped (wrapper.Application n) i) j e =
     let here : i ≡ j = cc in
     record {
-      wrapper = wrapper.Application n;
+      around = wrapper.Application n;
       is = ap (kind.Wrapped (wrapper.Application n)) here;
-      inside = refl;
+      one = refl;
       alone = refl;
       content = λ t. refl;
     }
@@ -141,7 +144,7 @@ record IsPlain (nodes : List Node) (v : DefaultValue) (i : ℕ) (t : Tree) (P : 
   pub number : IsTagNumber (number_of tag)
   pub whole : der t ≡ tlv tag (implicit_content t)
   pub has : HasInside nodes i it
-  pub inside : IsInside nodes i tag it
+  pub is_inside : IsInside nodes i tag it
   pub no_element : (j : ℕ) → it ≡ inside.One j → ⊥
   pub says : IsContentOf it v (implicit_content t) → P
 
@@ -168,7 +171,7 @@ module _ (nodes : List Node) (v : DefaultValue) where
 
   plain-says : (i : ℕ) (t : Tree) (P : Type 0) → IsPlain nodes v i t P → Says nodes v i t P
   plain-says i t P it =
-      Says.own it.tag it.it (implicit_content t) it.number it.whole it.inside it.no_element it.says
+      Says.own it.tag it.it (implicit_content t) it.number it.whole it.is_inside it.no_element it.says
 
 -- a node that names another before it
 earlier-node : (nodes : List Node) (i j : ℕ) (node : Node) (t : Tree) → slice_get nodes i ≡ Some node
@@ -206,7 +209,7 @@ module _ (nodes : List Node) (v : DefaultValue) (leaf : Kind → Bool) (same : K
         number = primitive_tag_number it.primitive (subst IsReadable it.is r);
         whole = ap der it.is ∙ der-primitive it.primitive ∙ ap (tlv tag) (sym under);
         has = here;
-        inside = IsInside.own i tag tag node (inside_here node.kind) h it.no_type it.has_tag
+        is_inside = IsInside.own i tag tag node (inside_here node.kind) h it.no_type it.has_tag
             (IsInsideOwn.whole refl here);
         no_element = it.no_element;
         says = λ p. it.says (subst (IsContentOf (inside_here node.kind) v) under p);
@@ -221,7 +224,7 @@ module _ (nodes : List Node) (v : DefaultValue) (leaf : Kind → Bool) (same : K
     whole = it.whole;
     has = HasInside.other i j node it.it it.it h (same-content node.kind j e) less it.has
         (sym (same-inside node.kind j it.it e));
-    inside = IsInside.other i j it.tag node it.it h e less it.inside;
+    is_inside = IsInside.other i j it.tag node it.it h e less it.is_inside;
     no_element = it.no_element;
     says = λ p. f (it.says p);
   }
@@ -230,7 +233,7 @@ module _ (nodes : List Node) (v : DefaultValue) (leaf : Kind → Bool) (same : K
       → IsPlain nodes v i t (Q (notation_of nodes i) t)
   simple zero i t e d r = absurd (false≢true e)
   simple (suc n) i t e d r =
-      let it = found (λ node. leaf node.kind || index_holds (is_simple leaf same nodes n) (same node.kind))
+      let it = found-node (λ node. leaf node.kind || index_holds (is_simple leaf same nodes n) (same node.kind))
       (slice_get nodes i) e in
       let types = before nodes i in
       let type : notation_of nodes i ≡ type_from types it.node.kind = one_node nodes i it.node it.is in
@@ -239,7 +242,7 @@ module _ (nodes : List Node) (v : DefaultValue) (leaf : Kind → Bool) (same : K
       (elim (either (leaf it.node.kind) (index_holds (is_simple leaf same nodes n) (same it.node.kind)) it.holds) [
         | inl l ↦ plain-leaf i it.node t it.is l here r
         | inr s ↦
-            let other = index (is_simple leaf same nodes n) (same it.node.kind) s in
+            let other = found-index (is_simple leaf same nodes n) (same it.node.kind) s in
             let j : ℕ = other.index in
             let there : Denotes (type_at types j) t = same_denotes types it.node.kind j t other.is here in
             let at = earlier-node nodes i j it.node t it.is there in
@@ -257,21 +260,21 @@ module _ (nodes : List Node) (v : DefaultValue) (leaf : Kind → Bool) (same : K
       → Says nodes v i t (Q (type_from (before nodes i) node.kind) t)
   explicit-says i j node t h e d r rest =
       let it = explicit-is node.kind j e in
-      let w = it.wrapper in
+      let w : Wrapper = it.around in
       let types = before nodes i in
       let made : Denotes (Notation.wrapped w (type_at types j)) t = subst (λ k. Denotes (type_from types k) t) it.is d in
       let a : Tree = made.0 in
       let readable : IsReadable (Tree.wrapped w a) = subst IsReadable made.1 r in
       let at = earlier-node nodes i j node a h made.2 in
-      let inner = rest a (subst (λ m. Denotes m a) at.1 made.2) readable.1 in
+      let inner = rest a (subst (λ m. Denotes m a) at.1 made.2) readable.2 in
       let here : HasInside nodes i (inside.One j) =
       HasInside.here i node (inside.One j) h (ap same_content it.is ∙ it.alone)
-      (sym (ap inside_here it.is ∙ it.inside)) in
+      (sym (ap inside_here it.is ∙ it.one)) in
       let under : IsInside nodes i (wrapper_tag w) (inside.One j) =
       IsInside.own i (wrapper_tag w) (wrapper_tag w) node (inside.One j) h (ap same_type it.is)
       (ap own_tag it.is ∙ own_wrapper w readable.0) (IsInsideOwn.whole refl here) in
       let whole : der t ≡ tlv (wrapper_tag w) (der a) =
-      ap der made.1 ∙ der-wrapped_present w a (is_absent-readable a readable.1)
+      ap der made.1 ∙ der-wrapped_present w a (is_absent-readable a readable.2)
       ∙ ap (tlv (wrapper_tag w)) (it.content a) in
       let gives : Q (notation_of nodes j) a → Q (type_from types node.kind) t =
       λ p. subst (λ k. Q (type_from types k) t) (sym it.is)
@@ -294,7 +297,7 @@ module _ (nodes : List Node) (v : DefaultValue) (leaf : Kind → Bool) (same : K
       let a : Tree = made.0 in
       let readable : IsReadable (Tree.wrapped w a) = subst IsReadable made.1 r in
       let at = earlier-node nodes i j node a h made.2 in
-      let inner = rest a (subst (λ m. Denotes m a) at.1 made.2) readable.1 in
+      let inner = rest a (subst (λ m. Denotes m a) at.1 made.2) readable.2 in
       let here : HasInside nodes i inner.it =
       HasInside.other i j node inner.it inner.it h (ap same_content it.is) at.0 inner.has
       (sym (ap (λ k. inside_same k inner.it) it.is)) in
@@ -302,7 +305,7 @@ module _ (nodes : List Node) (v : DefaultValue) (leaf : Kind → Bool) (same : K
       IsInside.own i (wrapper_tag w) (wrapper_tag w) node inner.it h (ap same_type it.is)
       (ap own_tag it.is ∙ own_wrapper w readable.0) (IsInsideOwn.whole refl here) in
       let whole : der t ≡ tlv (wrapper_tag w) (implicit_content a) =
-      ap der made.1 ∙ der-wrapped_present w a (is_absent-readable a readable.1) in
+      ap der made.1 ∙ der-wrapped_present w a (is_absent-readable a readable.2) in
       let gives : Q (notation_of nodes j) a → Q (type_from types node.kind) t =
       λ p. subst (λ k. Q (type_from types k) t) (sym it.is)
       (subst (Q (Notation.wrapped w (type_at types j))) (sym made.1)
@@ -316,7 +319,7 @@ module _ (nodes : List Node) (v : DefaultValue) (leaf : Kind → Bool) (same : K
   tagged (suc n) i t e d r = elim (either (is_simple leaf same nodes (suc n) i) _ e) [
     | inl l ↦ plain-says nodes v i t (Q (notation_of nodes i) t) (simple (suc n) i t l d r)
     | inr g ↦
-        let it = found
+        let it = found-node
         (λ node. index_holds (is_tagged leaf same nodes n) (same node.kind)
         || (index_holds (is_tagged leaf same nodes n) (in_explicit node.kind)
         || index_holds (is_simple leaf same nodes n) (in_implicit node.kind)))
@@ -328,7 +331,7 @@ module _ (nodes : List Node) (v : DefaultValue) (leaf : Kind → Bool) (same : K
         subst (λ m. Says nodes v i t (Q m t)) (sym type)
         (elim (either (index_holds (is_tagged leaf same nodes n) (same k)) _ it.holds) [
           | inl s ↦
-              let other = index (is_tagged leaf same nodes n) (same k) s in
+              let other = found-index (is_tagged leaf same nodes n) (same k) s in
               let j : ℕ = other.index in
               let there : Denotes (type_at types j) t = same_denotes types k j t other.is here in
               let at = earlier-node nodes i j it.node t it.is there in
@@ -338,11 +341,11 @@ module _ (nodes : List Node) (v : DefaultValue) (leaf : Kind → Bool) (same : K
               (tagged n j t other.holds (subst (λ m. Denotes m t) at.1 there) r)
           | inr f ↦ elim (either (index_holds (is_tagged leaf same nodes n) (in_explicit k)) _ f) [
             | inl s ↦
-                let other = index (is_tagged leaf same nodes n) (in_explicit k) s in
+                let other = found-index (is_tagged leaf same nodes n) (in_explicit k) s in
                 explicit-says i other.index it.node t it.is other.is here r
                 (λ a p q. tagged n other.index a other.holds p q)
             | inr s ↦
-                let other = index (is_simple leaf same nodes n) (in_implicit k) s in
+                let other = found-index (is_simple leaf same nodes n) (in_implicit k) s in
                 implicit-says i other.index it.node t it.is other.is here r
                 (λ a p q. simple n other.index a other.holds p q)
           ]
@@ -370,7 +373,12 @@ truth_of true false e = let wrong : 0xFF ≡ 0x00 = ap first_byte e in absurd (o
 truth_of false true e = let wrong : 0x00 ≡ 0xFF = ap first_byte e in absurd (omega (arith, wrong))
 
 small_content : (n : ℕ) → n < 0x80 → integer_content (pos n) ≡ n ∷ []
-small_content n low = content-value (n ∷ []) (omega arith, tt) refl
+small_content n low =
+    let sign : is_negative (n ∷ []) ≡ false = rw (lt-ltb n 0x80 low) refl in
+    let value : integer_value (n ∷ []) ≡ pos (number_from_digits 256 (turned_if false (n ∷ []))) =
+    ap (λ b. complement_if b (number_from_digits 256 (turned_if b (n ∷ [])))) sign in
+    let digits : number_from_digits 256 (turned_if false (n ∷ [])) ≡ n = omega arith in
+    sym (ap integer_content (value ∙ ap pos digits)) ∙ content-value (n ∷ []) (omega (arith, low), tt) refl
 
 value-leaf : (v : DefaultValue) (types : List Notation) (k : Kind) (t : Tree) → has_value v k ≡ true
     → Denotes (type_from types k) t → IsLeaf v k t (is_default v (type_from types k) t)
@@ -491,8 +499,10 @@ other-number : (m : ℕ) (n : Notation) (t : Tree) → DenotesPresent (default-o
     → tree_number t ≡ pos m → ⊥
 other-number m (Notation.wrapped w n) t d e = other-number m n d.0 d.2 (sym (ap tree_number d.1) ∙ e)
 other-number m n t d e =
-    let within : (nat_le m m && nat_le m m) ≡ true = rw (le-leb m m (omega arith)) refl in
-    true≢false (sym within ∙ rw e at d.1)
+    let within : is_between (pos m) (pos m) (pos m) ≡ true = rw (le-leb m m (omega arith)) refl in
+    let out : is_between (pos m) (pos m) (pos m) ≡ false =
+    subst (λ z. is_between (pos m) (pos m) z ≡ false) e d.1 in
+    true≢false (sym within ∙ out)
 
 -- ---- a member
 

@@ -1,8 +1,8 @@
 -- A table that passes the test keeps the rules of tags.
 use Rattle.std.proofs.Common.{◌≡◌, ◌≢◌, ℕ, zero, suc, ◌+◌, ◌<◌, Bool, true, false, not, ◌&&◌, ◌||◌, List, [], ◌∷◌, ◌++◌}
 use Rattle.std.proofs.Common.{Option, Some, None, slice_get, is_some, map, inl, inr, refl, sym, ap, ◌∙◌, subst, arith}
-use Rattle.std.proofs.Common.{eqb-true}
 use Rattle.std.proofs.lemmas.Bool.{false≢true, eq-eqb}
+use Rattle.std.proofs.lemmas.Bool.Decides.{eqb_tells}
 use Rattle.std.specs.Borrow.{Bor}
 use Rattle.std.specs.List.{AllByRecursion, list_all}
 use Rattle.std.specs.Prelude.{◌==◌, if◌then◌else◌}
@@ -63,17 +63,15 @@ has-right None b tag h = refl
 
 disjoint : (xs ys : List ℕ) (tag : ℕ) → are_disjoint xs ys ≡ true → contains xs tag ≡ true → contains ys tag ≡ true → ⊥
 disjoint [] ys tag e h k = false≢true h
-disjoint (x ∷ xs) ys tag e h k = by_first (tag == x) refl
-  where
-    parts : (not (contains ys x) ≡ true) × (are_disjoint xs ys ≡ true)
-    parts = both (not (contains ys x)) (are_disjoint xs ys) e
-
-    by_first : (b : Bool) → (tag == x) ≡ b → ⊥
-    by_first true same =
-        let there : contains ys x ≡ true = subst (λ n. contains ys n ≡ true) (eqb-true tag x same) k in
-        false≢true (subst (λ b. not b ≡ true) there parts.0)
-    by_first false other =
-        disjoint xs ys tag parts.1 (subst (λ b. (b || contains xs tag) ≡ true) other h) k
+disjoint (x ∷ xs) ys tag e h k =
+    let parts = both (not (contains ys x)) (are_disjoint xs ys) e in
+    elim (eqb_tells tag x) [
+      | inl same ↦
+          let there : contains ys x ≡ true = subst (λ n. contains ys n ≡ true) same.1 k in
+          false≢true (subst (λ b. not b ≡ true) there parts.0)
+      | inr other ↦
+          disjoint xs ys tag parts.1 (subst (λ b. (b || contains xs tag) ≡ true) other.0 h) k
+    ]
 
 none-both : (a b : Option (List ℕ)) (tag : ℕ) → are_apart a b ≡ true → has_tag a tag ≡ true → has_tag b tag ≡ true → ⊥
 none-both (Some xs) (Some ys) tag e h k = disjoint xs ys tag e h k
@@ -170,6 +168,21 @@ module _ (nodes : List Node) where
     two-apart i j e tag p q =
         none-both (tags_at nodes n i) (tags_at nodes n j) tag e (has-at n i tag p) (has-at n j tag q)
 
+    -- what the test says of the first of several nodes, and of all
+    first : (i j : ℕ) (js : List ℕ) → list_all (λ j. are_apart (tags_at nodes n i) (tags_at nodes n j)) (j ∷ js) ≡ true
+        → (are_apart (tags_at nodes n i) (tags_at nodes n j) ≡ true)
+        × (list_all (λ j. are_apart (tags_at nodes n i) (tags_at nodes n j)) js ≡ true)
+    first i j js e =
+        both (are_apart (tags_at nodes n i) (tags_at nodes n j))
+        (list_all (λ j. are_apart (tags_at nodes n i) (tags_at nodes n j)) js) e
+
+    all : (i : ℕ) (js : List ℕ) → are_all_apart (tags_at nodes n) (i ∷ js) ≡ true
+        → (list_all (λ j. are_apart (tags_at nodes n i) (tags_at nodes n j)) js ≡ true)
+        × (are_all_apart (tags_at nodes n) js ≡ true)
+    all i js e =
+        both (list_all (λ j. are_apart (tags_at nodes n i) (tags_at nodes n j)) js)
+        (are_all_apart (tags_at nodes n) js) e
+
     -- ---- alternatives
 
     other-apart : (i : ℕ) (cs : List Alternative) (k : ℕ) (b : Alternative)
@@ -179,8 +192,10 @@ module _ (nodes : List Node) where
     other-apart i (c ∷ cs) zero b e is =
         let same : c ≡ b = cc in
         two-apart i b.node
-        (subst (λ (d : Alternative). are_apart (tags_at nodes n i) (tags_at nodes n d.node) ≡ true) same (both _ _ e).0)
-    other-apart i (c ∷ cs) (suc k) b e is = other-apart i cs k b (both _ _ e).1 is
+        (subst (λ (d : Alternative). are_apart (tags_at nodes n i) (tags_at nodes n d.node) ≡ true) same
+        (first i c.node (map (λ a. a.node) cs) e).0)
+    other-apart i (c ∷ cs) (suc k) b e is =
+        other-apart i cs k b (first i c.node (map (λ a. a.node) cs) e).1 is
 
     pub alternatives-apart : (cs : List Alternative)
         → are_all_apart (tags_at nodes n) (map (λ a. a.node) cs) ≡ true → (j k : ℕ) (a b : Alternative) → j < k
@@ -189,9 +204,9 @@ module _ (nodes : List Node) where
     alternatives-apart (c ∷ cs) e j zero a b less p q = absurd (omega (arith, less))
     alternatives-apart (c ∷ cs) e zero (suc k) a b less p q =
         let same : c ≡ a = cc in
-        subst (λ (d : Alternative). AreApart nodes d.node b.node) same (other-apart c.node cs k b (both _ _ e).0 q)
+        subst (λ (d : Alternative). AreApart nodes d.node b.node) same (other-apart c.node cs k b (all c.node (map (λ a. a.node) cs) e).0 q)
     alternatives-apart (c ∷ cs) e (suc j) (suc k) a b less p q =
-        alternatives-apart cs (both _ _ e).1 j k a b (omega (arith, less)) p q
+        alternatives-apart cs (all c.node (map (λ a. a.node) cs) e).1 j k a b (omega (arith, less)) p q
 
     -- ---- members
 
@@ -223,12 +238,16 @@ module _ (nodes : List Node) where
         → list_all (λ j. are_apart (tags_at nodes n i) (tags_at nodes n j)) (map (λ m. m.node) ms) ≡ true
         → AllByRecursion (λ m. AreApart nodes i m.node) ms
     each-apart i [] e = tt
-    each-apart i (m ∷ ms) e = (two-apart i m.node (both _ _ e).0, each-apart i ms (both _ _ e).1)
+    each-apart i (m ∷ ms) e =
+        let parts = first i m.node (map (λ m. m.node) ms) e in
+        (two-apart i m.node parts.0, each-apart i ms parts.1)
 
     all-apart : (ms : List Member) → are_all_apart (tags_at nodes n) (map (λ m. m.node) ms) ≡ true
         → AreAllApart nodes ms
     all-apart [] e = tt
-    all-apart (m ∷ ms) e = (each-apart m.node ms (both _ _ e).0, all-apart ms (both _ _ e).1)
+    all-apart (m ∷ ms) e =
+        let parts = all m.node (map (λ m. m.node) ms) e in
+        (each-apart m.node ms parts.0, all-apart ms parts.1)
 
     -- ---- SET
 
@@ -241,10 +260,15 @@ module _ (nodes : List Node) where
     sequence-members (kind.Sequence ns) ms e h = let same : ns ≡ ms = cc in ap (λ l. l.now) same
     sequence-members k ms e h = absurd (false≢true e)
 
+    is_set-parts : (k : Kind) → is_set (tags_at nodes n) k ≡ true
+        → (is_sequence k ≡ true) × (are_all_apart (tags_at nodes n) (map (λ m. m.node) (members_of k)) ≡ true)
+    is_set-parts k e =
+        both (is_sequence k) (are_all_apart (tags_at nodes n) (map (λ m. m.node) (members_of k))) e
+
     set-apart : (k : Kind) (ms : Bor (List Member)) → is_set (tags_at nodes n) k ≡ true → members_of k ≡ ms.now
         → AreAllApart nodes ms.now
     set-apart k ms e same =
-        subst (AreAllApart nodes) same (all-apart (members_of k) (both (is_sequence k) _ e).1)
+        subst (AreAllApart nodes) same (all-apart (members_of k) (is_set-parts k e).1)
 
     pub set_members-apart : (i j : ℕ) (k : Kind) (ms : Bor (List Member)) → k ≡ kind.Wrapped (wrapper.ImplicitList 0x31) j
         → keeps_set (tags_at nodes n) nodes (in_set k) ≡ true → HasInside nodes j (inside.Members ms)
@@ -259,12 +283,12 @@ module _ (nodes : List Node) where
 
         by_inside : HasInside nodes j (inside.Members ms) → AreAllApart nodes ms.now
         by_inside (HasInside.other _ l node _ y is same less p eq) =
-            let none = sequence-content node.kind (both (is_sequence node.kind) _ (of_node node is)).0 in
+            let none = sequence-content node.kind (is_set-parts node.kind (of_node node is)).0 in
             let wrong : Some l ≡ None = sym same ∙ none in
             absurd (cc)
         by_inside (HasInside.here _ node _ is none eq) =
             set-apart node.kind ms (of_node node is)
-            (sequence-members node.kind ms (both (is_sequence node.kind) _ (of_node node is)).0 eq)
+            (sequence-members node.kind ms (is_set-parts node.kind (of_node node is)).0 eq)
 
   -- ---- tags in place of others
 
