@@ -20,7 +20,7 @@ use Rattle.der_ber_types.specs.Contents.{AreParts}
 use Rattle.der_ber_types.specs.Inside.{IsInside, HasTag}
 use Rattle.der_ber_types.specs.Reordered.{IsNotAhead}
 use Rattle.der_ber_types.specs.Values.{IsDefault}
-use Rattle.der_ber_types.specs.Kinds.{tag_in_der}
+use Rattle.der_ber_types.specs.Kinds.{tag_in_der, stays}
 use Rattle.der_ber_types.specs.Pushed.{IsPushed, IsMemberPushed}
 
 one-has_bytes : (nodes : List Node) (i : ℕ) (element in_der : List ℕ) → IsOne nodes i element in_der
@@ -145,6 +145,35 @@ pub content-of : (nodes : List Node) (x y : Inside) (bytes : List ℕ) (r : Resu
     → IfOk r (λ v. P v.items) → IfOk r (λ v. IsContent nodes x bytes v.items)
 content-of nodes x y bytes (Ok v) P e f h = rw e (f v.items h)
 content-of nodes x y bytes (Err error) P e f h = tt
+
+-- one that stays is its own in DER
+stays-content : (nodes : List Node) (x : Inside) (content : List ℕ) → stays x ≡ true → IsContent nodes x content content
+stays-content nodes inside.Same content e = IsContent.same content content refl
+stays-content nodes inside.Number content e = IsContent.number content content refl
+stays-content nodes inside.Octets content e = IsContent.octets content content refl
+stays-content nodes inside.Bits content e = IsContent.bits content content refl
+stays-content nodes x content e = absurd (false≢true e)
+
+stays-tag : (x : Inside) (tag : ℕ) → stays x ≡ true → tag_in_der x tag ≡ tag
+stays-tag inside.Same tag e = refl
+stays-tag inside.Number tag e = refl
+stays-tag inside.Octets tag e = refl
+stays-tag inside.Bits tag e = refl
+stays-tag x tag e = absurd (false≢true e)
+
+pub pushed-same : (nodes : List Node) (i tag : ℕ) (x : Inside) (bytes content after old new : List ℕ)
+    → BeginsWith bytes tag content after → IsInside nodes i tag x → stays x ≡ true → new ≡ old ++ tlv tag content
+    → IsPushed nodes i bytes after old new
+pushed-same nodes i tag x bytes content after old new begins here e appended =
+    let element = tlv tag content in
+    record {
+      element = element;
+      in_der = element;
+      is_one = IsOne.element i tag x content content element element begins.number here
+          (stays-content nodes x content e) refl (ap (λ t. tlv t content) (sym (stays-tag x tag e)));
+      is = begins.is;
+      appended = appended;
+    }
 
 -- ---- an element
 

@@ -1,5 +1,5 @@
 -- What a kind of types says of its elements.
-use Rattle.std.specs.Prelude.{ℕ, ◌-◌, Option, Some, None, ◌==◌, if◌then◌else◌}
+use Rattle.std.specs.Prelude.{ℕ, ◌-◌, Bool, true, false, Option, Some, None, ◌==◌, if◌then◌else◌}
 use Rattle.picky_der_core.specs.declared.asn1.wrapper.Wrapper.TheVariants as wrapper
 use Rattle.der_schema.specs.declared.node.Kind.{Kind}
 use Rattle.der_schema.specs.declared.node.Kind.TheVariants as kind
@@ -46,6 +46,14 @@ abbrev pub in_parts : Inside → Option Inside
 in_parts inside.Octets = Some inside.Parts
 in_parts inside.Bits = Some inside.BitParts
 in_parts _ = None
+
+-- the content is also that in DER
+abbrev pub stays : Inside → Bool
+stays inside.Same = true
+stays inside.Number = true
+stays inside.Octets = true
+stays inside.Bits = true
+stays _ = false
 
 -- the tag in DER of an element with this in it: a string is primitive (10.2)
 abbrev pub tag_in_der : Inside → ℕ → ℕ

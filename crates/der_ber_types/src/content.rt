@@ -13,7 +13,7 @@ ghost use Rattle.der_ber_types.specs.Refusals.{
 };
 
 use crate::bits::joined_bits;
-use crate::contents::{copied, joined, push_header, truth};
+use crate::contents::{copied, joined, push_header, push_same, truth};
 use crate::defaults::is_default;
 use crate::error::TypeError;
 use crate::inside::{Inside, inside_of};
@@ -138,6 +138,10 @@ fn push_element<'a>(
     let Some(inside) = inside_of(nodes, index, element.tag) else {
         return Ok(None);
     };
+    if inside.stays() {
+        push_same(der, element.tag, element.content)?;
+        return Ok(Some(element.after));
+    }
     let content = content_in_der(alloc, nodes, inside, element.content)?;
     push_header(der, inside.tag_in_der(element.tag), content.len())?;
     der.extend_from_slice(&content)?;

@@ -1,6 +1,6 @@
 //! Contents in DER that have no elements of other types in them.
 ghost use Rattle.std.specs.Prelude.{◌≡◌, ◌++◌, ◌∷◌, IfOk, IfErr, OnOk};
-ghost use Rattle.picky_der_core.specs.Element.{length_octets};
+ghost use Rattle.picky_der_core.specs.Element.{length_octets, tlv};
 ghost use Rattle.der_ber_types.specs.Contents.{IsTruth, AreParts};
 ghost use Rattle.der_ber_types.specs.Refusals.{IsRefusal, IsNoTruth, AreNoParts};
 
@@ -29,6 +29,15 @@ pub(crate) fn push_header(
 {
     bytes.push(tag.inner())?;
     bytes.extend_from_slice(&Length::bytes(content_len))
+}
+
+// Appends an element with this content.
+#[tactic(auto, unfolding(picky_der_core::specs::Element::tlv))]
+pub(crate) fn push_same(bytes: &mut Vec<u8>, tag: Tag, content: &[u8]) -> Result<(), AllocError>
+    ensures { OnOk result (bytes.new.items ≡ bytes.old.items ++ tlv tag content.now) }
+{
+    push_header(bytes, tag, content.len())?;
+    bytes.extend_from_slice(content)
 }
 
 // The content of a BOOLEAN in DER: FF for TRUE (X.690, 11.1), which is any byte but 00 in BER (8.2.2).

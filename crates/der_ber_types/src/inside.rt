@@ -1,6 +1,6 @@
 //! What is in an element of a type.
 ghost use Rattle.std.specs.Prelude.{◌≡◌, slice_get, IfSome, IfNone};
-ghost use Rattle.der_ber_types.specs.Kinds.{tag_in_der, in_parts};
+ghost use Rattle.der_ber_types.specs.Kinds.{tag_in_der, in_parts, stays};
 ghost use Rattle.der_ber_types.specs.Inside.{
   HasInside,
   HasTag,
@@ -54,6 +54,16 @@ impl Inside {
             Inside::Parts | Inside::BitParts => Tag::from(tag.inner().saturating_sub(0x20)),
             _ => tag,
         }
+    }
+
+    // Whether the content of an element with this in it is also that in DER.
+    pub(crate) fn stays(self) -> bool
+        ensures { result ≡ stays self }
+    {
+        matches!(
+            self,
+            Inside::Same | Inside::Number | Inside::Octets | Inside::Bits
+        )
     }
 
     // What is in a string in parts, whose content in one part is this.

@@ -1,5 +1,5 @@
 //! DER of a message whose content has the type that an identifier names.
-ghost use Rattle.std.specs.Prelude.{◌≡◌, ◌≢◌, ◌++◌, IfOk, IfErr, MatchOption, OnOk};
+ghost use Rattle.std.specs.Prelude.{◌≡◌, ◌≢◌, IfOk, IfErr, MatchOption, OnOk};
 ghost use Rattle.picky_der_core.specs.Element.{tlv};
 ghost use Rattle.der_ber_types.specs.Errors.{IsRefusedByType};
 ghost use Rattle.der_ber_types.specs.Message.{
@@ -16,7 +16,7 @@ ghost use Rattle.der_ber_types.specs.Refusals.{IsRefusal};
 
 use crate::ToDerError;
 use crate::content::one_in_der;
-use crate::contents::{copied, push_header};
+use crate::contents::{copied, push_same};
 use crate::error::TypeError;
 use der_ber::with_whole_strings;
 use der_path::first_element;
@@ -131,18 +131,9 @@ fn written(alloc: Global, identifier: &[u8], content: &[u8]) -> Result<Vec<u8>, 
     ensures { IfOk result (λ bytes. bytes.items ≡ message_bytes identifier.now content.now) }
 {
     let mut members = Vec::new(alloc);
-    push_element(&mut members, Tag::OID, identifier)?;
-    push_element(&mut members, Tag::context_specific_constructed(0), content)?;
+    push_same(&mut members, Tag::OID, identifier)?;
+    push_same(&mut members, Tag::context_specific_constructed(0), content)?;
     let mut bytes = Vec::new(alloc);
-    push_element(&mut bytes, Tag::SEQUENCE, &members)?;
+    push_same(&mut bytes, Tag::SEQUENCE, &members)?;
     Ok(bytes)
-}
-
-// Appends an element.
-#[tactic(auto, unfolding(picky_der_core::specs::Element::tlv))]
-fn push_element(bytes: &mut Vec<u8>, tag: Tag, content: &[u8]) -> Result<(), AllocError>
-    ensures { OnOk result (bytes.new.items ≡ bytes.old.items ++ tlv tag content.now) }
-{
-    push_header(bytes, tag, content.len())?;
-    bytes.extend_from_slice(content)
 }

@@ -3,7 +3,8 @@ use Rattle.std.proofs.Common.{slice_range}
 use Rattle.der_ber_types.specs.Content.{IsContent, AreEach, AreMembers}
 use Rattle.der_ber_types.specs.Order.{AreInOrder}
 use Rattle.der_ber_types.proofs.Writing.{pushed-shorter, each-more, each-end, member-fewer, member-next, members-end}
-use Rattle.der_ber_types.proofs.Writing.{nothing_left, something_left, content-same, content-of, pushed, not_ahead-tag}
+use Rattle.der_ber_types.proofs.Writing.{nothing_left, something_left, content-same, content-of, pushed, pushed-same}
+use Rattle.der_ber_types.proofs.Writing.{not_ahead-tag}
 use Rattle.der_ber_types.proofs.Writing.{member-kept, member-cut, member-same, range-end}
 use Rattle.std.proofs.lemmas.Bool.{false≢true}
 use Rattle.der_ber_types.specs.Reordered.{AreReordered}
@@ -216,6 +217,16 @@ push_element-returns-in_default-inside_of t c =
             element.after.now c.in-Some.ensures c.in_default-inside_of.ensures.none;
         same = refl;
       };
+      none = tt;
+    }
+
+pub push_element-returns-then-stays : goal.push_element-returns-then-stays
+push_element-returns-then-stays t c =
+    let element = c.in-Some.element in
+    record {
+      ok = pushed-same c.args.nodes.now c.args.index element.tag c.in-Some-inside_of.inside c.args.bytes.now
+          element.content.now element.after.now c.args.der.now.items c.push_same.new.bytes.items c.in-Some.ensures
+          c.in-Some-inside_of.ensures.some (sym c.stays.ensures ∙ c.if-stays.true) c.in_ok-push_same.ensures;
       none = tt;
     }
 
