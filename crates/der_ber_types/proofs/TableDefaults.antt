@@ -362,7 +362,7 @@ default_in _ = Tree.absent
 abbrev is_default : DefaultValue → Notation → Tree → Type 0
 is_default v n t = t ≡ default_in (default (value_in v) n)
 
-first_byte : List ℕ → ℕ
+abbrev first_byte : List ℕ → ℕ
 first_byte [] = 0
 first_byte (b ∷ bs) = b
 
