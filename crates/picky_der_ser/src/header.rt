@@ -86,6 +86,20 @@ fn opening(tag: Tag, has_front: bool, len: usize) -> Opening
     bytes
 }
 
+// Adds a header before a content of `len` bytes.
+#[inline(always)]
+fn push_header(out: &mut Vec<u8>, tag: Tag, has_front: bool, len: usize) -> Result<(), AllocError>
+    requires { len + 1 < 2 ^ 64 }
+    ensures ok { OnOk result ((c : List ℕ) → length c ≡ len
+        → out.new.items ++ c ≡ out.old.items ++ tlv tag (front has_front ++ c)) }
+    ensures grows { vec_len out.old ≤ vec_len out.new }
+{
+    if !has_front && len < 0x80 {
+        return out.extend_from_slice(&[tag.inner(), len as u8]);
+    }
+    out.extend_from_slice(&opening(tag, has_front, len))
+}
+
 // Adds all headers before a content of `len` bytes.
 pub(crate) fn push_headers(
     out: &mut Vec<u8>,
@@ -106,14 +120,15 @@ pub(crate) fn push_headers(
         } else {
             0
         };
-        out.extend_from_slice(&opening(
+        push_header(
+            out,
             wrapper.tag(),
             wrapper.counts_unused_bits(),
             own_len + len,
-        ))?;
+        )?;
     }
     if let Some(tag) = own {
-        out.extend_from_slice(&opening(tag, false, len))?;
+        push_header(out, tag, false, len)?;
     }
     Ok(())
 }
