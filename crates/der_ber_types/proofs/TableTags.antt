@@ -132,14 +132,14 @@ module _ (tags : ℕ → Option (List ℕ)) (tag : ℕ) where
 own-has : (nodes : List Node) (i own tag : ℕ) (x : Inside) → IsInsideOwn nodes i own tag x
     → has_tag (tags_of_own (Some own)) tag ≡ true
 own-has nodes i own tag x (IsInsideOwn.whole same has) =
-    or-first (tag == own) (contains (if is_constructed (own + 0x20) then own + 0x20 ∷ [] else []) tag)
+    or-first (tag == own) (contains (if is_constructed (own + 0x20) then (own + 0x20) ∷ [] else []) tag)
     (eq-eqb tag own same)
 own-has nodes i own tag x (IsInsideOwn.parts y constructed more has in_parts) =
     let form : is_constructed (own + 0x20) ≡ true = ap is_constructed more ∙ constructed in
-    let there : contains (own + 0x20 ∷ []) tag ≡ true =
+    let there : contains ((own + 0x20) ∷ []) tag ≡ true =
     or-first (tag == (own + 0x20)) false (eq-eqb tag (own + 0x20) (sym more)) in
-    or-second (tag == own) (contains (if is_constructed (own + 0x20) then own + 0x20 ∷ [] else []) tag)
-    (subst (λ b. contains (if b then own + 0x20 ∷ [] else []) tag ≡ true) (sym form) there)
+    or-second (tag == own) (contains (if is_constructed (own + 0x20) then (own + 0x20) ∷ [] else []) tag)
+    (subst (λ b. contains (if b then (own + 0x20) ∷ [] else []) tag ≡ true) (sym form) there)
 
 -- ---- a table
 

@@ -104,7 +104,7 @@ tags_of_any _ = Some []
 -- in BER a string in parts has the constructed one of the same number (X.690, 8.6.4, 8.7.3.2, 8.14.4 and 8.23.3)
 abbrev pub tags_of_own : Option ℕ → Option (List ℕ)
 tags_of_own None = Some []
-tags_of_own (Some own) = Some (own ∷ (if is_constructed (own + 0x20) then own + 0x20 ∷ [] else []))
+tags_of_own (Some own) = Some (own ∷ (if is_constructed (own + 0x20) then (own + 0x20) ∷ [] else []))
 
 abbrev pub tags_of_kind : (ℕ → Option (List ℕ)) → Kind → Option (List ℕ)
 tags_of_kind tags k =
