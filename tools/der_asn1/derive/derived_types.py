@@ -147,7 +147,7 @@ def _check_tags(file: RustFile, it: Item, fields: list[Field]) -> None:
     """The next byte says whether a member that may be absent is there."""
     parts = [(part, one.type, one.presence is not Presence.REQUIRED) for part, one in zip(it.parts, fields)]
     for part, later, tag in clashes(FirstTags(file), parts):
-        raise file.source.error(later.line, f"`{later.name}` may begin with {tag:02X}, as `{part.name}` before it, which may be absent")
+        raise file.source.error(later.line, f"`{later.name}`, and `{part.name}` before it, which may be absent, can both begin with {tag:02X}")
 
 
 def _default(file: RustFile, part: Part, word: str) -> RustType:
@@ -181,7 +181,7 @@ def _choice(file: RustFile, it: Item, module: str) -> ChoiceDeclaration:
             raise file.source.error(part.line, f"`{part.name}` has no type, unlike other variants: use `()` for NULL")
     alternatives = [(part, part.type, True) for part in it.parts]
     for part, later, tag in clashes(FirstTags(file), alternatives):
-        raise file.source.error(later.line, f"`{later.name}` may begin with {tag:02X}, as `{part.name}` before it")
+        raise file.source.error(later.line, f"`{later.name}` and `{part.name}` before it can both begin with {tag:02X}")
     return ChoiceDeclaration(**_common(file, it, module), variants=[Field(part.name, part.type) for part in it.parts])
 
 

@@ -275,12 +275,12 @@ class Refusing(unittest.TestCase):
 
     def test_members_that_begin_alike(self):
         rows = {
-            struct_of("a: Option<u8>,", "b: Option<i64>,"): "`b` may begin with 02, as `a` before it, which may be absent",
-            struct_of("a: Option<u8>,", "b: Option<bool>,", "c: Integer,").replace("mod derived;\n", "mod derived;\nuse der_types::Integer;\n", 1): "`c` may begin with 02, as `a`",
-            struct_of("a: bool, // asn1: default FALSE", "b: bool,"): "`b` may begin with 01, as `a`",
-            struct_of("a: Option<ExplicitContextTag1<u8>>,", "b: ImplicitList<Vec<u8>, 0xA1>,"): "`b` may begin with A1, as `a`",
-            struct_of("a: Option<Asn1RawDer>,", "b: Vec<u8>,"): "`b` may begin with 30, as `a`",
-            enum_of("A(u8),", "B(bool),", "C(u16),"): "`C` may begin with 02, as `A` before it",
+            struct_of("a: Option<u8>,", "b: Option<i64>,"): "`b`, and `a` before it, which may be absent, can both begin with 02",
+            struct_of("a: Option<u8>,", "b: Option<bool>,", "c: Integer,").replace("mod derived;\n", "mod derived;\nuse der_types::Integer;\n", 1): "`c`, and `a` before it, which may be absent, can both begin with 02",
+            struct_of("a: bool, // asn1: default FALSE", "b: bool,"): "`b`, and `a` before it, which may be absent, can both begin with 01",
+            struct_of("a: Option<ExplicitContextTag1<u8>>,", "b: ImplicitList<Vec<u8>, 0xA1>,"): "`b`, and `a` before it, which may be absent, can both begin with A1",
+            struct_of("a: Option<Asn1RawDer>,", "b: Vec<u8>,"): "`b`, and `a` before it, which may be absent, can both begin with 30",
+            enum_of("A(u8),", "B(bool),", "C(u16),"): "`C` and `A` before it can both begin with 02",
         }
         for text, wanted in rows.items():
             with self.subTest(wanted):
