@@ -88,6 +88,11 @@ class Said:
             found |= more
         return found
 
+    def cycle(self, label: str) -> set[str]:
+        """The other functions of a cycle of calls that isn't proved: the checker says the same of each."""
+        notes = self.notes[label]
+        return {it for it in self.status if it != label and notes and self.notes[it] == notes}
+
     def unread(self) -> list[Fault]:
         """Where the checker couldn't read a text of src/ or specs/, as one with a name that isn't there. That isn't where it found a
         statement false."""
@@ -130,6 +135,10 @@ def judge(said: Said, edit: Edit, batch: list[Edit]) -> tuple[str, str, list[Edi
     others: list[Edit] = []
     left: list[str] = []
     for label in labels:
+        cycle = said.cycle(label)
+        mates = [it for it in batch if it is not edit and cycle & set(map(said.label, it.own))]
+        if mates:
+            return "waits", "", mates
         at, named = said.refused_at(label)
         goals, names = goals + at, names + named
         waits = said.waits_for(label)

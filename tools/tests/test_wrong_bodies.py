@@ -56,6 +56,14 @@ fn mini::U8Formed::measure: no proof: `search` did not prove `returns`, `index`;
 logic=not-proved
 """
 
+CYCLE = """\
+note: src/lib.rt:24:5: it is not proved that what the function ensures holds when it returns (`measure-returns`)
+fn mini::U16Formed::measure: not proved
+note: src/lib.rt:24:5: it is not proved that what the function ensures holds when it returns (`measure-returns`)
+fn mini::U8Formed::measure: not proved
+logic=not-proved
+"""
+
 LIB = """\
 impl Formed for u8 {
     ghost form = { Form.small };
@@ -122,6 +130,11 @@ class Verdicts(unittest.TestCase):
         both = [edit(*IS_3), edit(*IS_5)]
         self.assertEqual(("waits", "", [both[1]]), judge(Said("mini", CALLER), both[0], both))
         self.assertEqual(("refused", "returns, index", []), judge(Said("mini", CALLER), both[1], both))
+
+    def test_a_cycle_of_calls(self) -> None:
+        both = [edit(*IS_3), edit(*IS_5)]
+        self.assertEqual(("waits", "", [both[1]]), judge(Said("mini", CYCLE), both[0], both))
+        self.assertEqual(("refused", "measure-returns", []), judge(Said("mini", CYCLE), both[0], both[:1]))
 
     def test_a_text_with_a_name_that_is_not_there(self) -> None:
         for said in (NO_CONSTRUCTOR, NO_DEFINITION, NO_IMPORT):
