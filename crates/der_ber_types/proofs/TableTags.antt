@@ -107,8 +107,8 @@ module _ (tags : ℕ → Option (List ℕ)) (tag : ℕ) where
     after_alternatives : has_tag (joined (tags_of_same tags (same_type k)) others) tag ≡ true
         → has_tag (tags_of_kind tags k) tag ≡ true
     after_alternatives h =
-        has-right (tags_of_alternatives tags (alternatives_of k)) (joined (tags_of_same tags (same_type k)) others) tag
-        h
+        has-right (tags_of_alternatives tags (alternatives_of k))
+        (joined (tags_of_same tags (same_type k)) others) tag h
 
     kind-same_type : (j : ℕ) → same_type k ≡ Some j → has_tag (tags j) tag ≡ true
         → has_tag (tags_of_kind tags k) tag ≡ true

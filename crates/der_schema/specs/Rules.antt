@@ -115,7 +115,7 @@ abbrev pub in_implicit : Kind → Option ℕ
 in_implicit (kind.Wrapped (wrapper.Implicit number) i) = Some i
 in_implicit _ = None
 
--- The type of the node at an index is one of these types, or another one of theirs by `same`. In these two, more
+-- The type of the node at an index is one of these types, or another one of theirs by `same`. In these three, more
 -- nodes than so many aren't looked at one by another.
 abbrev pub is_simple : (Kind → Bool) → (Kind → Option ℕ) → List Node → ℕ → ℕ → Bool
 is_simple leaf same nodes zero i = false
@@ -146,8 +146,8 @@ keeps_default nodes n i _ = true
 abbrev pub keeps_rules_at : List Node → ℕ → Kind → Bool
 keeps_rules_at nodes n k =
     are_all_apart (tags_at nodes n) (map (λ a. a.node) (alternatives_of k))
-    && (are_members_apart (tags_at nodes n) (members_of k) &&
-    (list_all (λ m. keeps_default nodes n m.node m.presence) (members_of k)
+    && (are_members_apart (tags_at nodes n) (members_of k)
+    && (list_all (λ m. keeps_default nodes n m.node m.presence) (members_of k)
     && (keeps_tag (is_in_tag nodes n) k && keeps_set (tags_at nodes n) nodes (in_set k))))
 
 -- each node names nodes before it, so that no more than all are named one by another
