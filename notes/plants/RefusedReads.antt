@@ -14,11 +14,13 @@ use Rattle.picky_der_de.specs.Reading.{Reads, Refuses, ReadsPlain, RefusesPlain}
 use Rattle.picky_der_de.specs.Elements.{ReadsRaw, RefusesRaw}
 use Rattle.picky_der_de.specs.Refusing.{IsUnsupported, FailsAs}
 use Rattle.picky_der_de.specs.RefusesBy.{Rule}
-use Rattle.picky_der_de.specs.Members.{ReadsMember, RefusesMember}
+use Rattle.picky_der_de.specs.Members.{ReadsMember, RefusesMember, HasNoMore, ReadsAll, RefusesAll}
+use Rattle.picky_der_de.specs.Choices.{RefusesAfter}
+use Rattle.picky_der_core.specs.Shape.{Shapes}
 use Rattle.picky_der_de.specs.Ends.{RefusesClose, OpensList, RefusesList, EnclosingEnd, Closes}
-use Rattle.picky_der_de.specs.LookAhead.{RefusesIdentifier, RefusesPeek, HasEnded, RefusesChoice, Peeks}
+use Rattle.picky_der_de.specs.LookAhead.{RefusesIdentifier, RefusesPeek, HasEnded, RefusesChoice, Peeks, Identifies, IdentifiesIn}
 use Rattle.picky_der_de.specs.Wrappers.{ReadsWrapped, RefusesOpening}
-use Rattle.picky_der_de.specs.Layouts.{RefusesLayout}
+use Rattle.picky_der_de.specs.Layouts.{RefusesLayout, RefusesOptional, RefusesDefault, RefusesLayoutMember, Presence, Lacks}
 use Rattle.picky_der_de.specs.TagNumbers.{RefusesNumber}
 
 pub reads : (x : Shape) (t : Tree) (s : State) → Reads x s s t → s.failed ≡ None
@@ -142,3 +144,50 @@ twice x y a b c w v u = grind (arith, w.consumed, v.consumed, u.consumed)
 
 pub choice_not : (s : State) (e : Asn1DerError) → RefusesChoice s s e → s.failed ≡ Some (failure_of e)
 choice_not s e w = w.refuses.fails.failed
+
+-- ---- members that may be missing, alternatives, and all members: an error leaves what has failed with it
+
+pub optional_failed : {V : Type 0} (m : V → Tree) (x : Shape) (r : Rule) (s new : State) (e : Asn1DerError)
+    → RefusesOptional m x r s new e → new.failed ≡ Some (failure_of e)
+optional_failed m x r s new e (RefusesOptional.no_tag w p) = w.refuses.fails.failed
+optional_failed m x r s new e (RefusesOptional.no_member mid tag i f w) = w.fails.failed
+
+pub default_failed : {V : Type 0} (m : V → Tree) (l : V → Bool) (x : Shape) (r : Rule) (s new : State) (e : Asn1DerError)
+    → RefusesDefault m l x r s new e → new.failed ≡ Some (failure_of e)
+default_failed m l x r s new e (RefusesDefault.as_optional w) = optional_failed m x r s new e w
+default_failed m l x r s new e (RefusesDefault.written_out mid v i w f g) = g.failed
+
+pub layout_member_failed : {V : Type 0} (p : Presence) (m : V → Tree) (l : V → Bool) (x : Shape) (r : Rule) (s new : State)
+    (e : Asn1DerError) → RefusesLayoutMember p m l x r s new e → new.failed ≡ Some (failure_of e)
+layout_member_failed Presence.always m l x r s new e w = w.fails.failed
+layout_member_failed Presence.perhaps m l x r s new e w = default_failed m l x r s new e w
+
+pub after_failed : {V : Type 0} (m : V → Tree) (ss : Shapes) (b : ℕ) (s new : State) (e : Asn1DerError)
+    → RefusesAfter m ss b s new e → new.failed ≡ Some (failure_of e)
+after_failed m ss b s new e w = w.fails.failed
+
+pub all_failed : {V : Type 0} (m : V → Tree) (x : Shape) (s new : State) (e : Asn1DerError) → RefusesAll m x s new e
+    → new.failed ≡ Some (failure_of e)
+all_failed m x s new e w = w.rest.fails.failed
+
+-- ---- and what is returned in its place leaves what hasn't
+
+pub no_more : (s new : State) → HasNoMore s new → new.failed ≡ None
+no_more s new w = ap (λ (x : State). x.failed) w.same ∙ w.had_not_failed
+
+pub peeks : (s new : State) (b : ℕ) → Peeks s new b → new.failed ≡ None
+peeks s new b w = ap (λ (x : State). x.failed) w.same ∙ w.had_not_failed
+
+identifies_in : (o : Option ℕ) (s new : State) (tag : ℕ) → IdentifiesIn o s new tag → new.failed ≡ None
+identifies_in None s new tag w = peeks s new tag w
+identifies_in (Some n) s new tag w = ap (λ (x : State). x.failed) w.2 ∙ w.0
+
+pub identifies : (s new : State) (tag : ℕ) → Identifies s new tag → new.failed ≡ None
+identifies s new tag w = identifies_in s.implicit_tag s new tag w.is
+
+pub lacks : (x : Shape) (s new : State) → Lacks x s new → new.failed ≡ None
+lacks x s new (Lacks.no_more w) = no_more s new w
+lacks x s new (Lacks.begins_otherwise tag w f) = identifies s new tag w
+
+pub all : {V : Type 0} (m : V → Tree) (x : Shape) (s new : State) (vs : List V) → ReadsAll m x s new vs → new.failed ≡ None
+all m x s new vs w = w.not_failed

@@ -1,17 +1,20 @@
 -- A body that returns an error and does nothing is refused: only an object that had failed does so.
-use Rattle.std.specs.Prelude.{true, ◌≡◌, ℕ, List, [], ◌∷◌, Some, None, Option, Err, Ok, IfSome}
-use Rattle.std.proofs.Common.{ap, subst, arith, sym, ◌∙◌}
+use Rattle.std.specs.Prelude.{true, ◌≡◌, ℕ, List, [], ◌∷◌, ◌++◌, length, refl, Some, None, Option, Err, Ok, IfSome}
+use Rattle.std.proofs.Common.{ap, subst, arith, sym, ◌∙◌, length-append}
 use Rattle.picky_der_core.specs.declared.misc.writer.WriteExt.{Ghosts}
 use Rattle.picky_der_core.specs.declared.error.Asn1DerError.{Asn1DerError}
 use Rattle.picky_der_core.specs.Failure.{failure_of, IsAnswer}
 use Rattle.picky_der_core.specs.Tree.{Tree, Trees}
-use Rattle.picky_der_core.specs.Encoding.{der, tree_bytes}
+use Rattle.picky_der_core.specs.Encoding.{der, encodings, tree_bytes}
 use Rattle.picky_der_ser.specs.Entry.{Overwrites}
 use Rattle.picky_der_ser.specs.State.{State, Writing, with_member}
-use Rattle.picky_der_ser.specs.Calls.{WritesPlain, IsUnsupported, WritesAbsent, EndsLevel, RefusesBefore, RefusesWrite, WritesContent, Writes, AddsMember, HadFailed, SinkWrites, RefusesToAddAll, RefusesPrepended, WritesWhole}
+use Rattle.picky_der_ser.specs.Calls.{WritesPlain, IsUnsupported, WritesAbsent, EndsLevel, RefusesBefore, RefusesWrite, WritesContent, Writes, AddsMember, AddsAll, AddsPrepended, HadFailed, SinkWrites, RefusesToAddAll, RefusesPrepended, WritesWhole}
 
 ok_no_err : (n : ℕ) (e : Asn1DerError) → Ok n ≡ Err e → ⊥
 ok_no_err n e p = grind arith
+
+nothing_grows : (c b : List ℕ) → c ≡ c ++ b → length b ≡ 0
+nothing_grows c b p = omega (arith, ap length p, length-append c b)
 
 module _ {W : Type 0} (g : Ghosts W) where
   pub plain : (t : Tree) (s : State W) (e : Asn1DerError) → WritesPlain g t s (Err e) s
@@ -69,6 +72,18 @@ module _ {W : Type 0} (g : Ghosts W) where
   pub prepended_not : (prepend : Trees → Trees) (s : Writing W) (e : Asn1DerError) → RefusesPrepended g prepend s e s
       → s.failed ≡ Some (failure_of e)
   prepended_not prepend s e w = all_not (prepend Trees.none) s e (w Trees.none)
+
+  -- ---- bodies that add nothing
+
+  pub adds_nothing : (t : Tree) (s : Writing W) → AddsMember g t s s → length (der t) ≡ 0
+  adds_nothing t s w = nothing_grows s.level.content (der t) (ap (λ (x : Writing W). x.level.content) w.added)
+
+  pub adds_no_members : (t : Tree) (s : Writing W) → AddsAll g (Trees.more t Trees.none) s s → length (der t) ≡ 0
+  unfolding der encodings
+  adds_no_members t s w = nothing_grows s.level.content (der t) (ap (λ (x : Writing W). x.level.content) w.added)
+
+  pub prepends_nothing : (t : Tree) (s : Writing W) → AddsPrepended g (Trees.more t) s s → length (der t) ≡ 0
+  prepends_nothing t s w = adds_no_members t s (w.added Trees.none s refl)
 
   -- ---- bodies that change what the function returned
 
@@ -130,14 +145,14 @@ module _ {W : Type 0} (g : Ghosts W) where
 
 -- ---- a constant number of bytes
 
+abbrev pub null : Tree
+null = Tree.raw (5 ∷ (0 ∷ []))
+
 zero_no_two : ◌≡◌ {A = ℕ} 0 2 → ⊥
 zero_no_two p = grind arith
 
 one_no_two : ◌≡◌ {A = ℕ} 1 2 → ⊥
 one_no_two p = grind arith
-
-abbrev pub null : Tree
-null = Tree.raw (5 ∷ (0 ∷ []))
 
 pub overwrites_0 : (old new : List ℕ) → Overwrites null old 0 new → ⊥
 unfolding der tree_bytes

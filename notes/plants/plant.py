@@ -91,7 +91,8 @@ class Copy(planting.Copy):
     on_check = staticmethod(lambda: None)
 
     def key(self, it):
-        return f"{it.f.shown} {{ {it.body} }}"
+        # (without the line, so that a verdict stays where its file changes above it)
+        return re.sub(r"^(\S+?):\d+ ", r"\1 ", it.f.shown) + f" {{ {it.body} }}"
 
     def load_cache(self):
         self.cache_at = f"/work/h-plant-tool/cache/{self.crate.name}.json"
@@ -216,14 +217,17 @@ planting.Copy.saves = staticmethod(lambda: None)
 
 
 # What refuses a body that does nothing to the object: lemmas of scratch/refuted_*: after Ok it hadn't failed, after Err it had.
-OKS = "Writes WritesPlain WritesPrimitive WritesContent WritesWhole WritesAbsent EndsLevel IsUnsupported RefusesNumber AddsMember".split()
+OKS = "Writes WritesPlain WritesPrimitive WritesContent WritesWhole WritesAbsent EndsLevel IsUnsupported RefusesNumber AddsMember AddsAll AddsPrepended".split()
 OKS += "Reads ReadsPlain ReadsJudged ReadsPrimitive ReadsInt ReadsRaw ReadsWrapped Consumed ReadsMember OpensList".split()
-ERRS = "WritesPlain WritesPrimitive WritesContent WritesWhole WritesAbsent EndsLevel IsUnsupported RefusesNumber RefusesWrite RefusesBefore RefusesToAdd RefusesWrapper".split()
+ERRS = "WritesPlain WritesPrimitive WritesContent WritesWhole WritesAbsent EndsLevel IsUnsupported RefusesNumber RefusesWrite RefusesBefore RefusesToAdd".split()
 ERRS += "HadFailed LendsList Refuses RefusesPlain RefusesJudged RefusesPrimitive RefusesInt RefusesRaw Fails RefusesMember RefusesClose RefusesPeek RefusesIdentifier RefusesChoice".split()
 ERRS += "RefusesToAddAll RefusesPrepended RefusesLayout RefusesList LendsBytes LendsText".split()
+ERRS += "RefusesOptional RefusesDefault RefusesLayoutMember RefusesAfter RefusesAll".split()
 METHODS = {("Serialize", "serialize"): "Writes RefusesWrite", ("Deserialize", "deserialize"): "Reads Refuses", ("Contents", "serialize_under"): "WritesPrimitive",
-    ("SerializeMembers", "serialize_members"): "RefusesToAddAll", ("SerializeMember", "serialize_member"): "RefusesPrepended",
-    ("DeserializeMembers", "deserialize_members"): "RefusesLayout"}
+    ("SerializeMembers", "serialize_members"): "RefusesToAddAll AddsAll", ("SerializeMember", "serialize_member"): "RefusesPrepended AddsPrepended",
+    ("SerializeMembers", "serialize_sequence"): "Writes RefusesWrite",
+    ("DeserializeMembers", "deserialize_members"): "RefusesLayout", ("DeserializeMember", "deserialize_member"): "RefusesLayoutMember",
+    ("Alternatives", "deserialize_alternative"): "RefusesAfter"}
 
 
 def by_lemma(source, it):
@@ -235,6 +239,9 @@ def by_lemma(source, it):
         said = source.data[f.file][f.start : f.opens].decode()
     else:
         return ""
+    if f.in_trait and "".join(f.body) in (it.body.replace(" ", ""), "Ok(())"):
+        # (the real body)
+        return ""
     words = re.findall(r"[A-Za-z]+", said)
     side = OKS if it.body.startswith("Ok(") else ERRS if it.body.startswith("Err(") else []
     return next((w for w in words if w in side), "")
@@ -243,7 +250,7 @@ def by_lemma(source, it):
 # What refuses a body that changes what the function returned: lemmas of scratch/refuted_*.
 CHANGES = {
     "Ok(x) => Ok(x.wrapping_add(1)), Err(e) => Err(e)": "Writes WritesPlain WritesPrimitive WritesContent WritesAbsent EndsLevel SinkWrites Overwrites".split(),
-    "Ok(x) => Ok(x), Err(_) => Ok(": "Writes WritesPlain WritesPrimitive WritesContent WritesAbsent EndsLevel IsUnsupported AddsMember Reads ReadsPlain ReadsJudged ReadsPrimitive ReadsInt ReadsRaw".split(),
+    "Ok(x) => Ok(x), Err(_) => Ok(": "Writes WritesPlain WritesPrimitive WritesContent WritesAbsent EndsLevel IsUnsupported AddsMember Reads ReadsPlain ReadsJudged ReadsPrimitive ReadsInt ReadsRaw HasNoMore Lacks ReadsAll Identifies".split(),
     "Ok(x) => Ok(x), Err(_) => Err(": [*ERRS, "SinkRefuses" * 0],
 }
 

@@ -70,8 +70,11 @@ def run(texts, paths, number):
             flags = ['--jobs', '1', *[w for p in paths for w in ('--only', p)]]
             words = ['timeout', os.environ.get('LIMIT', '900'), rtlib.RATTLE, 'check', *crate.words(flags, keeps=False), '--incremental', inc]
             start = time.time()
-            ran = subprocess.run(words, cwd=room, stdin=subprocess.DEVNULL, stdout=subprocess.PIPE, stderr=subprocess.STDOUT, errors='replace')
-            open(f'{keep}/{crate_name}.{number}.txt', 'w', encoding='utf-8').write(' '.join(words) + '\n' + ran.stdout)
+            words += ['--progress']
+            at = f'{keep}/{crate_name}.{number}.txt'
+            with open(at, 'wb') as it:
+                ran = subprocess.run(words, cwd=room, stdin=subprocess.DEVNULL, stdout=it, stderr=subprocess.STDOUT)
+            ran.stdout = open(at, encoding='utf-8', errors='replace').read()
             print(f'-- {crate_name} check {number}: status {ran.returncode}, {time.time()-start:.0f} s, {len(paths)} paths', flush=True)
             if ran.returncode == 124: return None
             if ran.returncode == 2:
