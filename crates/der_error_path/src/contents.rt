@@ -51,7 +51,8 @@ fn content_node(kind: Kind) -> Option<u16>
     }
 }
 
-// Whether a value of this kind can have this content (X.690, 8.2 to 8.20, 11.7, 11.8). Strings and parts aren't looked at.
+// Whether a value of this kind can have this content (X.690, 8.2 to 8.20, 11.7, 11.8). Strings aren't looked at, nor
+// parts.
 fn kind_can_have(kind: Kind, content: &[u8]) -> bool
     ensures { result ≡ kind_can_have content.now kind }
 {
