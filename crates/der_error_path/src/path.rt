@@ -43,10 +43,11 @@ pub struct ErrorPath {
 
 /// Returns where the error is with which a type refused these bytes after so many of them, as `from_der` says.
 ///
-/// The error names the byte before this position, the last one that was consumed, if it is in a header that was refused,
-/// or ends an element whose content is refused or lacks a member. Else it names the byte at this position if that is in
-/// an element that the type doesn't have there, or that begins with another tag. So of two mistakes it is the first one.
-/// What is wrong in a string or a bit string, or by a constraint, is seen only if nothing is wrong at the position.
+/// The error names the byte before this position, the last one that was consumed, if it is in a header that was
+/// refused, or ends an element whose content is refused or lacks a member. Else it names the byte at this position if
+/// that is in an element that the type doesn't have there, or that begins with another tag. So of two mistakes it is
+/// the first one. What is wrong in a string or a bit string, or by a constraint, is seen only if nothing is wrong at
+/// the position.
 ///
 /// `AllocError` if an allocation fails.
 pub fn path_of_error(
