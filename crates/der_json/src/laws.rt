@@ -1,5 +1,11 @@
-//! Laws of messages and their JSON. Each is the contract of a function that does nothing.
+//! Laws of messages and their JSON. Those of the relation are contracts of functions that do nothing.
+ghost use Rattle.std.specs.Prelude.{◌≡◌, true, IfSome};
 ghost use Rattle.der_json.specs.Laws.{OneContent, OneMessage};
+ghost use Rattle.der_json.specs.Names.{has_names};
+
+use crate::{from_json, to_json};
+use der_schema::Schema;
+use std::alloc::Global;
 
 /// No two contents of a type without parts have one JSON, if its items have names of X.680: each begins with a small
 /// letter (12.3), and no two are one (20).
@@ -12,3 +18,17 @@ pub fn one_content()
 pub fn one_message()
     ensures { OneMessage }
 {}
+
+/// Returns the bytes that `from_json` returns of the JSON that `to_json` returns of these, or `None` if one of them
+/// refuses. They are these bytes, by a schema with such names.
+pub fn there_and_back(alloc: Global, schema: Schema, bytes: &[u8]) -> Option<Vec<u8>>
+    ensures { has_names schema.nodes.now ≡ true → IfSome result (λ again. again.items ≡ bytes.now) }
+{
+    let Ok(json) = to_json(alloc, schema, bytes) else {
+        return None;
+    };
+    match from_json(alloc, schema, &json) {
+        Ok(again) => Some(again),
+        Err(_) => None,
+    }
+}
