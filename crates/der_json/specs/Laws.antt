@@ -6,7 +6,7 @@ use Rattle.der_schema.specs.declared.node.Kind.{Kind}
 use Rattle.der_schema.specs.declared.node.Node.{Node}
 use Rattle.der_json.specs.Contents.{IsContentJson}
 use Rattle.der_json.specs.Json.{IsJson}
-use Rattle.der_json.specs.Names.{are_names, has_names, names_in}
+use Rattle.der_schema.specs.Names.{are_names, has_names, names_in}
 
 -- it is the JSON of one content only
 abbrev pub OneContent : Type 0

@@ -1,7 +1,7 @@
 //! Laws of messages and their JSON. Those of the relation are contracts of functions that do nothing.
 ghost use Rattle.std.specs.Prelude.{◌≡◌, true, IfSome};
 ghost use Rattle.der_json.specs.Laws.{OneContent, OneMessage};
-ghost use Rattle.der_json.specs.Names.{has_names};
+ghost use Rattle.der_schema.specs.Names.{has_names};
 
 use crate::{from_json, to_json};
 use der_schema::Schema;
