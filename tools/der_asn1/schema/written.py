@@ -40,7 +40,8 @@ def table_file(table: Table, types: dict[str, int], sources: dict[str, str], hom
     functions = [line for name in names for line in _function(name, types[name], sources[name], "nodes()" if shared else "&NODES")]
     return [
         *comment("", "//!", f"The schemas of types of {', '.join(modules)}."),
-        "ghost use Rattle.std.specs.Prelude.{◌≡◌};",
+        "ghost use Rattle.std.specs.Prelude.{◌≡◌, true};",
+        "ghost use Rattle.der_schema.specs.Names.{has_names};",
         "ghost use Rattle.der_schema.specs.NotationOf.{notation_of};",
         "",
         *imports({*used, "Schema", "Notated", *types}, paths),
@@ -65,7 +66,8 @@ def _function(name: str, index: int, source: str, nodes: str) -> list[str]:
         "",
         f"/// The schema of `{source}`.",
         f"pub fn {snake(name)}() -> Schema",
-        f"    ensures {{ notation_of result.nodes.now result.root ≡ ⟦<{name} as Notated>⟧.notation }}",
+        f"    ensures notation {{ notation_of result.nodes.now result.root ≡ ⟦<{name} as Notated>⟧.notation }}",
+        "    ensures names { has_names result.nodes.now ≡ true }",
         "{",
         f"{STEP}Schema {{",
         f"{STEP * 2}nodes: {nodes},",
@@ -76,12 +78,13 @@ def _function(name: str, index: int, source: str, nodes: str) -> list[str]:
 
 
 def _shared_nodes(types: dict[str, int]) -> list[str]:
-    """The function of all nodes, whose clauses say which node is each type: so they are gone through once, and not for each type."""
+    """The function of all nodes, whose clauses say what holds of them: so they are gone through once, and not for each type."""
     return [
         "",
-        "// the nodes, and which of them is each type",
+        "// the nodes, which of them is each type, and that their names are those of X.680",
         "fn nodes() -> &'static [Node]",
         *(f"    ensures {snake(name)} {{ notation_of result.now {index} ≡ ⟦<{name} as Notated>⟧.notation }}" for name, index in types.items()),
+        "    ensures are_named { has_names result.now ≡ true }",
         "{",
         f"{STEP}&NODES",
         "}",
