@@ -14,11 +14,11 @@ returns-in-Some c =
     c.args.step.now (mistake.Missing name)) (sym found.2)
     (IsMistake.missing e.tag e.content.now e.after.now (awaited c.args.inner) found.0 c.requires found.1)
 
-pub returns-then-node_can_have : goal.returns-then-node_can_have
-returns-then-node_can_have c =
+pub returns-then-not-node_can_have : goal.returns-then-not-node_can_have
+returns-then-not-node_can_have c =
     let e = c.args.element.now in
     let not : node_can_have c.args.nodes.now c.args.step.now.node e.content.now ≡ false =
-    sym c.node_can_have.ensures ∙ c.if-node_can_have.true in
+    sym c.node_can_have.ensures ∙ c.if-not-node_can_have.true in
     IsMistake.content e.tag e.content.now e.after.now (awaited c.args.inner) c.requires not
 
 pub returns-then-is_content_of : goal.returns-then-is_content_of
