@@ -1,6 +1,6 @@
 //! Laws of messages and their JSON. Those of the relation are contracts of functions that do nothing.
 ghost use Rattle.std.specs.Prelude.{◌≡◌, true, IfSome};
-ghost use Rattle.der_json.specs.Laws.{OneContent, OneMessage};
+ghost use Rattle.der_json.specs.Laws.{OneContent, OneJsonOfContent, OneMessage};
 ghost use Rattle.der_schema.specs.Names.{has_names};
 
 use crate::{from_json, to_json};
@@ -11,6 +11,12 @@ use std::alloc::Global;
 /// letter (12.3), and no two are one (20).
 pub fn one_content()
     ensures { OneContent }
+{}
+
+/// A content of a type without parts has only one JSON, unless it is that of an ENUMERATED with an extension marker: the
+/// definition also lets a number be the JSON of an item, which `to_json` doesn't return.
+pub fn one_json_of_content()
+    ensures { OneJsonOfContent }
 {}
 
 /// No two messages of a type have one JSON, if the members, alternatives or items of each type in it have such names

@@ -1,7 +1,7 @@
 use Rattle.std.proofs.Common.{◌≡◌, true, sym, arith}
 use Rattle.serde_json.specs.View.{view}
 use Rattle.picky_der_core.specs.Element.{AreBytes}
-use Rattle.picky_der_core.specs.ElementLaws.{bytes_by_index}
+use Rattle.picky_der_core.proofs.DigitLaws.{bytes_by_index}
 use Rattle.der_schema.specs.Names.{has_names}
 use Rattle.der_json.proofs.OneMessage.{one_message}
 use Rattle.der_json.proofs.laws.there_and_back.Goals as goal
