@@ -13,7 +13,7 @@ pub fn one_content()
     ensures { OneContent }
 {}
 
-/// A content of a type without parts has only one JSON, unless it is that of an ENUMERATED with an extension marker: the
+/// A content of a type without parts has only one JSON, unless the type is an ENUMERATED with an extension marker: the
 /// definition also lets a number be the JSON of an item, which `to_json` doesn't return.
 pub fn one_json_of_content()
     ensures { OneJsonOfContent }
