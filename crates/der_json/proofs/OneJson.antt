@@ -1,5 +1,5 @@
 -- A content has one JSON only.
-use Rattle.std.proofs.Common.{◌≡◌, Bool, true, false, List, ℕ, pos, Some, refl, sym, ap, ◌∙◌, arith}
+use Rattle.std.proofs.Common.{◌≡◌, ℕ, ◌==◌, Bool, true, false, List, [], ◌∷◌, Some, refl, sym, ap, ◌∙◌}
 use Rattle.serde_json.specs.Data.{Data, boolean}
 use Rattle.picky_der_core.specs.Primitive.{boolean_content}
 use Rattle.der_schema.specs.declared.node.Item.{Item}
@@ -9,10 +9,15 @@ use Rattle.der_json.specs.Contents.{IsArcsJson, IsBitsJson, IsContentJson, IsStr
 use Rattle.der_json.specs.Laws.{OneJsonOfContent, has_two_forms}
 use Rattle.der_json.specs.Numbers.{IsItemJson, IsNumberJson, item_name}
 
+-- the value of a content
+abbrev value_of : List ℕ → Bool
+value_of [] = false
+value_of (x ∷ xs) = x == 0xFF
+
 same_boolean : (b c : Bool) → boolean_content b ≡ boolean_content c → b ≡ c
 same_boolean true true e = refl
-same_boolean true false e = let byte : 0xFF ≡ 0x00 = cc in absurd (omega arith)
-same_boolean false true e = let byte : 0x00 ≡ 0xFF = cc in absurd (omega arith)
+same_boolean true false e = ap value_of e
+same_boolean false true e = ap value_of e
 same_boolean false false e = refl
 
 of_number : (s : List ℕ) (d e : Data) → IsNumberJson s d → IsNumberJson s e → d ≡ e

@@ -6,15 +6,9 @@ use Rattle.der_schema.specs.Names.{has_names}
 use Rattle.der_json.proofs.OneMessage.{one_message}
 use Rattle.der_json.proofs.laws.there_and_back.Goals as goal
 
-pub returns-in_default : goal.returns-in_default
-returns-in_default c = λ names. tt
-
-pub returns-in-Err : goal.returns-in-Err
-returns-in-Err c = λ names. tt
-
-pub returns-in-Ok-again : goal.returns-in-Ok-again
-returns-in-Ok-again c = λ names.
+pub returns-in-Ok-from_json : goal.returns-in-Ok-from_json
+returns-in-Ok-from_json c = λ names.
     let before : AreBytes c.args.bytes.now = bytes_by_index _ (λ i. omega (arith, c.type_inv.bytes i)) in
-    let after : AreBytes c.in-Ok-again.again.items = bytes_by_index _ (λ i. omega (arith, c.type_inv.again i)) in
-    sym (one_message c.args.schema.nodes.now c.args.schema.root true c.args.bytes.now c.in-Ok-again.again.items
-    (view c.in-Ok.json) names before after c.in-Ok.ensures c.in-Ok-again.ensures.ok)
+    let after : AreBytes c.in-Ok-from_json.again.items = bytes_by_index _ (λ i. omega (arith, c.type_inv.again i)) in
+    sym (one_message c.args.schema.nodes.now c.args.schema.root true c.args.bytes.now c.in-Ok-from_json.again.items
+    (view c.in-Ok.json) names before after c.in-Ok.ensures c.in-Ok-from_json.ensures.ok)
