@@ -10,7 +10,8 @@ use Rattle.der_schema.specs.declared.node.Kind.{Kind}
 use Rattle.der_schema.specs.declared.node.Kind.TheVariants as kind
 use Rattle.der_schema.specs.declared.node.Node.{Node}
 use Rattle.der_ber_types.specs.declared.inside.Inside.{Inside}
-use Rattle.der_ber_types.specs.Kinds.{same_type, same_content, inside_same, inside_here, in_parts, own_tag}
+use Rattle.der_schema.specs.Tags.{same_type, same_content, own_tag}
+use Rattle.der_ber_types.specs.Kinds.{inside_same, inside_here, in_parts}
 use Rattle.der_ber_types.specs.Inside.{HasInside, HasTag, IsInside, IsInsideOne, IsInsideOwn, IsNoInside, IsNoInsideOwn}
 use Rattle.der_ber_types.specs.Inside.{HasNoneTag, NoneBefore, IsAny}
 

@@ -36,8 +36,9 @@ use Rattle.der_ber_types.specs.declared.inside.Inside.TheVariants as inside
 use Rattle.der_ber_types.specs.Content.{IsContent, IsOne}
 use Rattle.der_ber_types.specs.Contents.{IsTruth}
 use Rattle.der_ber_types.specs.Inside.{HasInside, IsAny, IsInside, IsInsideOne, IsInsideOwn, NoneBefore}
-use Rattle.der_ber_types.specs.Kinds.{same_type, same_content, inside_same, inside_here, in_any_order, tag_in_der}
-use Rattle.der_ber_types.specs.Kinds.{own_tag, own_wrapper_tag}
+use Rattle.der_schema.specs.Tags.{same_type, same_content}
+use Rattle.der_ber_types.specs.Kinds.{inside_same, inside_here, in_any_order, tag_in_der}
+use Rattle.der_schema.specs.Tags.{own_tag, own_wrapper_tag}
 use Rattle.der_ber_types.specs.Order.{AreInOrder}
 use Rattle.der_ber_types.specs.Tables.{AreAllApart, AreAlternativesApart, IsInTag, IsSoundTable}
 use Rattle.der_ber_types.proofs.InsideLemmas.{tag_of}

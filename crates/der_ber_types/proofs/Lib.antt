@@ -10,3 +10,6 @@ pub mod KindDer
 pub mod Refusals
 pub mod CallRefusals
 pub mod LawLemmas
+pub mod TableTags
+pub mod TableDefaults
+pub mod SoundTables

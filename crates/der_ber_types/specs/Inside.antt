@@ -8,7 +8,8 @@ use Rattle.der_schema.specs.declared.node.Kind.TheVariants as kind
 use Rattle.der_schema.specs.declared.node.Node.{Node}
 use Rattle.der_ber_types.specs.declared.inside.Inside.{Inside}
 use Rattle.der_ber_types.specs.declared.inside.Inside.TheVariants as inside
-use Rattle.der_ber_types.specs.Kinds.{same_type, same_content, inside_same, inside_here, in_parts, own_tag}
+use Rattle.der_schema.specs.Tags.{same_type, same_content, own_tag}
+use Rattle.der_ber_types.specs.Kinds.{inside_same, inside_here, in_parts}
 
 -- an element of the node's type has this in it, whatever tag it has
 pub data HasInside (nodes : List Node) : ℕ → Inside → Type 0 where

@@ -1,11 +1,12 @@
 -- What the relation of BER and DER says.
-use Rattle.std.specs.Prelude.{◌≡◌, List, ℕ}
+use Rattle.std.specs.Prelude.{◌≡◌, List, ℕ, true}
 use Rattle.picky_der_core.specs.Encoding.{der}
 use Rattle.picky_der_core.specs.Readable.{IsReadable}
 use Rattle.picky_der_core.specs.Tree.{Tree}
 use Rattle.der_ber.specs.WholeStrings.{IsMadeWhole}
 use Rattle.der_types.specs.Denotes.{Denotes}
 use Rattle.der_schema.specs.NotationOf.{notation_of}
+use Rattle.der_schema.specs.Rules.{keeps_rules}
 use Rattle.der_schema.specs.declared.node.Node.{Node}
 use Rattle.der_ber_types.specs.Tables.{IsSoundTable}
 use Rattle.der_ber_types.specs.ToDer.{IsBer}
@@ -22,3 +23,7 @@ abbrev pub DerIsOwnBer : Type 0
 DerIsOwnBer =
     (nodes : List Node) (i : ℕ) (t : Tree) → IsSoundTable nodes → Denotes (notation_of nodes i) t → IsReadable t
     → IsMadeWhole (der t) (der t) → IsBer nodes i (der t) (der t)
+
+-- A table that passes the test keeps the rules by which elements are distinguished.
+abbrev pub RulesAreKept : Type 0
+RulesAreKept = (nodes : List Node) → keeps_rules nodes ≡ true → IsSoundTable nodes

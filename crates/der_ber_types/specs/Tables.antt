@@ -16,7 +16,7 @@ use Rattle.der_schema.specs.declared.node.Member.{Member}
 use Rattle.der_schema.specs.declared.node.Node.{Node}
 use Rattle.der_schema.specs.declared.node.Presence.TheVariants.{Required}
 use Rattle.der_ber_types.specs.declared.inside.Inside.TheVariants as inside
-use Rattle.der_ber_types.specs.Kinds.{same_type, same_content}
+use Rattle.der_schema.specs.Tags.{same_type, same_content}
 use Rattle.der_ber_types.specs.Inside.{HasInside, HasTag}
 use Rattle.der_ber_types.specs.Values.{IsDefault}
 

@@ -1,14 +1,7 @@
 //! What a kind of types says of its elements.
 ghost use Rattle.std.specs.Prelude.{◌≡◌};
-ghost use Rattle.der_ber_types.specs.Kinds.{
-  same_type,
-  same_content,
-  in_any_order,
-  inside_same,
-  inside_here,
-  own_tag,
-  own_wrapper_tag,
-};
+ghost use Rattle.der_schema.specs.Tags.{same_type, same_content, own_tag, own_wrapper_tag};
+ghost use Rattle.der_ber_types.specs.Kinds.{in_any_order, inside_same, inside_here};
 
 use crate::inside::Inside;
 use der_schema::Kind;

@@ -1,5 +1,5 @@
 //! What the relation of BER and DER says: each law is the contract of a function that does nothing.
-ghost use Rattle.der_ber_types.specs.Laws.{OneDer, DerIsOwnBer};
+ghost use Rattle.der_ber_types.specs.Laws.{OneDer, DerIsOwnBer, RulesAreKept};
 
 /// Bytes are BER of one DER only, by a type.
 pub fn one_der()
@@ -10,4 +10,9 @@ pub fn one_der()
 /// and elements of any type have elements in them at every depth, if they are constructed.
 pub fn own_ber()
     ensures { DerIsOwnBer }
+{}
+
+/// A table of which the clause `rules` holds, as each one of `der_schemas`, is one of which `own_ber` speaks.
+pub fn sound_table()
+    ensures { RulesAreKept }
 {}
