@@ -2,6 +2,7 @@
 ghost use Rattle.std.specs.Prelude.{◌≡◌, true, IfSome};
 ghost use Rattle.der_json.specs.Laws.{OneContent, OneJsonOfContent, OneMessage};
 ghost use Rattle.der_schema.specs.Names.{has_names};
+ghost use Rattle.picky_der_core.specs.Element.{AreBytes};
 
 use crate::{from_json, to_json};
 use der_schema::Schema;
@@ -34,7 +35,16 @@ pub fn there_and_back(alloc: Global, schema: Schema, bytes: &[u8]) -> Option<Vec
         return None;
     };
     match from_json(alloc, schema, &json) {
-        Ok(again) => Some(again),
+        Ok(again) => {
+            // No effect at run time.
+            are_bytes(again.as_slice());
+            Some(again)
+        }
         Err(_) => None,
     }
 }
+
+// Bytes are numbers below 256.
+fn are_bytes(bytes: &[u8])
+    ensures { AreBytes bytes.now }
+{}

@@ -1,4 +1,4 @@
-use Rattle.std.proofs.Common.{◌≡◌, true, sym, arith}
+use Rattle.std.proofs.Common.{◌≡◌, true, sym, subst, arith}
 use Rattle.serde_json.specs.View.{view}
 use Rattle.picky_der_core.specs.Element.{AreBytes}
 use Rattle.picky_der_core.proofs.DigitLaws.{bytes_by_index}
@@ -9,6 +9,6 @@ use Rattle.der_json.proofs.laws.there_and_back.Goals as goal
 pub returns-in-Ok-from_json : goal.returns-in-Ok-from_json
 returns-in-Ok-from_json c = λ names.
     let before : AreBytes c.args.bytes.now = bytes_by_index _ (λ i. omega (arith, c.type_inv.bytes i)) in
-    let after : AreBytes c.in-Ok-from_json.again.items = bytes_by_index _ (λ i. omega (arith, c.type_inv.again i)) in
+    let after : AreBytes c.in-Ok-from_json.again.items = subst AreBytes c.as_slice.ensures.value c.are_bytes.ensures in
     sym (one_message c.args.schema.nodes.now c.args.schema.root true c.args.bytes.now c.in-Ok-from_json.again.items
     (view c.in-Ok.json) names before after c.in-Ok.ensures c.in-Ok-from_json.ensures.ok)
