@@ -4,6 +4,7 @@
 ghost use Rattle.std.specs.Prelude.{◌≡◌, true};
 ghost use Rattle.der_schema.specs.Names.{has_names};
 ghost use Rattle.der_schema.specs.NotationOf.{notation_of};
+ghost use Rattle.der_schema.specs.Rules.{keeps_rules};
 
 use der_algorithms::{DssParms, EcdsaSigValue, EcpkParameters};
 use der_schema::{Alternative, Kind, Member, Node, Presence, Schema};
@@ -13,6 +14,7 @@ use der_types::Notated;
 pub fn dss_parms() -> Schema
     ensures notation { notation_of result.nodes.now result.root ≡ ⟦<DssParms as Notated>⟧.notation }
     ensures names { has_names result.nodes.now ≡ true }
+    ensures rules { keeps_rules result.nodes.now ≡ true }
 {
     Schema {
         nodes: nodes(),
@@ -24,6 +26,7 @@ pub fn dss_parms() -> Schema
 pub fn ecdsa_sig_value() -> Schema
     ensures notation { notation_of result.nodes.now result.root ≡ ⟦<EcdsaSigValue as Notated>⟧.notation }
     ensures names { has_names result.nodes.now ≡ true }
+    ensures rules { keeps_rules result.nodes.now ≡ true }
 {
     Schema {
         nodes: nodes(),
@@ -35,6 +38,7 @@ pub fn ecdsa_sig_value() -> Schema
 pub fn ecpk_parameters() -> Schema
     ensures notation { notation_of result.nodes.now result.root ≡ ⟦<EcpkParameters as Notated>⟧.notation }
     ensures names { has_names result.nodes.now ≡ true }
+    ensures rules { keeps_rules result.nodes.now ≡ true }
 {
     Schema {
         nodes: nodes(),
@@ -42,12 +46,13 @@ pub fn ecpk_parameters() -> Schema
     }
 }
 
-// the nodes, which of them is each type, and that their names are those of X.680
+// the nodes, which of them is each type, and the rules of X.680 that they keep
 fn nodes() -> &'static [Node]
     ensures dss_parms { notation_of result.now 1 ≡ ⟦<DssParms as Notated>⟧.notation }
     ensures ecdsa_sig_value { notation_of result.now 2 ≡ ⟦<EcdsaSigValue as Notated>⟧.notation }
     ensures ecpk_parameters { notation_of result.now 13 ≡ ⟦<EcpkParameters as Notated>⟧.notation }
     ensures are_named { has_names result.now ≡ true }
+    ensures are_kept { keeps_rules result.now ≡ true }
 {
     &NODES
 }

@@ -4,6 +4,7 @@
 ghost use Rattle.std.specs.Prelude.{◌≡◌, true};
 ghost use Rattle.der_schema.specs.Names.{has_names};
 ghost use Rattle.der_schema.specs.NotationOf.{notation_of};
+ghost use Rattle.der_schema.specs.Rules.{keeps_rules};
 
 use der_cms::{ContentInfo, DigestedData, EncryptedData};
 use der_schema::{Kind, Member, Node, Presence, Schema};
@@ -14,6 +15,7 @@ use picky_der_core::asn1::Wrapper;
 pub fn content_info() -> Schema
     ensures notation { notation_of result.nodes.now result.root ≡ ⟦<ContentInfo as Notated>⟧.notation }
     ensures names { has_names result.nodes.now ≡ true }
+    ensures rules { keeps_rules result.nodes.now ≡ true }
 {
     Schema {
         nodes: nodes(),
@@ -25,6 +27,7 @@ pub fn content_info() -> Schema
 pub fn digested_data() -> Schema
     ensures notation { notation_of result.nodes.now result.root ≡ ⟦<DigestedData as Notated>⟧.notation }
     ensures names { has_names result.nodes.now ≡ true }
+    ensures rules { keeps_rules result.nodes.now ≡ true }
 {
     Schema {
         nodes: nodes(),
@@ -36,6 +39,7 @@ pub fn digested_data() -> Schema
 pub fn encrypted_data() -> Schema
     ensures notation { notation_of result.nodes.now result.root ≡ ⟦<EncryptedData as Notated>⟧.notation }
     ensures names { has_names result.nodes.now ≡ true }
+    ensures rules { keeps_rules result.nodes.now ≡ true }
 {
     Schema {
         nodes: nodes(),
@@ -43,12 +47,13 @@ pub fn encrypted_data() -> Schema
     }
 }
 
-// the nodes, which of them is each type, and that their names are those of X.680
+// the nodes, which of them is each type, and the rules of X.680 that they keep
 fn nodes() -> &'static [Node]
     ensures content_info { notation_of result.now 3 ≡ ⟦<ContentInfo as Notated>⟧.notation }
     ensures digested_data { notation_of result.now 12 ≡ ⟦<DigestedData as Notated>⟧.notation }
     ensures encrypted_data { notation_of result.now 23 ≡ ⟦<EncryptedData as Notated>⟧.notation }
     ensures are_named { has_names result.now ≡ true }
+    ensures are_kept { keeps_rules result.now ≡ true }
 {
     &NODES
 }

@@ -4,6 +4,7 @@
 ghost use Rattle.std.specs.Prelude.{◌≡◌, true};
 ghost use Rattle.der_schema.specs.Names.{has_names};
 ghost use Rattle.der_schema.specs.NotationOf.{notation_of};
+ghost use Rattle.der_schema.specs.Rules.{keeps_rules};
 
 use der_algorithms::{
     AesIv, GcmParameters, PbeParameter, Pbes2Params, Pbkdf2Params, Rc2CbcParameter,
@@ -17,6 +18,7 @@ use picky_der_core::asn1::Wrapper;
 pub fn aes_iv() -> Schema
     ensures notation { notation_of result.nodes.now result.root ≡ ⟦<AesIv as Notated>⟧.notation }
     ensures names { has_names result.nodes.now ≡ true }
+    ensures rules { keeps_rules result.nodes.now ≡ true }
 {
     Schema {
         nodes: nodes(),
@@ -28,6 +30,7 @@ pub fn aes_iv() -> Schema
 pub fn gcm_parameters() -> Schema
     ensures notation { notation_of result.nodes.now result.root ≡ ⟦<GcmParameters as Notated>⟧.notation }
     ensures names { has_names result.nodes.now ≡ true }
+    ensures rules { keeps_rules result.nodes.now ≡ true }
 {
     Schema {
         nodes: nodes(),
@@ -39,6 +42,7 @@ pub fn gcm_parameters() -> Schema
 pub fn pbe_parameter() -> Schema
     ensures notation { notation_of result.nodes.now result.root ≡ ⟦<PbeParameter as Notated>⟧.notation }
     ensures names { has_names result.nodes.now ≡ true }
+    ensures rules { keeps_rules result.nodes.now ≡ true }
 {
     Schema {
         nodes: nodes(),
@@ -50,6 +54,7 @@ pub fn pbe_parameter() -> Schema
 pub fn pbes2_params() -> Schema
     ensures notation { notation_of result.nodes.now result.root ≡ ⟦<Pbes2Params as Notated>⟧.notation }
     ensures names { has_names result.nodes.now ≡ true }
+    ensures rules { keeps_rules result.nodes.now ≡ true }
 {
     Schema {
         nodes: nodes(),
@@ -61,6 +66,7 @@ pub fn pbes2_params() -> Schema
 pub fn pbkdf2_params() -> Schema
     ensures notation { notation_of result.nodes.now result.root ≡ ⟦<Pbkdf2Params as Notated>⟧.notation }
     ensures names { has_names result.nodes.now ≡ true }
+    ensures rules { keeps_rules result.nodes.now ≡ true }
 {
     Schema {
         nodes: nodes(),
@@ -72,6 +78,7 @@ pub fn pbkdf2_params() -> Schema
 pub fn rc2_cbc_parameter() -> Schema
     ensures notation { notation_of result.nodes.now result.root ≡ ⟦<Rc2CbcParameter as Notated>⟧.notation }
     ensures names { has_names result.nodes.now ≡ true }
+    ensures rules { keeps_rules result.nodes.now ≡ true }
 {
     Schema {
         nodes: nodes(),
@@ -83,6 +90,7 @@ pub fn rc2_cbc_parameter() -> Schema
 pub fn rsaes_oaep_params() -> Schema
     ensures notation { notation_of result.nodes.now result.root ≡ ⟦<RsaesOaepParams as Notated>⟧.notation }
     ensures names { has_names result.nodes.now ≡ true }
+    ensures rules { keeps_rules result.nodes.now ≡ true }
 {
     Schema {
         nodes: nodes(),
@@ -94,6 +102,7 @@ pub fn rsaes_oaep_params() -> Schema
 pub fn rsassa_pss_params() -> Schema
     ensures notation { notation_of result.nodes.now result.root ≡ ⟦<RsassaPssParams as Notated>⟧.notation }
     ensures names { has_names result.nodes.now ≡ true }
+    ensures rules { keeps_rules result.nodes.now ≡ true }
 {
     Schema {
         nodes: nodes(),
@@ -105,6 +114,7 @@ pub fn rsassa_pss_params() -> Schema
 pub fn scrypt_params() -> Schema
     ensures notation { notation_of result.nodes.now result.root ≡ ⟦<ScryptParams as Notated>⟧.notation }
     ensures names { has_names result.nodes.now ≡ true }
+    ensures rules { keeps_rules result.nodes.now ≡ true }
 {
     Schema {
         nodes: nodes(),
@@ -112,7 +122,7 @@ pub fn scrypt_params() -> Schema
     }
 }
 
-// the nodes, which of them is each type, and that their names are those of X.680
+// the nodes, which of them is each type, and the rules of X.680 that they keep
 fn nodes() -> &'static [Node]
     ensures aes_iv { notation_of result.now 20 ≡ ⟦<AesIv as Notated>⟧.notation }
     ensures gcm_parameters { notation_of result.now 25 ≡ ⟦<GcmParameters as Notated>⟧.notation }
@@ -124,6 +134,7 @@ fn nodes() -> &'static [Node]
     ensures rsassa_pss_params { notation_of result.now 8 ≡ ⟦<RsassaPssParams as Notated>⟧.notation }
     ensures scrypt_params { notation_of result.now 22 ≡ ⟦<ScryptParams as Notated>⟧.notation }
     ensures are_named { has_names result.now ≡ true }
+    ensures are_kept { keeps_rules result.now ≡ true }
 {
     &NODES
 }

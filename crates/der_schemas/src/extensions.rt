@@ -4,6 +4,7 @@
 ghost use Rattle.std.specs.Prelude.{◌≡◌, true};
 ghost use Rattle.der_schema.specs.Names.{has_names};
 ghost use Rattle.der_schema.specs.NotationOf.{notation_of};
+ghost use Rattle.der_schema.specs.Rules.{keeps_rules};
 
 use der_pkix::{
     BaseCrlNumber, BasicConstraints, CertificatePolicies, CrlNumber, CrlReason, ExtKeyUsageSyntax,
@@ -18,6 +19,7 @@ use picky_der_core::asn1::Wrapper;
 pub fn base_crl_number() -> Schema
     ensures notation { notation_of result.nodes.now result.root ≡ ⟦<BaseCrlNumber as Notated>⟧.notation }
     ensures names { has_names result.nodes.now ≡ true }
+    ensures rules { keeps_rules result.nodes.now ≡ true }
 {
     Schema {
         nodes: nodes(),
@@ -29,6 +31,7 @@ pub fn base_crl_number() -> Schema
 pub fn basic_constraints() -> Schema
     ensures notation { notation_of result.nodes.now result.root ≡ ⟦<BasicConstraints as Notated>⟧.notation }
     ensures names { has_names result.nodes.now ≡ true }
+    ensures rules { keeps_rules result.nodes.now ≡ true }
 {
     Schema {
         nodes: nodes(),
@@ -40,6 +43,7 @@ pub fn basic_constraints() -> Schema
 pub fn certificate_policies() -> Schema
     ensures notation { notation_of result.nodes.now result.root ≡ ⟦<CertificatePolicies as Notated>⟧.notation }
     ensures names { has_names result.nodes.now ≡ true }
+    ensures rules { keeps_rules result.nodes.now ≡ true }
 {
     Schema {
         nodes: nodes(),
@@ -51,6 +55,7 @@ pub fn certificate_policies() -> Schema
 pub fn crl_number() -> Schema
     ensures notation { notation_of result.nodes.now result.root ≡ ⟦<CrlNumber as Notated>⟧.notation }
     ensures names { has_names result.nodes.now ≡ true }
+    ensures rules { keeps_rules result.nodes.now ≡ true }
 {
     Schema {
         nodes: nodes(),
@@ -62,6 +67,7 @@ pub fn crl_number() -> Schema
 pub fn crl_reason() -> Schema
     ensures notation { notation_of result.nodes.now result.root ≡ ⟦<CrlReason as Notated>⟧.notation }
     ensures names { has_names result.nodes.now ≡ true }
+    ensures rules { keeps_rules result.nodes.now ≡ true }
 {
     Schema {
         nodes: nodes(),
@@ -73,6 +79,7 @@ pub fn crl_reason() -> Schema
 pub fn ext_key_usage_syntax() -> Schema
     ensures notation { notation_of result.nodes.now result.root ≡ ⟦<ExtKeyUsageSyntax as Notated>⟧.notation }
     ensures names { has_names result.nodes.now ≡ true }
+    ensures rules { keeps_rules result.nodes.now ≡ true }
 {
     Schema {
         nodes: nodes(),
@@ -84,6 +91,7 @@ pub fn ext_key_usage_syntax() -> Schema
 pub fn inhibit_any_policy() -> Schema
     ensures notation { notation_of result.nodes.now result.root ≡ ⟦<InhibitAnyPolicy as Notated>⟧.notation }
     ensures names { has_names result.nodes.now ≡ true }
+    ensures rules { keeps_rules result.nodes.now ≡ true }
 {
     Schema {
         nodes: nodes(),
@@ -95,6 +103,7 @@ pub fn inhibit_any_policy() -> Schema
 pub fn invalidity_date() -> Schema
     ensures notation { notation_of result.nodes.now result.root ≡ ⟦<InvalidityDate as Notated>⟧.notation }
     ensures names { has_names result.nodes.now ≡ true }
+    ensures rules { keeps_rules result.nodes.now ≡ true }
 {
     Schema {
         nodes: nodes(),
@@ -106,6 +115,7 @@ pub fn invalidity_date() -> Schema
 pub fn policy_constraints() -> Schema
     ensures notation { notation_of result.nodes.now result.root ≡ ⟦<PolicyConstraints as Notated>⟧.notation }
     ensures names { has_names result.nodes.now ≡ true }
+    ensures rules { keeps_rules result.nodes.now ≡ true }
 {
     Schema {
         nodes: nodes(),
@@ -117,6 +127,7 @@ pub fn policy_constraints() -> Schema
 pub fn policy_mappings() -> Schema
     ensures notation { notation_of result.nodes.now result.root ≡ ⟦<PolicyMappings as Notated>⟧.notation }
     ensures names { has_names result.nodes.now ≡ true }
+    ensures rules { keeps_rules result.nodes.now ≡ true }
 {
     Schema {
         nodes: nodes(),
@@ -128,6 +139,7 @@ pub fn policy_mappings() -> Schema
 pub fn subject_key_identifier() -> Schema
     ensures notation { notation_of result.nodes.now result.root ≡ ⟦<SubjectKeyIdentifier as Notated>⟧.notation }
     ensures names { has_names result.nodes.now ≡ true }
+    ensures rules { keeps_rules result.nodes.now ≡ true }
 {
     Schema {
         nodes: nodes(),
@@ -139,6 +151,7 @@ pub fn subject_key_identifier() -> Schema
 pub fn user_notice() -> Schema
     ensures notation { notation_of result.nodes.now result.root ≡ ⟦<UserNotice as Notated>⟧.notation }
     ensures names { has_names result.nodes.now ≡ true }
+    ensures rules { keeps_rules result.nodes.now ≡ true }
 {
     Schema {
         nodes: nodes(),
@@ -146,7 +159,7 @@ pub fn user_notice() -> Schema
     }
 }
 
-// the nodes, which of them is each type, and that their names are those of X.680
+// the nodes, which of them is each type, and the rules of X.680 that they keep
 fn nodes() -> &'static [Node]
     ensures base_crl_number { notation_of result.now 39 ≡ ⟦<BaseCrlNumber as Notated>⟧.notation }
     ensures basic_constraints { notation_of result.now 29 ≡ ⟦<BasicConstraints as Notated>⟧.notation }
@@ -161,6 +174,7 @@ fn nodes() -> &'static [Node]
     ensures subject_key_identifier { notation_of result.now 1 ≡ ⟦<SubjectKeyIdentifier as Notated>⟧.notation }
     ensures user_notice { notation_of result.now 23 ≡ ⟦<UserNotice as Notated>⟧.notation }
     ensures are_named { has_names result.now ≡ true }
+    ensures are_kept { keeps_rules result.now ≡ true }
 {
     &NODES
 }

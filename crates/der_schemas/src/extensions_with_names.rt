@@ -4,6 +4,7 @@
 ghost use Rattle.std.specs.Prelude.{◌≡◌, true};
 ghost use Rattle.der_schema.specs.Names.{has_names};
 ghost use Rattle.der_schema.specs.NotationOf.{notation_of};
+ghost use Rattle.der_schema.specs.Rules.{keeps_rules};
 
 use der_pkix::{
     AuthorityInfoAccessSyntax, AuthorityKeyIdentifier, CertificateIssuer, CrlDistributionPoints,
@@ -18,6 +19,7 @@ use picky_der_core::asn1::Wrapper;
 pub fn authority_info_access_syntax() -> Schema
     ensures notation { notation_of result.nodes.now result.root ≡ ⟦<AuthorityInfoAccessSyntax as Notated>⟧.notation }
     ensures names { has_names result.nodes.now ≡ true }
+    ensures rules { keeps_rules result.nodes.now ≡ true }
 {
     Schema {
         nodes: nodes(),
@@ -29,6 +31,7 @@ pub fn authority_info_access_syntax() -> Schema
 pub fn authority_key_identifier() -> Schema
     ensures notation { notation_of result.nodes.now result.root ≡ ⟦<AuthorityKeyIdentifier as Notated>⟧.notation }
     ensures names { has_names result.nodes.now ≡ true }
+    ensures rules { keeps_rules result.nodes.now ≡ true }
 {
     Schema {
         nodes: nodes(),
@@ -40,6 +43,7 @@ pub fn authority_key_identifier() -> Schema
 pub fn certificate_issuer() -> Schema
     ensures notation { notation_of result.nodes.now result.root ≡ ⟦<CertificateIssuer as Notated>⟧.notation }
     ensures names { has_names result.nodes.now ≡ true }
+    ensures rules { keeps_rules result.nodes.now ≡ true }
 {
     Schema {
         nodes: nodes(),
@@ -51,6 +55,7 @@ pub fn certificate_issuer() -> Schema
 pub fn crl_distribution_points() -> Schema
     ensures notation { notation_of result.nodes.now result.root ≡ ⟦<CrlDistributionPoints as Notated>⟧.notation }
     ensures names { has_names result.nodes.now ≡ true }
+    ensures rules { keeps_rules result.nodes.now ≡ true }
 {
     Schema {
         nodes: nodes(),
@@ -62,6 +67,7 @@ pub fn crl_distribution_points() -> Schema
 pub fn freshest_crl() -> Schema
     ensures notation { notation_of result.nodes.now result.root ≡ ⟦<FreshestCrl as Notated>⟧.notation }
     ensures names { has_names result.nodes.now ≡ true }
+    ensures rules { keeps_rules result.nodes.now ≡ true }
 {
     Schema {
         nodes: nodes(),
@@ -73,6 +79,7 @@ pub fn freshest_crl() -> Schema
 pub fn issuer_alt_name() -> Schema
     ensures notation { notation_of result.nodes.now result.root ≡ ⟦<IssuerAltName as Notated>⟧.notation }
     ensures names { has_names result.nodes.now ≡ true }
+    ensures rules { keeps_rules result.nodes.now ≡ true }
 {
     Schema {
         nodes: nodes(),
@@ -84,6 +91,7 @@ pub fn issuer_alt_name() -> Schema
 pub fn issuing_distribution_point() -> Schema
     ensures notation { notation_of result.nodes.now result.root ≡ ⟦<IssuingDistributionPoint as Notated>⟧.notation }
     ensures names { has_names result.nodes.now ≡ true }
+    ensures rules { keeps_rules result.nodes.now ≡ true }
 {
     Schema {
         nodes: nodes(),
@@ -95,6 +103,7 @@ pub fn issuing_distribution_point() -> Schema
 pub fn name_constraints() -> Schema
     ensures notation { notation_of result.nodes.now result.root ≡ ⟦<NameConstraints as Notated>⟧.notation }
     ensures names { has_names result.nodes.now ≡ true }
+    ensures rules { keeps_rules result.nodes.now ≡ true }
 {
     Schema {
         nodes: nodes(),
@@ -106,6 +115,7 @@ pub fn name_constraints() -> Schema
 pub fn subject_alt_name() -> Schema
     ensures notation { notation_of result.nodes.now result.root ≡ ⟦<SubjectAltName as Notated>⟧.notation }
     ensures names { has_names result.nodes.now ≡ true }
+    ensures rules { keeps_rules result.nodes.now ≡ true }
 {
     Schema {
         nodes: nodes(),
@@ -117,6 +127,7 @@ pub fn subject_alt_name() -> Schema
 pub fn subject_info_access_syntax() -> Schema
     ensures notation { notation_of result.nodes.now result.root ≡ ⟦<SubjectInfoAccessSyntax as Notated>⟧.notation }
     ensures names { has_names result.nodes.now ≡ true }
+    ensures rules { keeps_rules result.nodes.now ≡ true }
 {
     Schema {
         nodes: nodes(),
@@ -124,7 +135,7 @@ pub fn subject_info_access_syntax() -> Schema
     }
 }
 
-// the nodes, which of them is each type, and that their names are those of X.680
+// the nodes, which of them is each type, and the rules of X.680 that they keep
 fn nodes() -> &'static [Node]
     ensures authority_info_access_syntax { notation_of result.now 58 ≡ ⟦<AuthorityInfoAccessSyntax as Notated>⟧.notation }
     ensures authority_key_identifier { notation_of result.now 32 ≡ ⟦<AuthorityKeyIdentifier as Notated>⟧.notation }
@@ -137,6 +148,7 @@ fn nodes() -> &'static [Node]
     ensures subject_alt_name { notation_of result.now 33 ≡ ⟦<SubjectAltName as Notated>⟧.notation }
     ensures subject_info_access_syntax { notation_of result.now 59 ≡ ⟦<SubjectInfoAccessSyntax as Notated>⟧.notation }
     ensures are_named { has_names result.now ≡ true }
+    ensures are_kept { keeps_rules result.now ≡ true }
 {
     &NODES
 }

@@ -4,6 +4,7 @@
 ghost use Rattle.std.specs.Prelude.{◌≡◌, true};
 ghost use Rattle.der_schema.specs.Names.{has_names};
 ghost use Rattle.der_schema.specs.NotationOf.{notation_of};
+ghost use Rattle.der_schema.specs.Rules.{keeps_rules};
 
 use der_kerberos::{ApRep, ApReq, Authenticator};
 use der_schema::{Kind, Member, Node, Presence, Schema};
@@ -14,6 +15,7 @@ use picky_der_core::asn1::Wrapper;
 pub fn ap_rep() -> Schema
     ensures notation { notation_of result.nodes.now result.root ≡ ⟦<ApRep as Notated>⟧.notation }
     ensures names { has_names result.nodes.now ≡ true }
+    ensures rules { keeps_rules result.nodes.now ≡ true }
 {
     Schema {
         nodes: nodes(),
@@ -25,6 +27,7 @@ pub fn ap_rep() -> Schema
 pub fn ap_req() -> Schema
     ensures notation { notation_of result.nodes.now result.root ≡ ⟦<ApReq as Notated>⟧.notation }
     ensures names { has_names result.nodes.now ≡ true }
+    ensures rules { keeps_rules result.nodes.now ≡ true }
 {
     Schema {
         nodes: nodes(),
@@ -36,6 +39,7 @@ pub fn ap_req() -> Schema
 pub fn authenticator() -> Schema
     ensures notation { notation_of result.nodes.now result.root ≡ ⟦<Authenticator as Notated>⟧.notation }
     ensures names { has_names result.nodes.now ≡ true }
+    ensures rules { keeps_rules result.nodes.now ≡ true }
 {
     Schema {
         nodes: nodes(),
@@ -43,12 +47,13 @@ pub fn authenticator() -> Schema
     }
 }
 
-// the nodes, which of them is each type, and that their names are those of X.680
+// the nodes, which of them is each type, and the rules of X.680 that they keep
 fn nodes() -> &'static [Node]
     ensures ap_rep { notation_of result.now 52 ≡ ⟦<ApRep as Notated>⟧.notation }
     ensures ap_req { notation_of result.now 30 ≡ ⟦<ApReq as Notated>⟧.notation }
     ensures authenticator { notation_of result.now 47 ≡ ⟦<Authenticator as Notated>⟧.notation }
     ensures are_named { has_names result.now ≡ true }
+    ensures are_kept { keeps_rules result.now ≡ true }
 {
     &NODES
 }

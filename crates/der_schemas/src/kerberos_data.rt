@@ -4,6 +4,7 @@
 ghost use Rattle.std.specs.Prelude.{◌≡◌, true};
 ghost use Rattle.der_schema.specs.Names.{has_names};
 ghost use Rattle.der_schema.specs.NotationOf.{notation_of};
+ghost use Rattle.der_schema.specs.Rules.{keeps_rules};
 
 use der_kerberos::{
     AdIfRelevant, AuthorizationData, EtypeInfo2, MethodData, PaEncTimestamp, PaEncTsEnc,
@@ -16,6 +17,7 @@ use picky_der_core::asn1::Wrapper;
 pub fn ad_if_relevant() -> Schema
     ensures notation { notation_of result.nodes.now result.root ≡ ⟦<AdIfRelevant as Notated>⟧.notation }
     ensures names { has_names result.nodes.now ≡ true }
+    ensures rules { keeps_rules result.nodes.now ≡ true }
 {
     Schema {
         nodes: nodes(),
@@ -27,6 +29,7 @@ pub fn ad_if_relevant() -> Schema
 pub fn authorization_data() -> Schema
     ensures notation { notation_of result.nodes.now result.root ≡ ⟦<AuthorizationData as Notated>⟧.notation }
     ensures names { has_names result.nodes.now ≡ true }
+    ensures rules { keeps_rules result.nodes.now ≡ true }
 {
     Schema {
         nodes: nodes(),
@@ -38,6 +41,7 @@ pub fn authorization_data() -> Schema
 pub fn etype_info2() -> Schema
     ensures notation { notation_of result.nodes.now result.root ≡ ⟦<EtypeInfo2 as Notated>⟧.notation }
     ensures names { has_names result.nodes.now ≡ true }
+    ensures rules { keeps_rules result.nodes.now ≡ true }
 {
     Schema {
         nodes: nodes(),
@@ -49,6 +53,7 @@ pub fn etype_info2() -> Schema
 pub fn method_data() -> Schema
     ensures notation { notation_of result.nodes.now result.root ≡ ⟦<MethodData as Notated>⟧.notation }
     ensures names { has_names result.nodes.now ≡ true }
+    ensures rules { keeps_rules result.nodes.now ≡ true }
 {
     Schema {
         nodes: nodes(),
@@ -60,6 +65,7 @@ pub fn method_data() -> Schema
 pub fn pa_enc_timestamp() -> Schema
     ensures notation { notation_of result.nodes.now result.root ≡ ⟦<PaEncTimestamp as Notated>⟧.notation }
     ensures names { has_names result.nodes.now ≡ true }
+    ensures rules { keeps_rules result.nodes.now ≡ true }
 {
     Schema {
         nodes: nodes(),
@@ -71,6 +77,7 @@ pub fn pa_enc_timestamp() -> Schema
 pub fn pa_enc_ts_enc() -> Schema
     ensures notation { notation_of result.nodes.now result.root ≡ ⟦<PaEncTsEnc as Notated>⟧.notation }
     ensures names { has_names result.nodes.now ≡ true }
+    ensures rules { keeps_rules result.nodes.now ≡ true }
 {
     Schema {
         nodes: nodes(),
@@ -78,7 +85,7 @@ pub fn pa_enc_ts_enc() -> Schema
     }
 }
 
-// the nodes, which of them is each type, and that their names are those of X.680
+// the nodes, which of them is each type, and the rules of X.680 that they keep
 fn nodes() -> &'static [Node]
     ensures ad_if_relevant { notation_of result.now 27 ≡ ⟦<AdIfRelevant as Notated>⟧.notation }
     ensures authorization_data { notation_of result.now 5 ≡ ⟦<AuthorizationData as Notated>⟧.notation }
@@ -87,6 +94,7 @@ fn nodes() -> &'static [Node]
     ensures pa_enc_timestamp { notation_of result.now 13 ≡ ⟦<PaEncTimestamp as Notated>⟧.notation }
     ensures pa_enc_ts_enc { notation_of result.now 20 ≡ ⟦<PaEncTsEnc as Notated>⟧.notation }
     ensures are_named { has_names result.now ≡ true }
+    ensures are_kept { keeps_rules result.now ≡ true }
 {
     &NODES
 }

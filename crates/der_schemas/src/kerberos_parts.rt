@@ -4,6 +4,7 @@
 ghost use Rattle.std.specs.Prelude.{◌≡◌, true};
 ghost use Rattle.der_schema.specs.Names.{has_names};
 ghost use Rattle.der_schema.specs.NotationOf.{notation_of};
+ghost use Rattle.der_schema.specs.Rules.{keeps_rules};
 
 use der_kerberos::{EncApRepPart, EncAsRepPart, EncTgsRepPart, EncTicketPart};
 use der_schema::{Kind, Member, Node, Presence, Schema};
@@ -14,6 +15,7 @@ use picky_der_core::asn1::Wrapper;
 pub fn enc_ap_rep_part() -> Schema
     ensures notation { notation_of result.nodes.now result.root ≡ ⟦<EncApRepPart as Notated>⟧.notation }
     ensures names { has_names result.nodes.now ≡ true }
+    ensures rules { keeps_rules result.nodes.now ≡ true }
 {
     Schema {
         nodes: nodes(),
@@ -25,6 +27,7 @@ pub fn enc_ap_rep_part() -> Schema
 pub fn enc_as_rep_part() -> Schema
     ensures notation { notation_of result.nodes.now result.root ≡ ⟦<EncAsRepPart as Notated>⟧.notation }
     ensures names { has_names result.nodes.now ≡ true }
+    ensures rules { keeps_rules result.nodes.now ≡ true }
 {
     Schema {
         nodes: nodes(),
@@ -36,6 +39,7 @@ pub fn enc_as_rep_part() -> Schema
 pub fn enc_tgs_rep_part() -> Schema
     ensures notation { notation_of result.nodes.now result.root ≡ ⟦<EncTgsRepPart as Notated>⟧.notation }
     ensures names { has_names result.nodes.now ≡ true }
+    ensures rules { keeps_rules result.nodes.now ≡ true }
 {
     Schema {
         nodes: nodes(),
@@ -47,6 +51,7 @@ pub fn enc_tgs_rep_part() -> Schema
 pub fn enc_ticket_part() -> Schema
     ensures notation { notation_of result.nodes.now result.root ≡ ⟦<EncTicketPart as Notated>⟧.notation }
     ensures names { has_names result.nodes.now ≡ true }
+    ensures rules { keeps_rules result.nodes.now ≡ true }
 {
     Schema {
         nodes: nodes(),
@@ -54,13 +59,14 @@ pub fn enc_ticket_part() -> Schema
     }
 }
 
-// the nodes, which of them is each type, and that their names are those of X.680
+// the nodes, which of them is each type, and the rules of X.680 that they keep
 fn nodes() -> &'static [Node]
     ensures enc_ap_rep_part { notation_of result.now 61 ≡ ⟦<EncApRepPart as Notated>⟧.notation }
     ensures enc_as_rep_part { notation_of result.now 52 ≡ ⟦<EncAsRepPart as Notated>⟧.notation }
     ensures enc_tgs_rep_part { notation_of result.now 53 ≡ ⟦<EncTgsRepPart as Notated>⟧.notation }
     ensures enc_ticket_part { notation_of result.now 33 ≡ ⟦<EncTicketPart as Notated>⟧.notation }
     ensures are_named { has_names result.now ≡ true }
+    ensures are_kept { keeps_rules result.now ≡ true }
 {
     &NODES
 }

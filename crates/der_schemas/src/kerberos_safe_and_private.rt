@@ -4,6 +4,7 @@
 ghost use Rattle.std.specs.Prelude.{◌≡◌, true};
 ghost use Rattle.der_schema.specs.Names.{has_names};
 ghost use Rattle.der_schema.specs.NotationOf.{notation_of};
+ghost use Rattle.der_schema.specs.Rules.{keeps_rules};
 
 use der_kerberos::{EncKrbPrivPart, KrbPriv, KrbSafe};
 use der_schema::{Kind, Member, Node, Presence, Schema};
@@ -14,6 +15,7 @@ use picky_der_core::asn1::Wrapper;
 pub fn enc_krb_priv_part() -> Schema
     ensures notation { notation_of result.nodes.now result.root ≡ ⟦<EncKrbPrivPart as Notated>⟧.notation }
     ensures names { has_names result.nodes.now ≡ true }
+    ensures rules { keeps_rules result.nodes.now ≡ true }
 {
     Schema {
         nodes: nodes(),
@@ -25,6 +27,7 @@ pub fn enc_krb_priv_part() -> Schema
 pub fn krb_priv() -> Schema
     ensures notation { notation_of result.nodes.now result.root ≡ ⟦<KrbPriv as Notated>⟧.notation }
     ensures names { has_names result.nodes.now ≡ true }
+    ensures rules { keeps_rules result.nodes.now ≡ true }
 {
     Schema {
         nodes: nodes(),
@@ -36,6 +39,7 @@ pub fn krb_priv() -> Schema
 pub fn krb_safe() -> Schema
     ensures notation { notation_of result.nodes.now result.root ≡ ⟦<KrbSafe as Notated>⟧.notation }
     ensures names { has_names result.nodes.now ≡ true }
+    ensures rules { keeps_rules result.nodes.now ≡ true }
 {
     Schema {
         nodes: nodes(),
@@ -43,12 +47,13 @@ pub fn krb_safe() -> Schema
     }
 }
 
-// the nodes, which of them is each type, and that their names are those of X.680
+// the nodes, which of them is each type, and the rules of X.680 that they keep
 fn nodes() -> &'static [Node]
     ensures enc_krb_priv_part { notation_of result.now 36 ≡ ⟦<EncKrbPrivPart as Notated>⟧.notation }
     ensures krb_priv { notation_of result.now 34 ≡ ⟦<KrbPriv as Notated>⟧.notation }
     ensures krb_safe { notation_of result.now 26 ≡ ⟦<KrbSafe as Notated>⟧.notation }
     ensures are_named { has_names result.now ≡ true }
+    ensures are_kept { keeps_rules result.now ≡ true }
 {
     &NODES
 }

@@ -4,6 +4,7 @@
 ghost use Rattle.std.specs.Prelude.{◌≡◌, true};
 ghost use Rattle.der_schema.specs.Names.{has_names};
 ghost use Rattle.der_schema.specs.NotationOf.{notation_of};
+ghost use Rattle.der_schema.specs.Rules.{keeps_rules};
 
 use der_pkix::{
     EcPrivateKey, EncryptedPrivateKeyInfo, PrivateKeyInfo, RsaPrivateKey, RsaPublicKey,
@@ -16,6 +17,7 @@ use picky_der_core::asn1::Wrapper;
 pub fn ec_private_key() -> Schema
     ensures notation { notation_of result.nodes.now result.root ≡ ⟦<EcPrivateKey as Notated>⟧.notation }
     ensures names { has_names result.nodes.now ≡ true }
+    ensures rules { keeps_rules result.nodes.now ≡ true }
 {
     Schema {
         nodes: nodes(),
@@ -27,6 +29,7 @@ pub fn ec_private_key() -> Schema
 pub fn encrypted_private_key_info() -> Schema
     ensures notation { notation_of result.nodes.now result.root ≡ ⟦<EncryptedPrivateKeyInfo as Notated>⟧.notation }
     ensures names { has_names result.nodes.now ≡ true }
+    ensures rules { keeps_rules result.nodes.now ≡ true }
 {
     Schema {
         nodes: nodes(),
@@ -38,6 +41,7 @@ pub fn encrypted_private_key_info() -> Schema
 pub fn private_key_info() -> Schema
     ensures notation { notation_of result.nodes.now result.root ≡ ⟦<PrivateKeyInfo as Notated>⟧.notation }
     ensures names { has_names result.nodes.now ≡ true }
+    ensures rules { keeps_rules result.nodes.now ≡ true }
 {
     Schema {
         nodes: nodes(),
@@ -49,6 +53,7 @@ pub fn private_key_info() -> Schema
 pub fn rsa_private_key() -> Schema
     ensures notation { notation_of result.nodes.now result.root ≡ ⟦<RsaPrivateKey as Notated>⟧.notation }
     ensures names { has_names result.nodes.now ≡ true }
+    ensures rules { keeps_rules result.nodes.now ≡ true }
 {
     Schema {
         nodes: nodes(),
@@ -60,6 +65,7 @@ pub fn rsa_private_key() -> Schema
 pub fn rsa_public_key() -> Schema
     ensures notation { notation_of result.nodes.now result.root ≡ ⟦<RsaPublicKey as Notated>⟧.notation }
     ensures names { has_names result.nodes.now ≡ true }
+    ensures rules { keeps_rules result.nodes.now ≡ true }
 {
     Schema {
         nodes: nodes(),
@@ -67,7 +73,7 @@ pub fn rsa_public_key() -> Schema
     }
 }
 
-// the nodes, which of them is each type, and that their names are those of X.680
+// the nodes, which of them is each type, and the rules of X.680 that they keep
 fn nodes() -> &'static [Node]
     ensures ec_private_key { notation_of result.now 14 ≡ ⟦<EcPrivateKey as Notated>⟧.notation }
     ensures encrypted_private_key_info { notation_of result.now 32 ≡ ⟦<EncryptedPrivateKeyInfo as Notated>⟧.notation }
@@ -75,6 +81,7 @@ fn nodes() -> &'static [Node]
     ensures rsa_private_key { notation_of result.now 6 ≡ ⟦<RsaPrivateKey as Notated>⟧.notation }
     ensures rsa_public_key { notation_of result.now 1 ≡ ⟦<RsaPublicKey as Notated>⟧.notation }
     ensures are_named { has_names result.now ≡ true }
+    ensures are_kept { keeps_rules result.now ≡ true }
 {
     &NODES
 }

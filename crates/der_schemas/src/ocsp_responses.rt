@@ -4,6 +4,7 @@
 ghost use Rattle.std.specs.Prelude.{◌≡◌, true};
 ghost use Rattle.der_schema.specs.Names.{has_names};
 ghost use Rattle.der_schema.specs.NotationOf.{notation_of};
+ghost use Rattle.der_schema.specs.Rules.{keeps_rules};
 
 use der_schema::{Alternative, DefaultValue, Item, Kind, Member, Node, Presence, Schema};
 use der_status::{BasicOcspResponse, OcspResponse};
@@ -14,6 +15,7 @@ use picky_der_core::asn1::Wrapper;
 pub fn basic_ocsp_response() -> Schema
     ensures notation { notation_of result.nodes.now result.root ≡ ⟦<BasicOcspResponse as Notated>⟧.notation }
     ensures names { has_names result.nodes.now ≡ true }
+    ensures rules { keeps_rules result.nodes.now ≡ true }
 {
     Schema {
         nodes: nodes(),
@@ -25,6 +27,7 @@ pub fn basic_ocsp_response() -> Schema
 pub fn ocsp_response() -> Schema
     ensures notation { notation_of result.nodes.now result.root ≡ ⟦<OcspResponse as Notated>⟧.notation }
     ensures names { has_names result.nodes.now ≡ true }
+    ensures rules { keeps_rules result.nodes.now ≡ true }
 {
     Schema {
         nodes: nodes(),
@@ -32,11 +35,12 @@ pub fn ocsp_response() -> Schema
     }
 }
 
-// the nodes, which of them is each type, and that their names are those of X.680
+// the nodes, which of them is each type, and the rules of X.680 that they keep
 fn nodes() -> &'static [Node]
     ensures basic_ocsp_response { notation_of result.now 59 ≡ ⟦<BasicOcspResponse as Notated>⟧.notation }
     ensures ocsp_response { notation_of result.now 5 ≡ ⟦<OcspResponse as Notated>⟧.notation }
     ensures are_named { has_names result.now ≡ true }
+    ensures are_kept { keeps_rules result.now ≡ true }
 {
     &NODES
 }

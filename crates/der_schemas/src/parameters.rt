@@ -4,6 +4,7 @@
 ghost use Rattle.std.specs.Prelude.{◌≡◌, true};
 ghost use Rattle.der_schema.specs.Names.{has_names};
 ghost use Rattle.der_schema.specs.NotationOf.{notation_of};
+ghost use Rattle.der_schema.specs.Rules.{keeps_rules};
 
 use der_algorithms::{
     CharacteristicTwo, Curve, DomainParameters, DssSigValue, EcParameters, FieldId, Pentanomial,
@@ -16,6 +17,7 @@ use der_types::Notated;
 pub fn characteristic_two() -> Schema
     ensures notation { notation_of result.nodes.now result.root ≡ ⟦<CharacteristicTwo as Notated>⟧.notation }
     ensures names { has_names result.nodes.now ≡ true }
+    ensures rules { keeps_rules result.nodes.now ≡ true }
 {
     Schema {
         nodes: nodes(),
@@ -27,6 +29,7 @@ pub fn characteristic_two() -> Schema
 pub fn curve() -> Schema
     ensures notation { notation_of result.nodes.now result.root ≡ ⟦<Curve as Notated>⟧.notation }
     ensures names { has_names result.nodes.now ≡ true }
+    ensures rules { keeps_rules result.nodes.now ≡ true }
 {
     Schema {
         nodes: nodes(),
@@ -38,6 +41,7 @@ pub fn curve() -> Schema
 pub fn domain_parameters() -> Schema
     ensures notation { notation_of result.nodes.now result.root ≡ ⟦<DomainParameters as Notated>⟧.notation }
     ensures names { has_names result.nodes.now ≡ true }
+    ensures rules { keeps_rules result.nodes.now ≡ true }
 {
     Schema {
         nodes: nodes(),
@@ -49,6 +53,7 @@ pub fn domain_parameters() -> Schema
 pub fn dss_sig_value() -> Schema
     ensures notation { notation_of result.nodes.now result.root ≡ ⟦<DssSigValue as Notated>⟧.notation }
     ensures names { has_names result.nodes.now ≡ true }
+    ensures rules { keeps_rules result.nodes.now ≡ true }
 {
     Schema {
         nodes: nodes(),
@@ -60,6 +65,7 @@ pub fn dss_sig_value() -> Schema
 pub fn ec_parameters() -> Schema
     ensures notation { notation_of result.nodes.now result.root ≡ ⟦<EcParameters as Notated>⟧.notation }
     ensures names { has_names result.nodes.now ≡ true }
+    ensures rules { keeps_rules result.nodes.now ≡ true }
 {
     Schema {
         nodes: nodes(),
@@ -71,6 +77,7 @@ pub fn ec_parameters() -> Schema
 pub fn field_id() -> Schema
     ensures notation { notation_of result.nodes.now result.root ≡ ⟦<FieldId as Notated>⟧.notation }
     ensures names { has_names result.nodes.now ≡ true }
+    ensures rules { keeps_rules result.nodes.now ≡ true }
 {
     Schema {
         nodes: nodes(),
@@ -82,6 +89,7 @@ pub fn field_id() -> Schema
 pub fn pentanomial() -> Schema
     ensures notation { notation_of result.nodes.now result.root ≡ ⟦<Pentanomial as Notated>⟧.notation }
     ensures names { has_names result.nodes.now ≡ true }
+    ensures rules { keeps_rules result.nodes.now ≡ true }
 {
     Schema {
         nodes: nodes(),
@@ -93,6 +101,7 @@ pub fn pentanomial() -> Schema
 pub fn prime_p() -> Schema
     ensures notation { notation_of result.nodes.now result.root ≡ ⟦<PrimeP as Notated>⟧.notation }
     ensures names { has_names result.nodes.now ≡ true }
+    ensures rules { keeps_rules result.nodes.now ≡ true }
 {
     Schema {
         nodes: nodes(),
@@ -104,6 +113,7 @@ pub fn prime_p() -> Schema
 pub fn trinomial() -> Schema
     ensures notation { notation_of result.nodes.now result.root ≡ ⟦<Trinomial as Notated>⟧.notation }
     ensures names { has_names result.nodes.now ≡ true }
+    ensures rules { keeps_rules result.nodes.now ≡ true }
 {
     Schema {
         nodes: nodes(),
@@ -111,7 +121,7 @@ pub fn trinomial() -> Schema
     }
 }
 
-// the nodes, which of them is each type, and that their names are those of X.680
+// the nodes, which of them is each type, and the rules of X.680 that they keep
 fn nodes() -> &'static [Node]
     ensures characteristic_two { notation_of result.now 14 ≡ ⟦<CharacteristicTwo as Notated>⟧.notation }
     ensures curve { notation_of result.now 10 ≡ ⟦<Curve as Notated>⟧.notation }
@@ -123,6 +133,7 @@ fn nodes() -> &'static [Node]
     ensures prime_p { notation_of result.now 13 ≡ ⟦<PrimeP as Notated>⟧.notation }
     ensures trinomial { notation_of result.now 15 ≡ ⟦<Trinomial as Notated>⟧.notation }
     ensures are_named { has_names result.now ≡ true }
+    ensures are_kept { keeps_rules result.now ≡ true }
 {
     &NODES
 }

@@ -4,6 +4,7 @@
 ghost use Rattle.std.specs.Prelude.{◌≡◌, true};
 ghost use Rattle.der_schema.specs.Names.{has_names};
 ghost use Rattle.der_schema.specs.NotationOf.{notation_of};
+ghost use Rattle.der_schema.specs.Rules.{keeps_rules};
 
 use der_pkcs12::PFX;
 use der_schema::{DefaultValue, Kind, Member, Node, Presence, Schema};
@@ -14,6 +15,7 @@ use picky_der_core::asn1::Wrapper;
 pub fn pfx() -> Schema
     ensures notation { notation_of result.nodes.now result.root ≡ ⟦<PFX as Notated>⟧.notation }
     ensures names { has_names result.nodes.now ≡ true }
+    ensures rules { keeps_rules result.nodes.now ≡ true }
 {
     Schema {
         nodes: &NODES,

@@ -4,6 +4,7 @@
 ghost use Rattle.std.specs.Prelude.{◌≡◌, true};
 ghost use Rattle.der_schema.specs.Names.{has_names};
 ghost use Rattle.der_schema.specs.NotationOf.{notation_of};
+ghost use Rattle.der_schema.specs.Rules.{keeps_rules};
 
 use der_pkcs12::{
     AuthenticatedSafe, CertBag, KeyBag, MacData, Pkcs8ShroudedKeyBag, Pkcs12PbeParams, SafeBag,
@@ -17,6 +18,7 @@ use picky_der_core::asn1::Wrapper;
 pub fn authenticated_safe() -> Schema
     ensures notation { notation_of result.nodes.now result.root ≡ ⟦<AuthenticatedSafe as Notated>⟧.notation }
     ensures names { has_names result.nodes.now ≡ true }
+    ensures rules { keeps_rules result.nodes.now ≡ true }
 {
     Schema {
         nodes: nodes(),
@@ -28,6 +30,7 @@ pub fn authenticated_safe() -> Schema
 pub fn cert_bag() -> Schema
     ensures notation { notation_of result.nodes.now result.root ≡ ⟦<CertBag as Notated>⟧.notation }
     ensures names { has_names result.nodes.now ≡ true }
+    ensures rules { keeps_rules result.nodes.now ≡ true }
 {
     Schema {
         nodes: nodes(),
@@ -39,6 +42,7 @@ pub fn cert_bag() -> Schema
 pub fn key_bag() -> Schema
     ensures notation { notation_of result.nodes.now result.root ≡ ⟦<KeyBag as Notated>⟧.notation }
     ensures names { has_names result.nodes.now ≡ true }
+    ensures rules { keeps_rules result.nodes.now ≡ true }
 {
     Schema {
         nodes: nodes(),
@@ -50,6 +54,7 @@ pub fn key_bag() -> Schema
 pub fn mac_data() -> Schema
     ensures notation { notation_of result.nodes.now result.root ≡ ⟦<MacData as Notated>⟧.notation }
     ensures names { has_names result.nodes.now ≡ true }
+    ensures rules { keeps_rules result.nodes.now ≡ true }
 {
     Schema {
         nodes: nodes(),
@@ -61,6 +66,7 @@ pub fn mac_data() -> Schema
 pub fn pkcs8_shrouded_key_bag() -> Schema
     ensures notation { notation_of result.nodes.now result.root ≡ ⟦<Pkcs8ShroudedKeyBag as Notated>⟧.notation }
     ensures names { has_names result.nodes.now ≡ true }
+    ensures rules { keeps_rules result.nodes.now ≡ true }
 {
     Schema {
         nodes: nodes(),
@@ -72,6 +78,7 @@ pub fn pkcs8_shrouded_key_bag() -> Schema
 pub fn pkcs12_pbe_params() -> Schema
     ensures notation { notation_of result.nodes.now result.root ≡ ⟦<Pkcs12PbeParams as Notated>⟧.notation }
     ensures names { has_names result.nodes.now ≡ true }
+    ensures rules { keeps_rules result.nodes.now ≡ true }
 {
     Schema {
         nodes: nodes(),
@@ -83,6 +90,7 @@ pub fn pkcs12_pbe_params() -> Schema
 pub fn safe_bag() -> Schema
     ensures notation { notation_of result.nodes.now result.root ≡ ⟦<SafeBag as Notated>⟧.notation }
     ensures names { has_names result.nodes.now ≡ true }
+    ensures rules { keeps_rules result.nodes.now ≡ true }
 {
     Schema {
         nodes: nodes(),
@@ -94,6 +102,7 @@ pub fn safe_bag() -> Schema
 pub fn safe_contents() -> Schema
     ensures notation { notation_of result.nodes.now result.root ≡ ⟦<SafeContents as Notated>⟧.notation }
     ensures names { has_names result.nodes.now ≡ true }
+    ensures rules { keeps_rules result.nodes.now ≡ true }
 {
     Schema {
         nodes: nodes(),
@@ -105,6 +114,7 @@ pub fn safe_contents() -> Schema
 pub fn secret_bag() -> Schema
     ensures notation { notation_of result.nodes.now result.root ≡ ⟦<SecretBag as Notated>⟧.notation }
     ensures names { has_names result.nodes.now ≡ true }
+    ensures rules { keeps_rules result.nodes.now ≡ true }
 {
     Schema {
         nodes: nodes(),
@@ -112,7 +122,7 @@ pub fn secret_bag() -> Schema
     }
 }
 
-// the nodes, which of them is each type, and that their names are those of X.680
+// the nodes, which of them is each type, and the rules of X.680 that they keep
 fn nodes() -> &'static [Node]
     ensures authenticated_safe { notation_of result.now 10 ≡ ⟦<AuthenticatedSafe as Notated>⟧.notation }
     ensures cert_bag { notation_of result.now 33 ≡ ⟦<CertBag as Notated>⟧.notation }
@@ -124,6 +134,7 @@ fn nodes() -> &'static [Node]
     ensures safe_contents { notation_of result.now 15 ≡ ⟦<SafeContents as Notated>⟧.notation }
     ensures secret_bag { notation_of result.now 34 ≡ ⟦<SecretBag as Notated>⟧.notation }
     ensures are_named { has_names result.now ≡ true }
+    ensures are_kept { keeps_rules result.now ≡ true }
 {
     &NODES
 }

@@ -4,6 +4,7 @@
 ghost use Rattle.std.specs.Prelude.{◌≡◌, true};
 ghost use Rattle.der_schema.specs.Names.{has_names};
 ghost use Rattle.der_schema.specs.NotationOf.{notation_of};
+ghost use Rattle.der_schema.specs.Rules.{keeps_rules};
 
 use der_pkix::{GeneralName, GeneralNames};
 use der_schema::{Alternative, Kind, Member, Node, Presence, Schema};
@@ -14,6 +15,7 @@ use picky_der_core::asn1::Wrapper;
 pub fn general_name() -> Schema
     ensures notation { notation_of result.nodes.now result.root ≡ ⟦<GeneralName as Notated>⟧.notation }
     ensures names { has_names result.nodes.now ≡ true }
+    ensures rules { keeps_rules result.nodes.now ≡ true }
 {
     Schema {
         nodes: nodes(),
@@ -25,6 +27,7 @@ pub fn general_name() -> Schema
 pub fn general_names() -> Schema
     ensures notation { notation_of result.nodes.now result.root ≡ ⟦<GeneralNames as Notated>⟧.notation }
     ensures names { has_names result.nodes.now ≡ true }
+    ensures rules { keeps_rules result.nodes.now ≡ true }
 {
     Schema {
         nodes: nodes(),
@@ -32,11 +35,12 @@ pub fn general_names() -> Schema
     }
 }
 
-// the nodes, which of them is each type, and that their names are those of X.680
+// the nodes, which of them is each type, and the rules of X.680 that they keep
 fn nodes() -> &'static [Node]
     ensures general_name { notation_of result.now 24 ≡ ⟦<GeneralName as Notated>⟧.notation }
     ensures general_names { notation_of result.now 26 ≡ ⟦<GeneralNames as Notated>⟧.notation }
     ensures are_named { has_names result.now ≡ true }
+    ensures are_kept { keeps_rules result.now ≡ true }
 {
     &NODES
 }

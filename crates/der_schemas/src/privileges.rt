@@ -4,6 +4,7 @@
 ghost use Rattle.std.specs.Prelude.{◌≡◌, true};
 ghost use Rattle.der_schema.specs.Names.{has_names};
 ghost use Rattle.der_schema.specs.NotationOf.{notation_of};
+ghost use Rattle.der_schema.specs.Rules.{keeps_rules};
 
 use der_pkix::{IetfAttrSyntax, RoleSyntax, TargetInformation};
 use der_schema::{Alternative, Item, Kind, Member, Node, Presence, Schema};
@@ -14,6 +15,7 @@ use picky_der_core::asn1::Wrapper;
 pub fn ietf_attr_syntax() -> Schema
     ensures notation { notation_of result.nodes.now result.root ≡ ⟦<IetfAttrSyntax as Notated>⟧.notation }
     ensures names { has_names result.nodes.now ≡ true }
+    ensures rules { keeps_rules result.nodes.now ≡ true }
 {
     Schema {
         nodes: nodes(),
@@ -25,6 +27,7 @@ pub fn ietf_attr_syntax() -> Schema
 pub fn role_syntax() -> Schema
     ensures notation { notation_of result.nodes.now result.root ≡ ⟦<RoleSyntax as Notated>⟧.notation }
     ensures names { has_names result.nodes.now ≡ true }
+    ensures rules { keeps_rules result.nodes.now ≡ true }
 {
     Schema {
         nodes: nodes(),
@@ -36,6 +39,7 @@ pub fn role_syntax() -> Schema
 pub fn target_information() -> Schema
     ensures notation { notation_of result.nodes.now result.root ≡ ⟦<TargetInformation as Notated>⟧.notation }
     ensures names { has_names result.nodes.now ≡ true }
+    ensures rules { keeps_rules result.nodes.now ≡ true }
 {
     Schema {
         nodes: nodes(),
@@ -43,12 +47,13 @@ pub fn target_information() -> Schema
     }
 }
 
-// the nodes, which of them is each type, and that their names are those of X.680
+// the nodes, which of them is each type, and the rules of X.680 that they keep
 fn nodes() -> &'static [Node]
     ensures ietf_attr_syntax { notation_of result.now 45 ≡ ⟦<IetfAttrSyntax as Notated>⟧.notation }
     ensures role_syntax { notation_of result.now 46 ≡ ⟦<RoleSyntax as Notated>⟧.notation }
     ensures target_information { notation_of result.now 40 ≡ ⟦<TargetInformation as Notated>⟧.notation }
     ensures are_named { has_names result.now ≡ true }
+    ensures are_kept { keeps_rules result.now ≡ true }
 {
     &NODES
 }

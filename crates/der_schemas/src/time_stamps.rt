@@ -4,6 +4,7 @@
 ghost use Rattle.std.specs.Prelude.{◌≡◌, true};
 ghost use Rattle.der_schema.specs.Names.{has_names};
 ghost use Rattle.der_schema.specs.NotationOf.{notation_of};
+ghost use Rattle.der_schema.specs.Rules.{keeps_rules};
 
 use der_schema::{Alternative, DefaultValue, Item, Kind, Member, Node, Presence, Schema};
 use der_status::{TimeStampReq, TimeStampResp, TstInfo};
@@ -14,6 +15,7 @@ use picky_der_core::asn1::Wrapper;
 pub fn time_stamp_req() -> Schema
     ensures notation { notation_of result.nodes.now result.root ≡ ⟦<TimeStampReq as Notated>⟧.notation }
     ensures names { has_names result.nodes.now ≡ true }
+    ensures rules { keeps_rules result.nodes.now ≡ true }
 {
     Schema {
         nodes: nodes(),
@@ -25,6 +27,7 @@ pub fn time_stamp_req() -> Schema
 pub fn time_stamp_resp() -> Schema
     ensures notation { notation_of result.nodes.now result.root ≡ ⟦<TimeStampResp as Notated>⟧.notation }
     ensures names { has_names result.nodes.now ≡ true }
+    ensures rules { keeps_rules result.nodes.now ≡ true }
 {
     Schema {
         nodes: nodes(),
@@ -36,6 +39,7 @@ pub fn time_stamp_resp() -> Schema
 pub fn tst_info() -> Schema
     ensures notation { notation_of result.nodes.now result.root ≡ ⟦<TstInfo as Notated>⟧.notation }
     ensures names { has_names result.nodes.now ≡ true }
+    ensures rules { keeps_rules result.nodes.now ≡ true }
 {
     Schema {
         nodes: nodes(),
@@ -43,12 +47,13 @@ pub fn tst_info() -> Schema
     }
 }
 
-// the nodes, which of them is each type, and that their names are those of X.680
+// the nodes, which of them is each type, and the rules of X.680 that they keep
 fn nodes() -> &'static [Node]
     ensures time_stamp_req { notation_of result.now 12 ≡ ⟦<TimeStampReq as Notated>⟧.notation }
     ensures time_stamp_resp { notation_of result.now 23 ≡ ⟦<TimeStampResp as Notated>⟧.notation }
     ensures tst_info { notation_of result.now 53 ≡ ⟦<TstInfo as Notated>⟧.notation }
     ensures are_named { has_names result.now ≡ true }
+    ensures are_kept { keeps_rules result.now ≡ true }
 {
     &NODES
 }

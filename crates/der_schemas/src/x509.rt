@@ -4,6 +4,7 @@
 ghost use Rattle.std.specs.Prelude.{◌≡◌, true};
 ghost use Rattle.der_schema.specs.Names.{has_names};
 ghost use Rattle.der_schema.specs.NotationOf.{notation_of};
+ghost use Rattle.der_schema.specs.Rules.{keeps_rules};
 
 use der_schema::{Alternative, DefaultValue, Item, Kind, Member, Node, Presence, Schema};
 use der_types::Notated;
@@ -14,6 +15,7 @@ use picky_der_core::asn1::Wrapper;
 pub fn certificate() -> Schema
     ensures notation { notation_of result.nodes.now result.root ≡ ⟦<Certificate as Notated>⟧.notation }
     ensures names { has_names result.nodes.now ≡ true }
+    ensures rules { keeps_rules result.nodes.now ≡ true }
 {
     Schema {
         nodes: nodes(),
@@ -25,6 +27,7 @@ pub fn certificate() -> Schema
 pub fn certificate_list() -> Schema
     ensures notation { notation_of result.nodes.now result.root ≡ ⟦<CertificateList as Notated>⟧.notation }
     ensures names { has_names result.nodes.now ≡ true }
+    ensures rules { keeps_rules result.nodes.now ≡ true }
 {
     Schema {
         nodes: nodes(),
@@ -36,6 +39,7 @@ pub fn certificate_list() -> Schema
 pub fn key_usage() -> Schema
     ensures notation { notation_of result.nodes.now result.root ≡ ⟦<KeyUsage as Notated>⟧.notation }
     ensures names { has_names result.nodes.now ≡ true }
+    ensures rules { keeps_rules result.nodes.now ≡ true }
 {
     Schema {
         nodes: nodes(),
@@ -47,6 +51,7 @@ pub fn key_usage() -> Schema
 pub fn subject_public_key_info() -> Schema
     ensures notation { notation_of result.nodes.now result.root ≡ ⟦<SubjectPublicKeyInfo as Notated>⟧.notation }
     ensures names { has_names result.nodes.now ≡ true }
+    ensures rules { keeps_rules result.nodes.now ≡ true }
 {
     Schema {
         nodes: nodes(),
@@ -54,13 +59,14 @@ pub fn subject_public_key_info() -> Schema
     }
 }
 
-// the nodes, which of them is each type, and that their names are those of X.680
+// the nodes, which of them is each type, and the rules of X.680 that they keep
 fn nodes() -> &'static [Node]
     ensures certificate { notation_of result.now 30 ≡ ⟦<Certificate as Notated>⟧.notation }
     ensures certificate_list { notation_of result.now 35 ≡ ⟦<CertificateList as Notated>⟧.notation }
     ensures key_usage { notation_of result.now 36 ≡ ⟦<KeyUsage as Notated>⟧.notation }
     ensures subject_public_key_info { notation_of result.now 19 ≡ ⟦<SubjectPublicKeyInfo as Notated>⟧.notation }
     ensures are_named { has_names result.now ≡ true }
+    ensures are_kept { keeps_rules result.now ≡ true }
 {
     &NODES
 }
