@@ -22,8 +22,7 @@ pub(crate) fn content_octets(
     kind: Kind,
     json: &Value,
 ) -> Result<Vec<u8>, FromJsonError>
-    ensures ok { IfOk result (λ content. IsContentJson kind content.items (view json.now)) }
-    ensures refused { IfErr result (IsRefusal (view json.now)) }
+    ensures { IfOk result (λ content. IsContentJson kind content.items (view json.now)) }
 {
     let content = unchecked_octets(alloc, kind, json)?;
     let bytes = content.as_slice();
@@ -53,9 +52,7 @@ fn mistake_in(kind: Kind) -> JsonMistake
 }
 
 // The content of a value without parts.
-fn unchecked_octets(alloc: Global, kind: Kind, json: &Value) -> Result<Vec<u8>, FromJsonError>
-    ensures { IfErr result (IsRefusal (view json.now)) }
-{
+fn unchecked_octets(alloc: Global, kind: Kind, json: &Value) -> Result<Vec<u8>, FromJsonError> {
     match kind {
         Kind::Boolean => boolean_octets(alloc, json),
         Kind::Integer | Kind::NamedInteger(_) | Kind::Unsigned(_) | Kind::Signed(_) => {
