@@ -1,6 +1,6 @@
 -- What is printed of blocks, one after another.
 use Rattle.std.proofs.Common.{◌≡◌, ℕ, ◌+◌, ◌<◌, List, [], ◌∷◌, ◌++◌, length, take, get_or, Option, None, Some, refl}
-use Rattle.std.proofs.Common.{sym, ap, ◌∙◌, subst, string_bytes, arith, length-take-le}
+use Rattle.std.proofs.Common.{sym, ap, ◌∙◌, subst, string_bytes, arith, length-take-le, MatchOption}
 use Rattle.std.specs.Io.KnownBytes.{Appends}
 use Rattle.std.proofs.KnownBytes.{Appends-nil, Appends-trans}
 use Rattle.std.proofs.lemmas.List.{take_more}
@@ -28,7 +28,7 @@ use Rattle.der.specs.declared.request.Request.{Request}
 use Rattle.der.specs.Notes.{skipped_text}
 use Rattle.der.specs.Report.{AreBlocksPrinted, none, next, IsBlockPrinted, IsListingPrinted, IsReadPrinted, read_lines}
 use Rattle.der.specs.Report.{IsCmsPrinted, cms_lines, AreCertificatesPrinted, certificate_lines, AreContentsPrinted}
-use Rattle.der.specs.Report.{IsBerPrinted, IsDerPrinted, IsReport, Prints, listing_status}
+use Rattle.der.specs.Report.{IsBerPrinted, IsDerPrinted, IsMessagePrinted, IsReport, Prints, listing_status}
 
 -- ---- one message
 
@@ -104,6 +104,29 @@ module _ (r : Request) (view : View) (source : Source) (label : Option (List ℕ
       → Prints (IsBerPrinted r view source label t bytes status) a b
   no_ber_printed printed a b is h =
       (string_bytes printed.text, IsBerPrinted.refused (printed, is, refl, h.0), h.1)
+
+-- ---- a message in BER or in DER
+
+module _ (r : Request) (view : View) (source : Source) (label : Option (List ℕ)) (bytes : List ℕ) (status : Status)
+    (a b : Option (List ℕ)) where
+  as_message : (ber : Option MessageType) (text : List ℕ) → r.ber ≡ ber
+      → MatchOption ber (IsDerPrinted r view source label bytes status text)
+      (λ t. IsBerPrinted r view source label t bytes status text)
+      → IsMessagePrinted r view source label bytes status text
+  as_message ber text e h =
+      subst
+      (λ o. MatchOption o (IsDerPrinted r view source label bytes status text)
+      (λ t. IsBerPrinted r view source label t bytes status text))
+      (sym e) h
+
+  pub printed_in_der : r.ber ≡ None → Prints (IsDerPrinted r view source label bytes status) a b
+      → Prints (IsMessagePrinted r view source label bytes status) a b
+  printed_in_der e h = (h.0, as_message None h.0 e h.1, h.2)
+
+  pub printed_in_ber : (t : MessageType) → r.ber ≡ Some t
+      → Prints (IsBerPrinted r view source label t bytes status) a b
+      → Prints (IsMessagePrinted r view source label bytes status) a b
+  printed_in_ber t e h = (h.0, as_message (Some t) h.0 e h.1, h.2)
 
 -- ---- blocks
 
