@@ -4,6 +4,8 @@ import unittest
 
 from ..trial.causes import cause_of
 from ..trial.changes import changed, length_of, nodes_of
+from ..trial.erlang import modules_of
+from .stored import GOLDEN
 
 MESSAGE = bytes.fromhex("300C02010161070A010004000400")
 
@@ -23,6 +25,18 @@ class Changes(unittest.TestCase):
         found = [changed(MESSAGE, random.Random(it)) for it in range(200)]
         self.assertEqual(found, [changed(MESSAGE, random.Random(it)) for it in range(200)])
         self.assertGreater(len(set(found)), 100)
+
+
+class Modules(unittest.TestCase):
+    def test_each_module_of_a_file(self):
+        text = (GOLDEN / "fleet.asn1").read_text(encoding="utf-8")
+        found = modules_of(text)
+        self.assertEqual(["Fleet-Telemetry", "Fleet-Places"], list(found))
+        self.assertEqual(text.rstrip("\n"), "".join(found.values()))
+
+    def test_a_form_that_erlang_lacks(self):
+        (text,) = modules_of("A DEFINITIONS ::= BEGIN\nT ::= GeneralString (IA5String)\nEND\n").values()
+        self.assertEqual("A DEFINITIONS ::= BEGIN\nT ::= GeneralString\nEND", text)
 
 
 class Causes(unittest.TestCase):
