@@ -6,7 +6,7 @@ from ..parse import tree
 from .contents import content_of
 from .declarations import Hint
 from .members import is_automatic, is_extensible, members_of
-from .objects import InformationObject, ObjectSet, class_named, object_named, set_of
+from .objects import InformationObject, ObjectSet, Setting, class_named, object_named, set_of
 from .scopes import FIXED_FIELD, Binding, Program, Resolved, Scope, resolve
 from .tagging import default_mode, fixed_field_type
 from .unions import Choice, union
@@ -25,13 +25,18 @@ _DEPTH = 30
 
 @dataclass(frozen=True)
 class Table:
-    """A SEQUENCE or SET with the member that says which object it is, the type of that member, and the objects."""
+    """A SEQUENCE or SET with the member that says which object it is, the type of that member, the field of the class that it is, and the objects."""
 
     type: tree.StructureType
     scope: Scope
     member: tree.Member
     fixed: Binding
+    field: str
     objects: ObjectSet
+
+    def identifier(self, one: InformationObject) -> Optional[Setting]:
+        """What an object has for the field that the member is."""
+        return one.setting(self.field)
 
 
 def objects_of(program: Program, type_: tree.FieldType, tokens: list, scope: Scope) -> ObjectSet:
@@ -42,13 +47,47 @@ def objects_of(program: Program, type_: tree.FieldType, tokens: list, scope: Sco
 def table_of(program: Program, type_: tree.StructureType, scope: Scope) -> Optional[Table]:
     """The table of a SEQUENCE or SET whose own members refer to one of them, or None. All objects are known, with their identifiers."""
     for it in type_.members:
-        constraint = _constraint(it.type, False) if isinstance(it, tree.Member) else None
-        fixed = constraint and fixed_field_type(program, it.type, scope)
-        if fixed and any(_governed(type_, it)):
-            objects = objects_of(program, it.type, constraint.tokens, scope)
-            found = Table(type_, scope, it, Binding(tree.Argument(it.place, type=fixed[0]), fixed[1]), objects)
+        found = _table_by(program, type_, scope, it) if isinstance(it, tree.Member) else None
+        if found:
             return found if _is_whole(program, found) and not _moves_later(program, found) else None
     return None
+
+
+def _table_by(program: Program, type_: tree.StructureType, scope: Scope, member: tree.Member) -> Optional[Table]:
+    """The table of which this member says the object, or None if no other member refers to it.
+
+    A member that is no field of the class, as the standard wants it, but of the type of its one UNIQUE field is read as that field: since
+    another member refers to it, it has the identifiers of the objects alone.
+    """
+    governed = next(_governed(type_, member), None)
+    if governed is None:
+        return None
+    constraint = _constraint(member.type, False)
+    fixed = constraint and fixed_field_type(program, member.type, scope)
+    if fixed:
+        objects = objects_of(program, member.type, constraint.tokens, scope)
+        return Table(type_, scope, member, Binding(tree.Argument(member.place, type=fixed[0]), fixed[1]), member.type.fields[0], objects)
+    name = _unique_field(program, governed, member, scope)
+    if name is None:
+        return None
+    program.problems.deviation(member.place, f"`{member.name}` is read as `{governed.class_name}.{name}`, which it isn't", "X.682, 10")
+    own = Binding(tree.Argument(member.place, type=replace(member.type, tags=[])), scope)
+    return Table(type_, scope, member, own, name, objects_of(program, governed, _constraint(governed, True).tokens, scope))
+
+
+def _unique_field(program: Program, governed: tree.FieldType, member: tree.Member, scope: Scope) -> Optional[str]:
+    """The name of the one field of a class that is UNIQUE, if this member is an INTEGER or an OBJECT IDENTIFIER as it is, or None."""
+    found = class_named(program, governed.class_name, scope)
+    unique = [it for it in found.definition.fields if it.unique and it.type] if found else []
+    if len(unique) != 1 or isinstance(member.type, tree.FieldType):
+        return None
+    mine, other = resolve(program, member.type, scope).type, resolve(program, unique[0].type, found.scope).type
+    is_alike = isinstance(mine, tree.IntegerType) and isinstance(other, tree.IntegerType) or _is_identifier(mine) and _is_identifier(other)
+    return unique[0].name if is_alike else None
+
+
+def _is_identifier(type_: Optional[tree.Type]) -> bool:
+    return isinstance(type_, tree.SimpleType) and type_.name == "OBJECT IDENTIFIER"
 
 
 def _moves_later(program: Program, table: Table) -> bool:
@@ -100,7 +139,7 @@ def _is_whole(program: Program, table: Table) -> bool:
 
 def _is_known(program: Program, table: Table, one: InformationObject) -> bool:
     """Whether the identifier of an object is a value that a constraint may name."""
-    setting = one.setting(table.member.type.fields[0])
+    setting = table.identifier(one)
     if setting is None or setting.value is None:
         return False
     base = resolve(program, table.fixed.argument.type, table.fixed.scope)
@@ -136,7 +175,8 @@ def closed(program: Program, type_: tree.FieldType, constraint: tree.TableConstr
     if fixed is None or objects.extensible:
         return None
     member = tree.Member(type_.place, "", type_)
-    table = Table(tree.StructureType(type_.place, tree.Form.SEQUENCE, [member]), scope, member, Binding(tree.Argument(type_.place, type=fixed[0]), fixed[1]), objects)
+    binding = Binding(tree.Argument(type_.place, type=fixed[0]), fixed[1])
+    table = Table(tree.StructureType(type_.place, tree.Form.SEQUENCE, [member]), scope, member, binding, type_.fields[0], objects)
     if not _is_whole(program, table):
         return None
     built = _Rows(program, table, _values(table), {}).identified(type_)
@@ -255,7 +295,7 @@ def _scope(table: Table, name: str, number: int, bindings: list) -> Scope:
 
 def _bound(program: Program, table: Table, one: InformationObject) -> Binding:
     """The identifier of an object, or the value of its alternative."""
-    value, scope = one.setting(table.member.type.fields[0]).value, one.scope
+    value, scope = table.identifier(one).value, one.scope
     found, home = value_of(program, value, scope)
     if isinstance(found, tree.ChosenValue):
         value, scope = found.value, home
@@ -330,7 +370,7 @@ class _Rows:
         by_name: dict[str, list[str]] = {}
         for name, one in zip(_values(self.table), self.table.objects.objects):
             if name in self.identifiers:
-                found, _ = value_of(self.program, one.setting(type_.fields[0]).value, one.scope)
+                found, _ = value_of(self.program, self.table.identifier(one).value, one.scope)
                 by_name.setdefault(found.name, []).append(name)
         alternatives = []
         for it in members_of(self.program, base.type, base.scope):
