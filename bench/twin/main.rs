@@ -1,15 +1,19 @@
 //! Writes or reads each line of hexadecimal digits of standard input many times.
 //!
-//!     twin struct|structs|list|set|certificate write|read TIMES < ENCODINGS
+//!     twin struct|structs|list|set|certificate write|read|read-whole TIMES < ENCODINGS
 //!
-//! A list and a set are of numbers.
+//! A list and a set are of numbers. `read` is by `from_bytes`, and `read-whole` by `from_der`, whose error has a position.
+//! With the configuration `paths` the program also has the table of a certificate, by which it looks for the path of an
+//! error.
 mod certificate;
+#[cfg(paths)]
+mod table;
 
 use certificate::Certificate;
 use picky_der_core::Result;
 use picky_der_core::asn1::{Asn1SetOf, ByteBuf};
 use picky_der_core::misc::{ReadExt, WriteExt};
-use picky_der_de::{Deserialize, Deserializer, Struct, deserialize_struct_as, from_bytes};
+use picky_der_de::{Deserialize, Deserializer, Struct, deserialize_struct_as, from_bytes, from_der};
 use picky_der_ser::{Serialize, SerializeMembers, Serializer, to_vec};
 use rattle_std::alloc::Global;
 use rattle_std::prelude::*;
@@ -55,6 +59,30 @@ fn read<T: Deserialize>(bytes: &[u8]) -> T {
     from_bytes(Global, bytes).unwrap()
 }
 
+#[inline(never)]
+fn read_whole<T: Deserialize>(bytes: &[u8]) -> T {
+    match from_der(Global, bytes) {
+        Ok(value) => value,
+        Err(error) => panic!("refused at {}", place_of(bytes, error.position)),
+    }
+}
+
+#[cfg(paths)]
+#[cold]
+#[inline(never)]
+fn place_of(bytes: &[u8], position: usize) -> usize {
+    let path = der_error_path::path_of_error(Global, table::certificate(), bytes, position).unwrap();
+    println!("{:?}", path.steps.as_slice());
+    path.place
+}
+
+#[cfg(not(paths))]
+#[cold]
+#[inline(never)]
+fn place_of(_bytes: &[u8], position: usize) -> usize {
+    position
+}
+
 fn bytes_of(digits: &str) -> Vec<u8> {
     let mut bytes = Vec::new(Global);
     for place in (0..digits.len()).step_by(2) {
@@ -69,6 +97,7 @@ fn run<T: Serialize + Deserialize>(bytes: &[u8], way: &str, times: u32) {
     for _ in 0..times {
         match way {
             "write" => drop(black_box(write(black_box(&value)))),
+            "read-whole" => drop(black_box(read_whole::<T>(black_box(bytes)))),
             _ => drop(black_box(read::<T>(black_box(bytes)))),
         }
     }

@@ -55,9 +55,9 @@ enum {
     PICKY_DER_NO_PLACE = 8,
     /* No type has this number. */
     PICKY_DER_UNKNOWN_TYPE = 9,
-    /* The type has no table, and so its messages have no JSON here. */
+    /* The type has no table, and so its messages have no JSON here, and no DER of their BER. */
     PICKY_DER_NO_TABLE = 10,
-    /* The text isn't JSON of a message of the type. */
+    /* The text isn't JSON of a message of the type, or the bytes aren't BER of one. */
     PICKY_DER_NO_VALUE = 11
 };
 
@@ -464,6 +464,16 @@ picky_der_code picky_der_to_json(uint32_t number, const uint8_t *bytes, size_t b
  * nothing changes. */
 picky_der_code picky_der_from_json(uint32_t number, const uint8_t *json, size_t json_len, uint8_t *out, size_t out_len, size_t *used);
 
+/* Appends the DER of the message of the type with this number that the bytes are in BER to the first used
+ * bytes of out, and adds its size to used. picky_der_check accepts it. It is made by a table of the type, as
+ * picky_der_to_json has one; the content of a message of CMS by its own type, if that has a table.
+ * Returns PICKY_DER_OK, or PICKY_DER_NO_ROOM or PICKY_DER_UNSUPPORTED as picky_der_put does. Returns
+ * PICKY_DER_NO_VALUE if the bytes aren't BER of a message of the type, and then appends why and where, in
+ * words in UTF-8, in place of the DER. Returns PICKY_DER_NO_TABLE if the type has no table,
+ * PICKY_DER_NO_MEMORY if an allocation failed and PICKY_DER_UNKNOWN_TYPE if no type has the number, and then
+ * nothing changes. */
+picky_der_code picky_der_from_ber(uint32_t number, const uint8_t *bytes, size_t bytes_len, uint8_t *out, size_t out_len, size_t *used);
+
 /* Writes the element at the front of the bytes to element, and returns PICKY_DER_OK. Its tag, its length and
  * its content are in DER, but the elements in it aren't looked at. Bytes may follow it.
  * Else it returns the code of the rule that is broken, and element is as it was. It takes no memory. */
@@ -868,6 +878,14 @@ static inline picky_der_code picky_der_from_json_asserted(uint32_t number, const
     return picky_der_from_json(number, json, json_len, out, out_len, used);
 }
 #define picky_der_from_json picky_der_from_json_asserted
+
+static inline picky_der_code picky_der_from_ber_asserted(uint32_t number, const uint8_t *bytes, size_t bytes_len, uint8_t *out, size_t out_len, size_t *used) {
+    assert(bytes != NULL);
+    assert(out != NULL);
+    assert(used != NULL);
+    return picky_der_from_ber(number, bytes, bytes_len, out, out_len, used);
+}
+#define picky_der_from_ber picky_der_from_ber_asserted
 
 static inline picky_der_code picky_der_front_asserted(const uint8_t *bytes, size_t bytes_len, picky_der_element *element) {
     assert(bytes != NULL);

@@ -102,6 +102,14 @@ int main(int argc, char **argv) {
         need(code == PICKY_DER_OK || (code == PICKY_DER_NO_MEMORY && written == 0), "a message of JSON without memory");
     } while (code != PICKY_DER_OK);
     need(failures > 10 && written == len, "a message of JSON takes memory");
+    failures = 0;
+    do {
+        left = failures++;
+        written = 0;
+        code = picky_der_from_ber(PICKY_DER_TYPE_CERTIFICATE, bytes, len, json, len, &written);
+        need(code == PICKY_DER_OK || (code == PICKY_DER_NO_MEMORY && written == 0), "a message in BER without memory");
+    } while (code != PICKY_DER_OK);
+    need(failures > 10 && written == len, "a message in BER takes memory");
     left = -1;
     free(json);
     failures = 0;

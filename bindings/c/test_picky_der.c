@@ -266,6 +266,32 @@ static void json(const struct input *it) {
     free(out);
 }
 
+/* ---- BER */
+
+/* A certificate with an indefinite length is the same certificate, and a part of it isn't BER. */
+static void ber(const struct input *it) {
+    size_t header = it->bytes[1] < 0x80 ? 2 : 2 + (it->bytes[1] & 0x7F), len = it->len - header + 4, used = 0;
+    uint8_t *form = malloc(len), *der = malloc(it->len + 100);
+    form[0] = 0x30;
+    form[1] = 0x80;
+    memcpy(form + 2, it->bytes + header, it->len - header);
+    memset(form + len - 2, 0, 2);
+    need(picky_der_check_certificate(form, len, &used) == PICKY_DER_INVALID, "BER isn't DER");
+    used = 0;
+    need(picky_der_from_ber(PICKY_DER_TYPE_CERTIFICATE, form, len, der, it->len, &used) == PICKY_DER_OK && used == it->len, "the message of BER");
+    need(memcmp(der, it->bytes, it->len) == 0, "its DER");
+    used = 0;
+    need(picky_der_from_ber(PICKY_DER_TYPE_CERTIFICATE, form, len, der, it->len - 1, &used) == PICKY_DER_NO_ROOM && used == it->len, "a byte too little");
+    used = 0;
+    need(picky_der_from_ber(PICKY_DER_TYPE_CERTIFICATE, form, len - 2, der, it->len + 100, &used) == PICKY_DER_NO_VALUE, "BER without its end");
+    need(used > 12 && memcmp(der, "not BER at ", 11) == 0, "and why it is refused");
+    used = 0;
+    need(picky_der_from_ber(PICKY_DER_TYPE_KRB, form, len, der, it->len, &used) == PICKY_DER_NO_TABLE && used == 0, "no table");
+    need(picky_der_from_ber(99, form, len, der, it->len, &used) == PICKY_DER_UNKNOWN_TYPE && used == 0, "no type");
+    free(der);
+    free(form);
+}
+
 /* ---- writing */
 
 struct buffer {
@@ -410,6 +436,7 @@ int main(int argc, char **argv) {
             written_again(&inputs[i]);
     path(&inputs[0]);
     json(&inputs[0]);
+    ber(&inputs[0]);
     pthread_t threads[THREADS];
     for (int i = 0; i < THREADS; i++)
         need(pthread_create(&threads[i], NULL, run, NULL) == 0, "a thread");

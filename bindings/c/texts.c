@@ -24,9 +24,9 @@ const char *picky_der_text(picky_der_code code) {
     case PICKY_DER_UNKNOWN_TYPE:
         return "No type has this number";
     case PICKY_DER_NO_TABLE:
-        return "The type has no table, and so its messages have no JSON here";
+        return "The type has no table, and so its messages have no JSON here, and no DER of their BER";
     case PICKY_DER_NO_VALUE:
-        return "The text isn't JSON of a message of the type";
+        return "The text isn't JSON of a message of the type, or the bytes aren't BER of one";
     case PICKY_DER_RULE_CUT_HEADER:
         return "the bytes end within the header of an element";
     case PICKY_DER_RULE_LONG_TAG:

@@ -177,6 +177,31 @@ func FromJSON(message Message, json string) ([]byte, error) {
 	return der, nil
 }
 
+// A BERError says why bytes aren't BER of a message of a type, and where.
+type BERError struct {
+	Reason string
+}
+
+func (e *BERError) Error() string { return "pickyder: " + e.Reason }
+
+// FromBER returns the DER of the message of the type that these bytes are in BER (X.690, 8). Check accepts it. It is made by a table of the
+// type, as ToJSON has one, and the content of Cms by its own type, if that has a table.
+//
+// It returns a *BERError if the bytes aren't BER of a message of the type, ErrNoTable if the type has no table, and ErrNoMemory if memory
+// ran out.
+func FromBER(message Message, bytes []byte) ([]byte, error) {
+	code, der := written(256+len(bytes), func(out []byte, used *C.size_t) C.picky_der_code {
+		return C.picky_der_from_ber(C.uint32_t(message), pointer(bytes), C.size_t(len(bytes)), pointer(out), C.size_t(len(out)), used)
+	})
+	if code == C.PICKY_DER_NO_VALUE {
+		return nil, &BERError{string(der)}
+	}
+	if err := errorOf(code, 0); err != nil {
+		return nil, err
+	}
+	return der, nil
+}
+
 // An Element is an element of bytes, by its place in them.
 type Element struct {
 	Offset      int    // the index of its first byte

@@ -161,6 +161,30 @@ func TestJSON(t *testing.T) {
 	}
 }
 
+func TestBER(t *testing.T) {
+	der := inputs(t)[0].der
+	header := 2
+	if der[1] >= 0x80 {
+		header += int(der[1] & 0x7F)
+	}
+	form := append(append([]byte{0x30, 0x80}, der[header:]...), 0, 0)
+	if Check(Certificate, form) == nil {
+		t.Error("BER is DER")
+	}
+	if again, err := FromBER(Certificate, form); err != nil || !bytes.Equal(again, der) {
+		t.Error("a certificate from its BER", err)
+	}
+	var refusal *BERError
+	for _, wrong := range [][]byte{form[:len(form)-2], {}, {0x30, 0}} {
+		if _, err := FromBER(Certificate, wrong); !errors.As(err, &refusal) || refusal.Reason == "" {
+			t.Error("BER of no certificate", wrong, err)
+		}
+	}
+	if _, err := FromBER(Krb, form); err != ErrNoTable {
+		t.Error("a type without a table", err)
+	}
+}
+
 func writeAgain(t *testing.T, w *Writer, der []byte) error {
 	elements, err := Elements(der)
 	for _, it := range elements {

@@ -60,7 +60,7 @@ def text_of(name: str) -> str:
 
 def all_sources() -> str:
     """The sources, in the order of the header: codes, types, and then what is checked, gone over and written."""
-    return "".join(map(text_of, ("code", "types", "messages", "path", "json", "element", "front", "elements", "next", "writing", "order")))
+    return "".join(map(text_of, ("code", "types", "messages", "path", "json", "ber", "element", "front", "elements", "next", "writing", "order")))
 
 
 def constants() -> list[Constant]:

@@ -65,7 +65,7 @@ class Said:
     def refused_at(self, label: str) -> tuple[list[str], list[str]]:
         """The goals at which a function is refused, and what is said where its proof files name what isn't there any more."""
         folder, said = "proofs/" + "/".join(label.split("::")[1:]), self.status[label]
-        faults = [it for it in self.faults if os.path.dirname(it.path) == folder]
+        faults = [it for it in self.faults if os.path.dirname(it.path) == folder or is_in_cycle(it, folder)]
         unproved = re.search(r"did not prove (.*)", said)
         goals = [it.goal for it in faults if it.goal]
         goals += re.findall(r"`([^`]+)`", unproved[1].split("; it ")[0]) if unproved else []
@@ -98,6 +98,13 @@ class Said:
         """Why nothing follows from what it said, as a line."""
         unread = self.unread()
         return (unread[0].text if unread else next((it for it in self.lines if "error" in it), "no verdict"))[:200]
+
+
+def is_in_cycle(fault: Fault, folder: str) -> bool:
+    """Whether an error is at a goal of the function with this folder, whose proof is in that of its cycle of calls."""
+    outer, name = os.path.split(folder)
+    at, cycle = os.path.split(os.path.dirname(fault.path))
+    return at == outer and (cycle == f"+{name}" or cycle.startswith("+") and fault.goal.startswith(f"{name}-"))
 
 
 def path_of(function: Function, with_methods: set[str]) -> str:

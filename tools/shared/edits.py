@@ -76,7 +76,7 @@ class Edit:
         """Finds `changed`, what the edit makes of each function of these texts that it changes or adds; `own`, the functions that it is
         about; `is_of_function`, whether its name is that of a function; `laws`, the goals of laws that quote an implementation of which it changes or adds a function; and `touched`, what no two
         edits that are tried at once may share. A function that it adds counts by its name alone there, since the methods of a type may be
-        in several files.
+        in several files. So does a cycle of calls, since its functions are proved together.
 
         It is about the function in its name, as about a law for what it adds; where there is none, about those that it changes or adds.
         """
@@ -91,6 +91,7 @@ class Edit:
         self.own = sorted([it for it in named if it in old] or named or old or self.changed)
         self.laws = {it: said for it, text in before.items() if it not in self.changed and (said := goals_about(text, {block for _, block, _ in self.changed}))}
         self.touched: set[tuple[str, ...]] = {*self.own, *self.changed, *(it[1:] for it in self.changed if it not in before)}
+        self.touched |= {cycle for it in self.changed for cycle in cycles_of(it, before.get(it, ""))}
 
     def names(self, function: Function) -> bool:
         """Whether this is the function in the edit's name."""
@@ -113,6 +114,12 @@ class Edit:
         blocks = blocks_of(after.get(path, ""))
         is_added = block not in blocks_before or not any(it in before for it in self.changed)
         return block in blocks and (not self.changed or block == called and is_added)
+
+
+def cycles_of(function: Function, text: str) -> list[tuple[str, ...]]:
+    """The cycle of calls that a function is in, by its text."""
+    path, block, _ = function
+    return [(path, block, f"+{it}") for it in re.findall(r"#\[cycle\((\w+)\)\]", text)]
 
 
 def goals_about(law: str, blocks: set[str]) -> set[str]:

@@ -56,6 +56,13 @@ fn mini::U8Formed::measure: no proof: `search` did not prove `returns`, `index`;
 logic=not-proved
 """
 
+CYCLE = """\
+proofs/U16Formed/+sizes/Answers.antt:7:16: error: `{}`: expected type `A`
+fn mini::U16Formed::measure: not proved
+fn mini::U8Formed::measure: proved
+logic=not-proved
+"""
+
 LIB = """\
 impl Formed for u8 {
     ghost form = { Form.small };
@@ -122,6 +129,17 @@ class Verdicts(unittest.TestCase):
         both = [edit(*IS_3), edit(*IS_5)]
         self.assertEqual(("waits", "", [both[1]]), judge(Said("mini", CALLER), both[0], both))
         self.assertEqual(("refused", "returns, index", []), judge(Said("mini", CALLER), both[1], both))
+
+    def test_a_cycle_of_calls(self) -> None:
+        self.assertEqual(("refused", "measure-returns"), verdict(CYCLE.format("measure-returns"), *IS_3))
+        self.assertEqual(("refused", "not proved"), verdict(CYCLE.format("size-returns"), *IS_3))
+
+    def test_functions_of_one_cycle_are_not_tried_at_once(self) -> None:
+        text = "#[cycle(sizes)]\nfn one() -> u8 { 1 }\n#[cycle(sizes)]\nfn two() -> u8 { 2 }\nfn three() -> u8 { 3 }\n"
+        of = [Edit(f"lib.{name}.is_7", "src/lib.rt", [f"old: {{ {it} }}", "new: { 7 }"]) for it, name in ((1, "one"), (2, "two"), (3, "three"))]
+        for it in of:
+            it.look_at({"src/lib.rt": text})
+        self.assertEqual([False, True], [of[0].touched.isdisjoint(it.touched) for it in of[1:]])
 
     def test_a_text_with_a_name_that_is_not_there(self) -> None:
         for said in (NO_CONSTRUCTOR, NO_DEFINITION, NO_IMPORT):

@@ -2,7 +2,7 @@
 
 ``check("certificate", data)`` returns if the bytes are exactly one message of a type, in DER throughout, and raises `DecodeError` if they
 aren't. ``elements(data)`` goes over elements, and ``encode(tag, content)`` writes one. ``to_json("certificate", data)`` is a message in JSON,
-and ``from_json("certificate", text)`` the message with this JSON.
+and ``from_json("certificate", text)`` the message with this JSON. ``from_ber("cms", data)`` is the DER of a message in BER.
 
 Data is any object with the buffer protocol. What can change is copied first, so that other threads can run during a call.
 """
@@ -15,7 +15,7 @@ from typing import Any, Callable, Iterable, Iterator, NamedTuple, Optional, Tupl
 from . import _tables
 from ._tables import RULES, TEXTS, TYPES
 
-__all__ = ["DecodeError", "Element", "TYPES", "Writer", "check", "elements", "encode", "encode_set", "from_json", "front", "is_der", "to_json"]
+__all__ = ["DecodeError", "Element", "TYPES", "Writer", "check", "elements", "encode", "encode_set", "from_ber", "from_json", "front", "is_der", "to_json"]
 
 Data = Union[bytes, bytearray, memoryview]
 
@@ -50,13 +50,14 @@ def _load() -> ctypes.CDLL:
     library.picky_der_path.argtypes = [c_uint32, c_char_p, c_size_t, POINTER(c_uint8), c_size_t, sizes]
     library.picky_der_to_json.argtypes = [c_uint32, c_char_p, c_size_t, sizes, POINTER(c_uint8), c_size_t, sizes]
     library.picky_der_from_json.argtypes = [c_uint32, c_char_p, c_size_t, POINTER(c_uint8), c_size_t, sizes]
+    library.picky_der_from_ber.argtypes = [c_uint32, c_char_p, c_size_t, POINTER(c_uint8), c_size_t, sizes]
     library.picky_der_front.argtypes = [c_char_p, c_size_t, POINTER(_Element)]
     library.picky_der_elements.argtypes = [c_char_p, c_size_t, POINTER(_Element), c_size_t, sizes, sizes]
     library.picky_der_next.argtypes = [c_char_p, c_size_t, POINTER(_Place), sizes, c_size_t, POINTER(_Element)]
     library.picky_der_put.argtypes = [POINTER(c_uint8), c_size_t, sizes, c_uint8, c_char_p, c_size_t]
     library.picky_der_wrap.argtypes = [POINTER(c_uint8), c_size_t, sizes, c_size_t, c_uint8]
     library.picky_der_sort.argtypes = [POINTER(c_uint8), c_size_t, c_size_t, c_size_t]
-    for name in ("check", "path", "to_json", "from_json", "front", "elements", "next", "put", "wrap", "sort"):
+    for name in ("check", "path", "to_json", "from_json", "from_ber", "front", "elements", "next", "put", "wrap", "sort"):
         getattr(library, f"picky_der_{name}").restype = c_uint32
     return library
 
@@ -188,9 +189,23 @@ def from_json(name: str, json: Union[str, Data]) -> bytes:
     It raises ValueError, with what is wrong and where, if the text isn't JSON of a message of the type, MemoryError if memory ran out, and
     KeyError if no type has the name, or the type has no table.
     """
+    return _message_of(_library.picky_der_from_json, name, json.encode() if isinstance(json, str) else _bytes(json))
+
+
+def from_ber(name: str, data: Data) -> bytes:
+    """Returns the DER of the message that these bytes are in BER (X.690, 8). `check` accepts it.
+
+    It is made by a table of the type, as `to_json` has one, and the content of ``cms`` by its own type, if that has a table. It raises
+    ValueError, with what is wrong and where, if the bytes aren't BER of a message of the type, MemoryError if memory ran out, and KeyError if
+    no type has the name, or the type has no table.
+    """
+    return _message_of(_library.picky_der_from_ber, name, _bytes(data))
+
+
+def _message_of(function: Callable[..., int], name: str, given: bytes) -> bytes:
+    """The message that a function of the library makes of what is given."""
     number = TYPES.get(name) or _tables.NAMES[name]
-    text = json.encode() if isinstance(json, str) else _bytes(json)
-    code, der = _written(lambda out, used: _library.picky_der_from_json(number, text, len(text), out, len(out), used), len(text) + 256)
+    code, der = _written(lambda out, used: function(number, given, len(given), out, len(out), used), len(given) + 256)
     if code == _tables.NO_MEMORY:
         raise MemoryError
     if code == _tables.NO_TABLE:

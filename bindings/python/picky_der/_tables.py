@@ -27,8 +27,8 @@ TEXTS: Dict[int, str] = {
     7: "All elements were gone over",
     8: "The caller's place or start isn't one",
     9: "No type has this number",
-    10: "The type has no table, and so its messages have no JSON here",
-    11: "The text isn't JSON of a message of the type",
+    10: "The type has no table, and so its messages have no JSON here, and no DER of their BER",
+    11: "The text isn't JSON of a message of the type, or the bytes aren't BER of one",
 }
 
 #: The rules of X.690 by their codes: the name, what is wrong, and the clause.

@@ -162,6 +162,22 @@ class Tests(unittest.TestCase):
         self.assertRaises(KeyError, picky_der.from_json, "passport", "{}")
         self.assertRaises(TypeError, picky_der.from_json, "certificate", 5)
 
+    def test_from_ber(self) -> None:
+        """Certificates with an indefinite length are the same. What isn't BER of one is refused with a place."""
+        for it in CASES[:20]:
+            header = 2 if it.der[1] < 0x80 else 2 + (it.der[1] & 0x7F)
+            form = b"\x30\x80" + it.der[header:] + b"\0\0"
+            self.assertRaises(DecodeError, picky_der.check, "certificate", form)
+            self.assertEqual(picky_der.from_ber("certificate", form), it.der)
+            self.assertEqual(picky_der.from_ber("certificate", memoryview(it.der)), it.der)
+            with self.assertRaises(ValueError) as caught:
+                picky_der.from_ber("certificate", form[:-2])
+            self.assertIn("not BER at ", str(caught.exception))
+        for wrong in (b"", b"\x30\x00", b"\x30\x80\0"):
+            self.assertRaises(ValueError, picky_der.from_ber, "certificate", wrong)
+        self.assertRaises(KeyError, picky_der.from_ber, "krb", b"")
+        self.assertRaises(KeyError, picky_der.from_ber, "passport", b"")
+
     def test_elements(self) -> None:
         """Elements come with their contents, and deep ones too."""
         outer, inner = picky_der.elements(memoryview(bytes.fromhex("3003020105")))
@@ -267,6 +283,7 @@ class WithoutMemory(unittest.TestCase):
         self.assertRaises(MemoryError, picky_der.is_der, der)
         self.assertRaises(MemoryError, picky_der.to_json, "certificate", der)
         self.assertRaises(MemoryError, picky_der.from_json, "certificate", '{"a": 1}')
+        self.assertRaises(MemoryError, picky_der.from_ber, "certificate", der)
         self.assertEqual(picky_der.front(der).offset, 0)
         self.assertGreater(len(list(picky_der.elements(der))), 10)
         self.assertEqual(picky_der.encode(0x02, b"\x05"), b"\x02\x01\x05")

@@ -1,6 +1,6 @@
 -- What is printed of blocks, one after another.
 use Rattle.std.proofs.Common.{◌≡◌, ℕ, ◌+◌, ◌<◌, List, [], ◌∷◌, ◌++◌, length, take, get_or, Option, None, Some, refl}
-use Rattle.std.proofs.Common.{sym, ap, ◌∙◌, subst, string_bytes, arith, length-take-le}
+use Rattle.std.proofs.Common.{sym, ap, ◌∙◌, subst, string_bytes, arith, length-take-le, MatchOption}
 use Rattle.std.specs.Io.KnownBytes.{Appends}
 use Rattle.std.proofs.KnownBytes.{Appends-nil, Appends-trans}
 use Rattle.std.proofs.lemmas.List.{take_more}
@@ -14,6 +14,7 @@ use Rattle.der_program_base.specs.Contents.{IsContentsOf}
 use Rattle.der_program_base.specs.Status.{worse_of}
 use Rattle.der_read.specs.Certificates.{IsCertificatePrinted}
 use Rattle.der_read.specs.declared.message_type.MessageType.{MessageType}
+use Rattle.der_read.specs.BerPrinted.{IsBerMessage, IsNoBer}
 use Rattle.der_read.specs.Printed.{IsReadMessage}
 use Rattle.der_show.specs.declared.listing.Shown.{Shown}
 use Rattle.der_show.specs.declared.options.LineForm.{LineForm}
@@ -27,7 +28,7 @@ use Rattle.der.specs.declared.request.Request.{Request}
 use Rattle.der.specs.Notes.{skipped_text}
 use Rattle.der.specs.Report.{AreBlocksPrinted, none, next, IsBlockPrinted, IsListingPrinted, IsReadPrinted, read_lines}
 use Rattle.der.specs.Report.{IsCmsPrinted, cms_lines, AreCertificatesPrinted, certificate_lines, AreContentsPrinted}
-use Rattle.der.specs.Report.{IsReport, Prints, listing_status}
+use Rattle.der.specs.Report.{IsBerPrinted, IsDerPrinted, IsMessagePrinted, IsReport, Prints, listing_status}
 
 -- ---- one message
 
@@ -82,6 +83,50 @@ pub prints_before : (Is : List ℕ → Type 0) (back : List ℕ) (a b c : Option
     → Prints (λ text. (own : List ℕ) × Is own × (text ≡ own ++ back)) a c
 prints_before Is back a b c here after =
     (here.0 ++ back, (here.0, here.1, refl), Appends-trans a b c here.0 back here.2 after)
+
+-- ---- a message in BER
+
+module _ (r : Request) (view : View) (source : Source) (label : Option (List ℕ)) (t : MessageType) (bytes : List ℕ)
+    (status : Status) where
+  pub ber_printed : (line der : List ℕ) (a b c : Option (List ℕ))
+      → IsBerMessage r.format source.file.now source.block t bytes line der → Appends a b line
+      → Prints (IsDerPrinted r view source label der status) b c
+      → Prints (IsBerPrinted r view source label t bytes status) a c
+  ber_printed line der a b c is before here = (
+    line ++ here.0,
+    IsBerPrinted.message line der here.0 is here.1 refl,
+    Appends-trans a b c line here.0 before here.2,
+  )
+
+  pub no_ber_printed : (printed : Printed) (a b : Option (List ℕ))
+      → IsNoBer r.format source.file.now source.block t bytes printed
+      → (status ≡ printed.status) × Appends a b (string_bytes printed.text)
+      → Prints (IsBerPrinted r view source label t bytes status) a b
+  no_ber_printed printed a b is h =
+      (string_bytes printed.text, IsBerPrinted.refused (printed, is, refl, h.0), h.1)
+
+-- ---- a message in BER or in DER
+
+module _ (r : Request) (view : View) (source : Source) (label : Option (List ℕ)) (bytes : List ℕ) (status : Status)
+    (a b : Option (List ℕ)) where
+  as_message : (ber : Option MessageType) (text : List ℕ) → r.ber ≡ ber
+      → MatchOption ber (IsDerPrinted r view source label bytes status text)
+      (λ t. IsBerPrinted r view source label t bytes status text)
+      → IsMessagePrinted r view source label bytes status text
+  as_message ber text e h =
+      subst
+      (λ o. MatchOption o (IsDerPrinted r view source label bytes status text)
+      (λ t. IsBerPrinted r view source label t bytes status text))
+      (sym e) h
+
+  pub printed_in_der : r.ber ≡ None → Prints (IsDerPrinted r view source label bytes status) a b
+      → Prints (IsMessagePrinted r view source label bytes status) a b
+  printed_in_der e h = (h.0, as_message None h.0 e h.1, h.2)
+
+  pub printed_in_ber : (t : MessageType) → r.ber ≡ Some t
+      → Prints (IsBerPrinted r view source label t bytes status) a b
+      → Prints (IsMessagePrinted r view source label bytes status) a b
+  printed_in_ber t e h = (h.0, as_message (Some t) h.0 e h.1, h.2)
 
 -- ---- blocks
 

@@ -2,3 +2,4 @@ pub mod Notes
 pub mod Report
 pub mod Request
 pub mod Write
+pub mod WriteBer

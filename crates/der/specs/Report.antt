@@ -1,6 +1,6 @@
 -- What is printed of the bytes of a file.
 use Rattle.std.specs.Prelude.{◌≡◌, ℕ, ◌+◌, ◌<◌, ◌≤◌, Bool, List, [], ◌∷◌, ◌++◌, length, Option, None, Some, Ok, Err}
-use Rattle.std.specs.Prelude.{if◌then◌else◌, string_bytes}
+use Rattle.std.specs.Prelude.{if◌then◌else◌, string_bytes, MatchOption}
 use Rattle.std.specs.Io.KnownBytes.{Appends}
 use Rattle.der_program_base.specs.declared.blocks.Block.{Block}
 use Rattle.der_program_base.specs.declared.contents.Contents.{Contents}
@@ -13,6 +13,7 @@ use Rattle.der_program_base.specs.declared.status.Status.TheVariants.{Fine, Refu
 use Rattle.der_program_base.specs.Contents.{IsContentsOf}
 use Rattle.der_program_base.specs.Sections.{items_of}
 use Rattle.der_program_base.specs.Status.{worse_of}
+use Rattle.der_read.specs.BerPrinted.{IsBerMessage, IsNoBer}
 use Rattle.der_read.specs.Certificates.{IsCertificatePrinted}
 use Rattle.der_read.specs.declared.message_type.MessageType.{MessageType}
 use Rattle.der_read.specs.Printed.{IsReadMessage}
@@ -84,19 +85,34 @@ pub data AreCertificatesPrinted (format : Format) (source : Source) (bytes : Lis
   certificate_lines : AreLinesPrinted (IsCertificatePrinted format source.file.now source.block bytes) status text
       → AreCertificatesPrinted format source bytes status text
 
--- what the command of a request prints of these bytes
-pub data IsMessagePrinted (r : Request) (view : View) (source : Source) (label : Option (List ℕ)) (bytes : List ℕ)
+-- what the command of a request prints of a message in DER
+pub data IsDerPrinted (r : Request) (view : View) (source : Source) (label : Option (List ℕ)) (bytes : List ℕ)
     (status : Status) (text : List ℕ) : Type 0 where
   show : (options : ShowOptions) → r.action ≡ action.Show options
       → IsShowPrinted r.format view source options bytes status text
-      → IsMessagePrinted r view source label bytes status text
+      → IsDerPrinted r view source label bytes status text
   read : (wanted : Option MessageType) → r.action ≡ action.Read wanted
       → IsReadPrinted r.format source wanted label bytes status text
-      → IsMessagePrinted r view source label bytes status text
+      → IsDerPrinted r view source label bytes status text
   cms : (signers : Signers) → r.action ≡ action.Cms signers → IsCmsPrinted r.format source signers bytes status text
-      → IsMessagePrinted r view source label bytes status text
+      → IsDerPrinted r view source label bytes status text
   certificate : r.action ≡ action.Certificate → AreCertificatesPrinted r.format source bytes status text
-      → IsMessagePrinted r view source label bytes status text
+      → IsDerPrinted r view source label bytes status text
+
+-- Of bytes in BER it prints a line on them, and what it prints of their DER, or why they have none.
+pub data IsBerPrinted (r : Request) (view : View) (source : Source) (label : Option (List ℕ)) (t : MessageType)
+    (bytes : List ℕ) (status : Status) (text : List ℕ) : Type 0 where
+  message : (line der own : List ℕ) → IsBerMessage r.format source.file.now source.block t bytes line der
+      → IsDerPrinted r view source label der status own → text ≡ line ++ own
+      → IsBerPrinted r view source label t bytes status text
+  refused : AreLinesPrinted (IsNoBer r.format source.file.now source.block t bytes) status text
+      → IsBerPrinted r view source label t bytes status text
+
+-- what it prints of these bytes, in BER or in DER
+abbrev pub IsMessagePrinted : Request → View → Source → Option (List ℕ) → List ℕ → Status → List ℕ → Type 0
+IsMessagePrinted r view source label bytes status text = MatchOption r.ber
+    (IsDerPrinted r view source label bytes status text)
+    (λ t. IsBerPrinted r view source label t bytes status text)
 
 -- the heading of a listing of text
 abbrev pub heading_if : Action → Format → Source → Option (List ℕ) → List ℕ

@@ -14,6 +14,7 @@ use Rattle.der_signers.specs.declared.line_ends.LineEnds.TheVariants.{AsTheyAre,
 use Rattle.der_show.specs.declared.options.ShowOptions.{ShowOptions}
 use Rattle.der_signers.specs.declared.request.Request.{Request as SignersRequest}
 use Rattle.der_read.specs.declared.message_type.MessageType.{MessageType}
+use Rattle.der_read.specs.declared.message_type.MessageType.TheVariants.{Cms}
 use Rattle.der.specs.declared.request.Action.{Action}
 use Rattle.der.specs.declared.request.Action.TheVariants as action
 use Rattle.der_read.specs.Types.{word_of}
@@ -83,6 +84,20 @@ IsAction name found words action.Certificate = name ≡ codes "certificate"
 IsAction name found words (action.Read type) = (name ≢ codes "show") × (name ≢ codes "cms")
     × (name ≢ codes "certificate") × IsWanted words type
 
+-- messages are read, and no type is asked for
+abbrev pub has_no_type : Action → Bool
+has_no_type (action.Read None) = true
+has_no_type _ = false
+
+-- the type of the messages, if they are in BER: a message of CMS for `cms`, and else the one that is asked for
+abbrev pub type_in_ber : Bool → Action → Option MessageType
+type_in_ber true (action.Read wanted) = wanted
+type_in_ber true (action.Cms request) = Some Cms
+type_in_ber _ _ = None
+
+abbrev pub IsInBer : Found → Action → Option MessageType → Type 0
+IsInBer found action ber = (flag : Bool) × (HasFlag found (codes "ber") flag × (ber ≡ type_in_ber flag action))
+
 abbrev pub is_dash : List ℕ → Bool
 is_dash word = bytes_eq word (codes "-")
 
@@ -95,8 +110,14 @@ abbrev pub standard_inputs : List ℕ → Found → List (List ℕ) → ℕ
 standard_inputs name found words = count_by is_dash words
     + (if bytes_eq name (codes "cms") then dash_count (first_value found (codes "content")) else 0)
 
--- what may be wrong with the arguments of a command: the offset of `show`, or the content of `cms`, which is a file
-abbrev pub IsFaulty : List ℕ → Found → Type 0
-IsFaulty name found = (name ≢ codes "show" → name ≢ codes "cms" → ⊥)
+-- what may be wrong with what a command is to do: the offset of `show`, or the content of `cms`, which is a file
+abbrev pub IsNoAction : List ℕ → Found → Type 0
+IsNoAction name found = (name ≢ codes "show" → name ≢ codes "cms" → ⊥)
     × (name ≡ codes "show" → IsNoOffset (first_value found (codes "at")))
     × (name ≡ codes "cms" → is_some (first_value found (codes "content")) ≡ true)
+
+-- and with the arguments: messages in BER are to be read, and no type is asked for
+pub data IsFaulty (name : List ℕ) (found : Found) (words : List (List ℕ)) : Type 0 where
+  no_action : IsNoAction name found → IsFaulty name found words
+  no_type : (act : Action) → IsAction name found words act → has_no_type act ≡ true → HasFlag found (codes "ber") true
+      → IsFaulty name found words

@@ -52,7 +52,12 @@ fn read_command<'a>(alloc: Global) -> Result<Command<'a>, AllocError> {
         "Reads messages of a type: der read [TYPE] FILE... Without a TYPE it is that of the label of PEM, or each type is \
          tried",
     );
-    with_inputs(alloc, command)
+    let ber = flag(
+        alloc,
+        "ber",
+        "Take each message as BER of the TYPE, and read its DER: der read --ber TYPE FILE...",
+    );
+    with_inputs(alloc, command.arg(ber)?)
 }
 
 fn cms_command<'a>(alloc: Global) -> Result<Command<'a>, AllocError> {
@@ -69,7 +74,12 @@ fn cms_command<'a>(alloc: Global) -> Result<Command<'a>, AllocError> {
     let command = Command::new(alloc, "cms")
         .about("Reports on the signers of signed data of CMS (RFC 5652). No signature is verified")
         .arg(content)?
-        .arg(text)?;
+        .arg(text)?
+        .arg(flag(
+            alloc,
+            "ber",
+            "Take each message as BER, and report on its DER",
+        ))?;
     with_inputs(alloc, command)
 }
 
@@ -85,14 +95,19 @@ fn write_command<'a>(alloc: Global) -> Result<Command<'a>, AllocError> {
         .action(ArgAction::Append)
         .num_args(1..)
         .required(true)
-        .help(
-            "The word of a type, and a file of JSON. Without a file, or for -, it is standard input",
-        );
+        .help("The word of a type, and a file. Without a file, or for -, it is standard input");
+    let ber = flag(
+        alloc,
+        "ber",
+        "Take the file as BER of the message, in place of JSON",
+    );
     Command::new(alloc, "write")
         .about(
-            "Writes the DER of a message, from its JSON: der write TYPE [FILE]. It is the value that der read --json prints",
+            "Writes the DER of a message, from its JSON or its BER: der write [--ber] TYPE [FILE]. The JSON is the value \
+             that der read --json prints",
         )
         .after_help(STATUSES)
+        .arg(ber)?
         .arg(words)
 }
 

@@ -3,6 +3,7 @@
 use crate::report::{View, print_report};
 use crate::request::Request;
 use crate::write::{WriteRequest, Written, write_message};
+use crate::write_ber::write_from_ber;
 use der_program_base::{Status, read_input, shown};
 use picky_asn1_der::misc::WriteExt;
 use picky_asn1_der::{Asn1DerError, Result};
@@ -29,14 +30,15 @@ pub fn print_file<W: WriteExt>(
     }
 }
 
-/// Writes the DER of the message whose JSON is in a file, and returns the status.
+/// Writes the DER of the message whose BER or JSON is in a file, and returns the status.
 ///
-/// If the file can't be read or there is no JSON of the type, it says so on standard error, and the status is
-/// `Trouble`; if it isn't the JSON of a message, the status is `Refused`. The error is that of the output, or
-/// `OutOfMemory`.
+/// If the file can't be read or there is no table of the type, it says so on standard error, and the status is
+/// `Trouble`. If it isn't the BER or the JSON of a message, the status is `Refused`. The error is that of the output,
+/// or `OutOfMemory`.
 pub fn write_file<W: WriteExt>(
     rt: &HostRuntime,
     request: WriteRequest<'_>,
+    is_ber: bool,
     output: &mut W,
 ) -> io::Result<Status> {
     let name = shown(rt.alloc(), request.file)?;
@@ -48,10 +50,21 @@ pub fn write_file<W: WriteExt>(
         }
     };
     let word = request.named.word();
-    match of_output(write_message(rt.alloc(), request.named, &input, output))? {
+    let (written, form) = if is_ber {
+        (
+            write_from_ber(rt.alloc(), request.named, &input, output),
+            "DER of its BER",
+        )
+    } else {
+        (
+            write_message(rt.alloc(), request.named, &input, output),
+            "JSON",
+        )
+    };
+    match of_output(written)? {
         Written::Message => Ok(Status::Fine),
         Written::NoSchema => {
-            eprintln!(rt; "der: there is no table of {word}, and so no JSON")?;
+            eprintln!(rt; "der: there is no table of {word}, and so no {form}")?;
             Ok(Status::Trouble)
         }
         Written::Refused(reason) => {

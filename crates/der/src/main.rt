@@ -7,6 +7,7 @@ mod notes;
 mod report;
 mod request;
 mod write;
+mod write_ber;
 
 use crate::arguments::{COMMANDS, command};
 use crate::inputs::{has_colours, print_file, write_file};
@@ -49,7 +50,7 @@ fn run(rt: &HostRuntime) -> io::Result<Status> {
         if let Some(found) = matches.subcommand_matches(*name) {
             let words = found.get_strs("FILE").unwrap_or(&[]);
             return match *name {
-                "write" => run_write(rt, words),
+                "write" => run_write(rt, words, found.get_flag("ber")),
                 name => run_command(rt, name, found, words),
             };
         }
@@ -57,14 +58,14 @@ fn run(rt: &HostRuntime) -> io::Result<Status> {
     Ok(Status::Trouble)
 }
 
-// Writes the message that these words ask for, and returns the status.
-fn run_write(rt: &HostRuntime, words: &[&str]) -> io::Result<Status> {
+// Writes the message that these words ask for, from BER or from JSON, and returns the status.
+fn run_write(rt: &HostRuntime, words: &[&str], is_ber: bool) -> io::Result<Status> {
     let Some(request) = write_request(words) else {
         eprintln!(rt; "der: write wants the word of a type and at most one file")?;
         return Ok(Status::Trouble);
     };
     let mut output = Watched::new(BufWriter::new(rt.alloc(), io::writer(rt))?);
-    let written = match write_file(rt, request, &mut output) {
+    let written = match write_file(rt, request, is_ber, &mut output) {
         Ok(status) => match output.flush() {
             Ok(()) => Ok(status),
             Err(error) => Err(error),

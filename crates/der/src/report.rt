@@ -5,13 +5,14 @@ ghost use Rattle.std.specs.Io.KnownBytes.{Appends};
 ghost use Rattle.der_program_base.specs.declared.status.Status.TheVariants.{Refused};
 ghost use Rattle.der.specs.Notes.{refused_text, skipped_text};
 ghost use Rattle.der.specs.Report.{Prints, AreBlocksPrinted, IsBlockPrinted, IsMessagePrinted, IsReport};
+ghost use Rattle.der.specs.Report.{IsBerPrinted, IsDerPrinted};
 ghost use Rattle.der.specs.Report.{IsRefusalPrinted, IsListingPrinted, IsShowPrinted, IsReadPrinted, IsCmsPrinted};
 ghost use Rattle.der.specs.Report.{AreCertificatesPrinted, listing_status, front_text, form_of};
 
 use crate::notes::{heading, refusal_note, skipped_note};
 use crate::request::{Action, Request};
 use der_program_base::{Block, Contents, Format, Printed, Status, contents_of};
-use der_read::{MessageType, certificate_line, read_message};
+use der_read::{BerPrinted, MessageType, certificate_line, read_ber, read_message};
 use der_show::{LineForm, ShowOptions, Shown, Source, show_as};
 use der_signers::signers_report;
 use picky_asn1_der::Result;
@@ -110,7 +111,7 @@ fn print_block<W: WriteExt>(
     }
 }
 
-// Prints what is asked about a message.
+// Prints what is asked about a message, in BER or in DER.
 fn print_message<W: WriteExt>(
     alloc: Global,
     request: &Request,
@@ -121,6 +122,55 @@ fn print_message<W: WriteExt>(
     output: &mut W,
 ) -> Result<Status>
     ensures { IfOk result (λ status. Prints (IsMessagePrinted request.now view source.now
+        (option_copied label.entry) bytes.now status) (W.written output.old) (W.written output.new)) }
+{
+    match request.ber {
+        Some(named) => print_in_ber(alloc, request, view, source, label, named, bytes, output),
+        None => print_in_der(alloc, request, view, source, label, bytes, output),
+    }
+}
+
+// Prints a line on bytes in BER, and what is asked about the message of this type. Or it prints why they aren't one.
+fn print_in_ber<W: WriteExt>(
+    alloc: Global,
+    request: &Request,
+    view: View,
+    source: &Source<'_>,
+    label: Option<&[u8]>,
+    named: MessageType,
+    bytes: &[u8],
+    output: &mut W,
+) -> Result<Status>
+    ensures { IfOk result (λ status. Prints (IsBerPrinted request.now view source.now
+        (option_copied label.entry) named bytes.now status) (W.written output.old) (W.written output.new)) }
+{
+    match read_ber(
+        alloc,
+        request.format,
+        source.file,
+        source.block,
+        named,
+        bytes,
+    )? {
+        BerPrinted::Message { line, der } => {
+            output.write_exact(line.as_bytes())?;
+            print_in_der(alloc, request, view, source, label, &der, output)
+        }
+        BerPrinted::Refused(printed) => print_lines(&printed, output),
+    }
+}
+
+// Prints what is asked about a message in DER.
+fn print_in_der<W: WriteExt>(
+    alloc: Global,
+    request: &Request,
+    view: View,
+    source: &Source<'_>,
+    label: Option<&[u8]>,
+    bytes: &[u8],
+    output: &mut W,
+) -> Result<Status>
+    ensures { IfOk result (λ status. Prints (IsDerPrinted request.now view source.now
         (option_copied label.entry) bytes.now status) (W.written output.old) (W.written output.new)) }
 {
     let format = request.format;

@@ -3,7 +3,8 @@ ghost use Rattle.std.specs.Prelude.{◌≡◌, ◌≢◌, ◌<◌, ◌↔◌, If
 ghost use Rattle.std.specs.Prelude.{codes, true};
 ghost use Rattle.clap.specs.Words.{found_of, first_value};
 ghost use Rattle.der.specs.Request.{HasForm, HasFormat, AreShowOptions, IsNoOffset, IsSignersRequest, IsWanted};
-ghost use Rattle.der.specs.Request.{IsAction, IsFaulty, is_dash, standard_inputs};
+ghost use Rattle.der.specs.Request.{IsAction, IsNoAction, IsFaulty, IsInBer, is_dash, standard_inputs};
+ghost use Rattle.der.specs.Request.{has_no_type, type_in_ber};
 
 use clap::ArgMatches;
 use der_program_base::{Form, Format, read_input, shown};
@@ -16,6 +17,8 @@ use std::io;
 #[derive(Drop)]
 pub struct Request {
     pub action: Action,
+    /// The type of the messages, if they are in BER.
+    pub ber: Option<MessageType>,
     /// What the files are, if that is given.
     pub form: Option<Form>,
     pub format: Format,
@@ -42,32 +45,74 @@ pub fn request_of(
 ) -> io::Result<Option<Request>>
     ensures action { IfOk result (λ r. IfSome r (λ request.
         IsAction name.now (found_of matches.now) (map (λ word. word.now) words.now) request.action)) }
+    ensures ber { IfOk result (λ r. IfSome r (λ request. IsInBer (found_of matches.now) request.action request.ber)) }
     ensures form { IfOk result (λ r. IfSome r (λ request. HasForm (found_of matches.now) request.form)) }
     ensures format { IfOk result (λ r. IfSome r (λ request. HasFormat (found_of matches.now) request.format)) }
     ensures inputs { IfOk result (λ r. IfSome r (λ request.
         standard_inputs name.now (found_of matches.now) (map (λ word. word.now) words.now) < 2)) }
     ensures none { IfOk result (λ r. IfNone r
         (standard_inputs name.now (found_of matches.now) (map (λ word. word.now) words.now) < 2
-        → IsFaulty name.now (found_of matches.now))) }
+        → IsFaulty name.now (found_of matches.now) (map (λ word. word.now) words.now))) }
 {
     if standard_inputs(name, matches, words) > 1 {
         eprintln!(rt; "der: standard input is named more than once")?;
         return Ok(None);
     }
-    let action = match name {
-        "show" => show_options(rt, matches)?.map(Action::Show),
-        "cms" => signers_request(rt, matches)?.map(Action::Cms),
-        "certificate" => Some(Action::Certificate),
-        _ => Some(Action::Read(wanted_type(words))),
-    };
-    let Some(action) = action else {
+    let Some(action) = action_of(rt, name, matches, words)? else {
         return Ok(None);
     };
+    let is_ber = matches.get_flag("ber");
+    if is_ber && has_no_type(&action) {
+        eprintln!(rt; "der: read --ber wants the word of a type, and files")?;
+        return Ok(None);
+    }
+    let ber = type_in_ber(is_ber, &action);
     Ok(Some(Request {
         action,
+        ber,
         form: form_of(matches),
         format: format_of(matches),
     }))
+}
+
+// What the command is to do, or `None` after saying what is wrong.
+fn action_of(
+    rt: &HostRuntime,
+    name: &str,
+    matches: &ArgMatches<'_>,
+    words: &[&str],
+) -> io::Result<Option<Action>>
+    ensures action { IfOk result (λ r. IfSome r
+        (IsAction name.now (found_of matches.now) (map (λ word. word.now) words.now))) }
+    ensures none { IfOk result (λ r. IfNone r (IsNoAction name.now (found_of matches.now))) }
+{
+    match name {
+        "show" => Ok(show_options(rt, matches)?.map(Action::Show)),
+        "cms" => Ok(signers_request(rt, matches)?.map(Action::Cms)),
+        "certificate" => Ok(Some(Action::Certificate)),
+        _ => Ok(Some(Action::Read(wanted_type(words)))),
+    }
+}
+
+// Whether messages are read, and no type is asked for.
+fn has_no_type(action: &Action) -> bool
+    ensures { result ≡ has_no_type action.now }
+{
+    match action {
+        Action::Read(wanted) => wanted.is_none(),
+        _ => false,
+    }
+}
+
+// The type of the messages, if they are in BER.
+fn type_in_ber(is_ber: bool, action: &Action) -> Option<MessageType>
+    ensures { result ≡ type_in_ber is_ber action.now }
+{
+    match action {
+        Action::Read(wanted) if is_ber => *wanted,
+        Action::Cms(_) if is_ber => Some(MessageType::Cms),
+        _ => None,
+    }
 }
 
 // How many of the inputs are standard input. Two is as good as more.

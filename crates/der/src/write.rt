@@ -12,7 +12,7 @@ use std::alloc::Global;
 pub struct WriteRequest<'a> {
     /// The type of the message.
     pub named: MessageType,
-    /// The file of JSON, or `-` for standard input.
+    /// The file of JSON or BER, or `-` for standard input.
     pub file: &'a str,
 }
 
@@ -21,9 +21,9 @@ pub struct WriteRequest<'a> {
 pub enum Written {
     /// Its DER was written.
     Message,
-    /// Nothing was written: there is no schema of the type, and so no JSON.
+    /// Nothing was written: there is no table of the type, and so neither JSON nor the DER of its BER.
     NoSchema,
-    /// Nothing was written: it isn't the JSON of a message of the type, for this reason.
+    /// Nothing was written: it isn't the JSON or the BER of a message of the type, for this reason.
     Refused(String),
 }
 

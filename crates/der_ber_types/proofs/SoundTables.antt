@@ -1,14 +1,12 @@
 -- A table that passes the test keeps the rules by which elements are distinguished.
-use Rattle.std.proofs.Common.{◌≡◌, ℕ, zero, suc, Bool, true, ◌&&◌, List, [], ◌∷◌, Some, slice_get, length, map, ap, subst}
-use Rattle.std.specs.Borrow.{Bor}
+use Rattle.std.proofs.Common.{◌≡◌, ℕ, zero, suc, Bool, true, ◌&&◌, List, [], ◌∷◌, Some, slice_get, length, map, subst}
 use Rattle.std.specs.List.{AllByRecursion, list_all}
 use Rattle.der_types.specs.CharacterStringLaws.{both}
-use Rattle.der_schema.specs.declared.node.Alternative.{Alternative}
 use Rattle.der_schema.specs.declared.node.Kind.{Kind}
 use Rattle.der_schema.specs.declared.node.Kind.TheVariants as kind
 use Rattle.der_schema.specs.declared.node.Member.{Member}
 use Rattle.der_schema.specs.declared.node.Node.{Node}
-use Rattle.der_schema.specs.Rules.{are_all_apart, are_members_apart, in_set, is_in_tag, keeps_default, keeps_rules}
+use Rattle.der_schema.specs.Rules.{are_all_apart, are_members_apart, in_set, is_in_tag, keeps_default}
 use Rattle.der_schema.specs.Rules.{keeps_rules_at, keeps_set, keeps_tag, members_of}
 use Rattle.der_schema.specs.Tags.{alternatives_of, tags_at}
 use Rattle.der_ber_types.specs.Laws.{RulesAreKept}

@@ -1,10 +1,10 @@
 -- A table that passes the test keeps the rule of defaults.
-use Rattle.std.proofs.Common.{◌≡◌, ℕ, zero, suc, ◌+◌, ◌<◌, ◌≤◌, Bool, true, false, ◌&&◌, ◌||◌, List, [], ◌∷◌, Option, Some}
-use Rattle.std.proofs.Common.{None, slice_get, ℤ, pos, inl, inr, ◌⊎◌, refl, sym, ap, ◌∙◌, subst, arith}
+use Rattle.std.proofs.Common.{◌≡◌, ℕ, zero, suc, ◌<◌, Bool, true, false, ◌||◌, List, [], ◌∷◌, Option, Some}
+use Rattle.std.proofs.Common.{None, slice_get, pos, inl, inr, ◌⊎◌, refl, sym, ap, ◌∙◌, subst, arith}
 use Rattle.std.proofs.lemmas.Bool.{false≢true, true≢false, cases_lt, le-leb, lt-ltb, ltb-true}
 use Rattle.std.specs.Int.{complement_if}
 use Rattle.std.specs.Int.Digits.{number_from_digits}
-use Rattle.std.specs.Prelude.{nat_lt, if◌then◌else◌}
+use Rattle.std.specs.Prelude.{if◌then◌else◌}
 use Rattle.picky_der_core.specs.declared.asn1.wrapper.Wrapper.{Wrapper}
 use Rattle.picky_der_core.specs.declared.asn1.wrapper.Wrapper.TheVariants as wrapper
 use Rattle.picky_der_core.specs.Element.{tlv}
@@ -162,7 +162,8 @@ module _ (nodes : List Node) (v : DefaultValue) where
   said i t P (Says.explicit tag j c n whole is f) p =
       f (explicit-value nodes v i (der t) tag j c [] (begins-alone tag c (der t) n whole) is p)
 
-  lifted : (i j : ℕ) (t : Tree) (P R : Type 0) → ((tag : ℕ) (x : Inside) → IsInside nodes j tag x → IsInside nodes i tag x)
+  lifted : (i j : ℕ) (t : Tree) (P R : Type 0)
+      → ((tag : ℕ) (x : Inside) → IsInside nodes j tag x → IsInside nodes i tag x)
       → (P → R) → Says nodes v j t P → Says nodes v i t R
   lifted i j t P R f g (Says.own tag x c n whole is none h) =
       Says.own tag x c n whole (f tag x is) none (λ p. g (h p))
@@ -262,7 +263,8 @@ module _ (nodes : List Node) (v : DefaultValue) (leaf : Kind → Bool) (same : K
       let it = explicit-is node.kind j e in
       let w : Wrapper = it.around in
       let types = before nodes i in
-      let made : Denotes (Notation.wrapped w (type_at types j)) t = subst (λ k. Denotes (type_from types k) t) it.is d in
+      let made : Denotes (Notation.wrapped w (type_at types j)) t =
+      subst (λ k. Denotes (type_from types k) t) it.is d in
       let a : Tree = made.0 in
       let readable : IsReadable (Tree.wrapped w a) = subst IsReadable made.1 r in
       let at = earlier-node nodes i j node a h made.2 in
@@ -293,7 +295,8 @@ module _ (nodes : List Node) (v : DefaultValue) (leaf : Kind → Bool) (same : K
       let it = implicit-is node.kind j e in
       let w : Wrapper = wrapper.Implicit it.number in
       let types = before nodes i in
-      let made : Denotes (Notation.wrapped w (type_at types j)) t = subst (λ k. Denotes (type_from types k) t) it.is d in
+      let made : Denotes (Notation.wrapped w (type_at types j)) t =
+      subst (λ k. Denotes (type_from types k) t) it.is d in
       let a : Tree = made.0 in
       let readable : IsReadable (Tree.wrapped w a) = subst IsReadable made.1 r in
       let at = earlier-node nodes i j node a h made.2 in
@@ -362,7 +365,7 @@ default_in _ = Tree.absent
 abbrev is_default : DefaultValue → Notation → Tree → Type 0
 is_default v n t = t ≡ default_in (default (value_in v) n)
 
-first_byte : List ℕ → ℕ
+abbrev first_byte : List ℕ → ℕ
 first_byte [] = 0
 first_byte (b ∷ bs) = b
 

@@ -1,5 +1,5 @@
 -- A table that passes the test keeps the rules of tags.
-use Rattle.std.proofs.Common.{◌≡◌, ◌≢◌, ℕ, zero, suc, ◌+◌, ◌<◌, Bool, true, false, not, ◌&&◌, ◌||◌, List, [], ◌∷◌, ◌++◌}
+use Rattle.std.proofs.Common.{◌≡◌, ◌≢◌, ℕ, zero, suc, ◌+◌, ◌<◌, Bool, true, false, not, ◌||◌, List, [], ◌∷◌, ◌++◌}
 use Rattle.std.proofs.Common.{Option, Some, None, slice_get, is_some, map, inl, inr, refl, sym, ap, ◌∙◌, subst, arith}
 use Rattle.std.proofs.lemmas.Bool.{false≢true, eq-eqb}
 use Rattle.std.proofs.lemmas.Bool.Decides.{eqb_tells}
@@ -20,7 +20,8 @@ use Rattle.der_schema.specs.declared.node.Presence.TheVariants as presence
 use Rattle.der_schema.specs.Rules.{are_all_apart, are_members_apart, index_holds, in_set, is_in_tag, is_required}
 use Rattle.der_schema.specs.Rules.{is_sequence, is_set, is_wrapped, keeps_set, keeps_tag, members_of, next_tags}
 use Rattle.der_schema.specs.Rules.{node_holds}
-use Rattle.der_schema.specs.Tags.{alternatives_of, are_apart, has_tag, joined, own_tag, same_content, same_type, tags_at}
+use Rattle.der_schema.specs.Tags.{alternatives_of, are_apart, has_tag, joined, own_tag, same_content, same_type}
+use Rattle.der_schema.specs.Tags.{tags_at}
 use Rattle.der_schema.specs.Tags.{tags_of_alternatives, tags_of_any, tags_of_kind, tags_of_node, tags_of_own}
 use Rattle.der_schema.specs.Tags.{tags_of_same}
 use Rattle.der_ber_types.specs.declared.inside.Inside.{Inside}
@@ -106,7 +107,8 @@ module _ (tags : ℕ → Option (List ℕ)) (tag : ℕ) where
     after_alternatives : has_tag (joined (tags_of_same tags (same_type k)) others) tag ≡ true
         → has_tag (tags_of_kind tags k) tag ≡ true
     after_alternatives h =
-        has-right (tags_of_alternatives tags (alternatives_of k)) (joined (tags_of_same tags (same_type k)) others) tag h
+        has-right (tags_of_alternatives tags (alternatives_of k))
+        (joined (tags_of_same tags (same_type k)) others) tag h
 
     kind-same_type : (j : ℕ) → same_type k ≡ Some j → has_tag (tags j) tag ≡ true
         → has_tag (tags_of_kind tags k) tag ≡ true
@@ -132,14 +134,14 @@ module _ (tags : ℕ → Option (List ℕ)) (tag : ℕ) where
 own-has : (nodes : List Node) (i own tag : ℕ) (x : Inside) → IsInsideOwn nodes i own tag x
     → has_tag (tags_of_own (Some own)) tag ≡ true
 own-has nodes i own tag x (IsInsideOwn.whole same has) =
-    or-first (tag == own) (contains (if is_constructed (own + 0x20) then own + 0x20 ∷ [] else []) tag)
+    or-first (tag == own) (contains (if is_constructed (own + 0x20) then (own + 0x20) ∷ [] else []) tag)
     (eq-eqb tag own same)
 own-has nodes i own tag x (IsInsideOwn.parts y constructed more has in_parts) =
     let form : is_constructed (own + 0x20) ≡ true = ap is_constructed more ∙ constructed in
-    let there : contains (own + 0x20 ∷ []) tag ≡ true =
+    let there : contains ((own + 0x20) ∷ []) tag ≡ true =
     or-first (tag == (own + 0x20)) false (eq-eqb tag (own + 0x20) (sym more)) in
-    or-second (tag == own) (contains (if is_constructed (own + 0x20) then own + 0x20 ∷ [] else []) tag)
-    (subst (λ b. contains (if b then own + 0x20 ∷ [] else []) tag ≡ true) (sym form) there)
+    or-second (tag == own) (contains (if is_constructed (own + 0x20) then (own + 0x20) ∷ [] else []) tag)
+    (subst (λ b. contains (if b then (own + 0x20) ∷ [] else []) tag ≡ true) (sym form) there)
 
 -- ---- a table
 
@@ -204,7 +206,8 @@ module _ (nodes : List Node) where
     alternatives-apart (c ∷ cs) e j zero a b less p q = absurd (omega (arith, less))
     alternatives-apart (c ∷ cs) e zero (suc k) a b less p q =
         let same : c ≡ a = cc in
-        subst (λ (d : Alternative). AreApart nodes d.node b.node) same (other-apart c.node cs k b (all c.node (map (λ a. a.node) cs) e).0 q)
+        subst (λ (d : Alternative). AreApart nodes d.node b.node) same
+        (other-apart c.node cs k b (all c.node (map (λ a. a.node) cs) e).0 q)
     alternatives-apart (c ∷ cs) e (suc j) (suc k) a b less p q =
         alternatives-apart cs (all c.node (map (λ a. a.node) cs) e).1 j k a b (omega (arith, less)) p q
 
@@ -214,7 +217,8 @@ module _ (nodes : List Node) where
     not_required presence.Required free = absurd (free refl)
     not_required p free = refl
 
-    next-has : (ms : List Member) (tag : ℕ) → CanBeNext nodes ms tag → has_tag (next_tags (tags_at nodes n) ms) tag ≡ true
+    next-has : (ms : List Member) (tag : ℕ) → CanBeNext nodes ms tag
+        → has_tag (next_tags (tags_at nodes n) ms) tag ≡ true
     next-has [] tag h = absurd h
     next-has (m ∷ ms) tag (inl p) = has-left (tags_at nodes n m.node) _ tag (has-at n m.node tag p)
     next-has (m ∷ ms) tag (inr h) =
@@ -270,7 +274,8 @@ module _ (nodes : List Node) where
     set-apart k ms e same =
         subst (AreAllApart nodes) same (all-apart (members_of k) (is_set-parts k e).1)
 
-    pub set_members-apart : (i j : ℕ) (k : Kind) (ms : Bor (List Member)) → k ≡ kind.Wrapped (wrapper.ImplicitList 0x31) j
+    pub set_members-apart : (i j : ℕ) (k : Kind) (ms : Bor (List Member))
+        → k ≡ kind.Wrapped (wrapper.ImplicitList 0x31) j
         → keeps_set (tags_at nodes n) nodes (in_set k) ≡ true → HasInside nodes j (inside.Members ms)
         → AreAllApart nodes ms.now
     set_members-apart i j k ms e keeps has = by_inside has

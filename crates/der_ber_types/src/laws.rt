@@ -12,7 +12,7 @@ pub fn own_ber()
     ensures { DerIsOwnBer }
 {}
 
-/// A table of which the clause `rules` holds, as each one of `der_schemas`, is one of which `own_ber` speaks.
+/// A table is one of which `own_ber` speaks, if it keeps the rules of tags and defaults by the test of `der_schema`.
 pub fn sound_table()
     ensures { RulesAreKept }
 {}

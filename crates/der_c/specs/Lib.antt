@@ -1,3 +1,4 @@
+pub mod Ber
 pub mod Codes
 pub mod Verdict
 pub mod Types

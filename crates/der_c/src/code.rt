@@ -36,10 +36,10 @@ pub const PICKY_DER_NO_PLACE: u32 = 8;
 /// No type has this number.
 pub const PICKY_DER_UNKNOWN_TYPE: u32 = 9;
 
-/// The type has no table, and so its messages have no JSON here.
+/// The type has no table, and so its messages have no JSON here, and no DER of their BER.
 pub const PICKY_DER_NO_TABLE: u32 = 10;
 
-/// The text isn't JSON of a message of the type.
+/// The text isn't JSON of a message of the type, or the bytes aren't BER of one.
 pub const PICKY_DER_NO_VALUE: u32 = 11;
 
 /// Returns the code of an error.

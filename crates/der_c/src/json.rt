@@ -97,7 +97,7 @@ pub extern "C" fn picky_der_from_json(
 }
 
 // The code for a refusal whose words were appended with this code.
-fn refused_code(put: u32) -> u32
+pub(crate) fn refused_code(put: u32) -> u32
     ensures { result ≡ refused_code put }
 {
     if put == PICKY_DER_OK {

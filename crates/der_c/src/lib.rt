@@ -2,6 +2,7 @@
 //! the libraries below.
 #![tactic(auto)]
 
+mod ber;
 mod check;
 mod code;
 mod element;

@@ -1,4 +1,5 @@
 pub mod FirstTags
+pub mod KindContents
 pub mod Nodes
 pub mod PassedElements
 pub mod Walks

@@ -1,5 +1,6 @@
 pub mod Awaited
 pub mod Begins
+pub mod Contents
 pub mod Inside
 pub mod Names
 pub mod Passed

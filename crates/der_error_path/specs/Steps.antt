@@ -1,5 +1,5 @@
 -- The steps of a path, by the nodes of a schema.
-use Rattle.std.specs.Prelude.{◌≡◌, ℕ, List, [], ◌∷◌, Option, None, Some, true, if◌then◌else◌}
+use Rattle.std.specs.Prelude.{◌≡◌, ℕ, List, [], ◌∷◌, Option, None, Some, true, false, if◌then◌else◌}
 use Rattle.der_path.specs.Elements.{BeginsWith, BeginsWithNone}
 use Rattle.der_schema.specs.declared.node.DefaultValue.{DefaultValue}
 use Rattle.der_schema.specs.declared.node.Member.{Member}
@@ -11,6 +11,7 @@ use Rattle.der_error_path.specs.declared.path.Mistake.TheVariants as mistake
 use Rattle.der_error_path.specs.declared.steps.Step.{Step}
 use Rattle.der_error_path.specs.Awaited.{Awaited, are_sorted, part_of, default_in}
 use Rattle.der_error_path.specs.Begins.{can_begin}
+use Rattle.der_error_path.specs.Contents.{node_can_have}
 use Rattle.der_error_path.specs.Inside.{AwaitsInNode}
 use Rattle.der_error_path.specs.Passed.{ArePassedAs, IsMissing}
 
@@ -48,6 +49,9 @@ pub data IsMistake (nodes : List Node) (here : Awaited) (rest : List ℕ) (s : S
   missing : (tag : ℕ) (content after : List ℕ) (inner : Awaited) (m : Member)
       → IsElementOf nodes s rest tag content after inner → IsMissing nodes inner content m
       → IsMistake nodes here rest s (mistake.Missing m.name)
+  -- its content is that of no value of its type
+  content : (tag : ℕ) (content after : List ℕ) (inner : Awaited) → IsElementOf nodes s rest tag content after inner
+      → node_can_have nodes s.node content ≡ false → IsMistake nodes here rest s mistake.Content
   -- it is a member that has a default
   default : (value : DefaultValue) → default_in nodes s.identifier here ≡ Some value
       → IsMistake nodes here rest s mistake.Default

@@ -4,6 +4,7 @@
 #![tactic(auto)]
 
 mod begins;
+mod contents;
 mod expected;
 mod inside;
 mod mistakes;

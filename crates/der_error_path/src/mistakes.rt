@@ -4,6 +4,7 @@ ghost use Rattle.der_error_path.specs.Awaited.{are_sorted, awaited};
 ghost use Rattle.der_error_path.specs.Steps.{IsElementOf, IsMistake, mistake_of};
 
 use crate::begins::begins;
+use crate::contents::node_can_have;
 use crate::expected::{Expected, Part};
 use crate::passed::{Passed, missing_in};
 use crate::{Mistake, Step};
@@ -44,6 +45,9 @@ pub(crate) fn mistake_in(
 {
     if let Some(name) = missing_in(nodes, inner, element.content) {
         return Some(Mistake::Missing(name));
+    }
+    if !node_can_have(nodes, step.node, element.content) {
+        return Some(Mistake::Content);
     }
     if let Some(value) = passed.here.default(nodes, Tag::from(step.identifier)) {
         if is_content_of(value, element.content) {

@@ -43,9 +43,11 @@ pub struct ErrorPath {
 
 /// Returns where the error is with which a type refused these bytes after so many of them, as `from_der` says.
 ///
-/// The error names the byte at this position if it is in an element that the type doesn't have there, or that begins
-/// with another tag. Else it names the byte before it, which is the last one that was consumed: of a header that was
-/// refused, of a content, or of an element in which a member is missing.
+/// The error names the byte before this position, the last one that was consumed, if it is in a header that was
+/// refused, or ends an element whose content is refused or lacks a member. Else it names the byte at this position if
+/// that is in an element that the type doesn't have there, or that begins with another tag. So of two mistakes it is
+/// the first one. What is wrong in a string or a bit string, or by a constraint, is seen only if nothing is wrong at
+/// the position.
 ///
 /// `AllocError` if an allocation fails.
 pub fn path_of_error(
@@ -59,32 +61,55 @@ pub fn path_of_error(
     ensures steps { IfOk result (λ it. AreSteps schema.nodes.now (Awaited.value schema.root) bytes.now it.numbers.items
         it.steps.items it.mistake) }
 {
-    let ahead = path_of_byte(alloc, schema, bytes, position, position)?;
-    if matches!(ahead.mistake, Mistake::Extra | Mistake::OtherTag) {
-        return Ok(ahead);
+    let (before, is_refused) = path_of_byte(
+        alloc,
+        schema,
+        bytes,
+        position.saturating_sub(1),
+        position,
+    )?;
+    if is_refused {
+        return Ok(before);
     }
-    path_of_byte(alloc, schema, bytes, position.saturating_sub(1), position)
+    let (ahead, _) = path_of_byte(alloc, schema, bytes, position, position)?;
+    match ahead.mistake {
+        Mistake::Extra | Mistake::OtherTag => Ok(ahead),
+        _ => Ok(before),
+    }
 }
 
-// The path of the byte at this place, for an error at this position.
+// The path of the byte at this place, for an error at this position, and whether an element that was consumed is known
+// to be refused there.
 fn path_of_byte(
     alloc: Global,
     schema: Schema,
     bytes: &[u8],
     place: usize,
     position: usize,
-) -> Result<ErrorPath, AllocError>
-    ensures place { IfOk result (λ it. it.place ≡ place) }
-    ensures numbers { IfOk result (λ it. IsPath bytes.now place it.numbers.items) }
-    ensures steps { IfOk result (λ it. AreSteps schema.nodes.now (Awaited.value schema.root) bytes.now it.numbers.items
-        it.steps.items it.mistake) }
+) -> Result<(ErrorPath, bool), AllocError>
+    ensures place { IfOk result (λ pair. pair.0.place ≡ place) }
+    ensures numbers { IfOk result (λ pair. IsPath bytes.now place pair.0.numbers.items) }
+    ensures steps { IfOk result (λ pair. AreSteps schema.nodes.now (Awaited.value schema.root) bytes.now
+        pair.0.numbers.items pair.0.steps.items pair.0.mistake) }
 {
     let numbers = path_at(alloc, bytes, place)?;
-    let (steps, mistake) = steps_of(alloc, schema, bytes, &numbers, position)?;
-    Ok(ErrorPath {
+    let (steps, found) = steps_of(alloc, schema, bytes, &numbers, position)?;
+    let is_refused = is_refusal(&steps, found);
+    let path = ErrorPath {
         place,
         numbers,
         steps,
-        mistake,
-    })
+        mistake: found.unwrap_or(Mistake::Content),
+    };
+    Ok((path, is_refused))
+}
+
+// Whether this mistake of the last step is why an element was refused that was consumed. A tag is refused before it is
+// consumed, and elements in one of any type aren't read.
+fn is_refusal(steps: &[Step], found: Option<Mistake>) -> bool {
+    match found {
+        None | Some(Mistake::Extra | Mistake::OtherTag) => false,
+        Some(Mistake::NoElement) => matches!(steps.last(), Some(Step { node: Some(_), .. })),
+        Some(_) => true,
+    }
 }

@@ -1,5 +1,5 @@
 //! The steps of a path, by the names of a schema.
-ghost use Rattle.std.specs.Prelude.{◌≡◌, ◌∷◌, ◌⊎◌, ℕ, List, IfOk, IfErr, IsSomeAnd};
+ghost use Rattle.std.specs.Prelude.{◌≡◌, ◌∷◌, ◌⊎◌, ℕ, List, IfOk, IfErr, IsSomeAnd, unwrap_or};
 ghost use Rattle.der_path.specs.Paths.{IsPath};
 ghost use Rattle.der_error_path.specs.Awaited.{Awaited, awaited};
 ghost use Rattle.der_error_path.specs.Steps.{AreSteps, IsElementOf, IsMistake, IsStep};
@@ -27,17 +27,18 @@ pub struct Step {
     pub identifier: u8,
 }
 
-// The steps of a path by numbers, up to the one with the mistake, for an error at this position.
+// The steps of a path by numbers, up to the one with the mistake, for an error at this position. The mistake is `None`
+// if nothing is known to be wrong, and is then in the content of the last element.
 pub(crate) fn steps_of(
     alloc: Global,
     schema: Schema,
     bytes: &[u8],
     numbers: &[usize],
     position: usize,
-) -> Result<(Vec<Step>, Mistake), AllocError>
+) -> Result<(Vec<Step>, Option<Mistake>), AllocError>
     requires { (place : ℕ) × IsPath bytes.now place numbers.now }
     ensures { IfOk result (λ pair. AreSteps schema.nodes.now (Awaited.value schema.root) bytes.now numbers.now
-        pair.0.items pair.1) }
+        pair.0.items (unwrap_or pair.1 Mistake.Content)) }
 {
     let nodes = schema.nodes;
     let mut steps = Vec::new(alloc);
@@ -49,13 +50,13 @@ pub(crate) fn steps_of(
     while let [index, others @ ..] = left {
         let passed = pass(nodes, expected, around, *index);
         let [identifier, ..] = passed.rest else {
-            return Ok((steps, Mistake::NoElement));
+            return Ok((steps, Some(Mistake::NoElement)));
         };
         let step = step_to(nodes, passed.here, *index, *identifier);
         steps.push(step)?;
         let (element, inner) = match element_of(nodes, &step, passed.rest) {
             Ok(within) => within,
-            Err(mistake) => return Ok((steps, mistake)),
+            Err(mistake) => return Ok((steps, Some(mistake))),
         };
         end = end.saturating_sub(element.after.len());
         if end == position {
@@ -68,9 +69,9 @@ pub(crate) fn steps_of(
     match found {
         Some((depth, mistake)) => {
             steps.truncate(depth);
-            Ok((steps, mistake))
+            Ok((steps, Some(mistake)))
         }
-        None => Ok((steps, Mistake::Content)),
+        None => Ok((steps, None)),
     }
 }
 

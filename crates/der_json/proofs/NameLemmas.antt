@@ -9,7 +9,7 @@ use Rattle.der_types.specs.CharacterStringLaws.{both}
 use Rattle.der_schema.specs.declared.node.Kind.{Kind}
 use Rattle.der_schema.specs.declared.node.Node.{Node}
 use Rattle.der_json.specs.Json.{IsOfKind}
-use Rattle.der_json.specs.Names.{are_different, are_names, has_names, is_small, names_in}
+use Rattle.der_schema.specs.Names.{are_different, are_names, has_names, is_small, names_in}
 
 abbrev pub AreDifferent : List (List ℕ) → Type 0
 AreDifferent [] = Unit {0}

@@ -36,7 +36,7 @@ use Rattle.der_schema.specs.declared.node.Kind.TheVariants as kind
 use Rattle.der_json.specs.Contents.{IsArcsJson, IsBitsJson, IsContentJson, IsStringJson, IsTextJson}
 use Rattle.der_json.specs.Json.{IsAny}
 use Rattle.der_json.specs.Laws.{OneContent}
-use Rattle.der_json.specs.Names.{item_names, names_in}
+use Rattle.der_schema.specs.Names.{item_names, names_in}
 use Rattle.der_json.specs.Numbers.{IsItemJson, IsNumberJson, digits_text, integer_data, integer_text, item_name}
 use Rattle.der_json.proofs.NameLemmas.{AreDifferent, AreNames, IsSmall, names_from}
 

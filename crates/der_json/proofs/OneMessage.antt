@@ -22,7 +22,7 @@ use Rattle.der_json.specs.Contents.{IsPlain}
 use Rattle.der_json.specs.Json.{AreItems, AreMembers, IsAlternative, IsAny, IsJson, alternatives_in, members_in}
 use Rattle.der_json.specs.Json.{wrapped_data}
 use Rattle.der_json.specs.Laws.{OneMessage}
-use Rattle.der_json.specs.Names.{alternative_names, member_names, names_in}
+use Rattle.der_schema.specs.Names.{alternative_names, member_names, names_in}
 use Rattle.der_json.proofs.Forms.{Form, IsFormed, IsListed, IsSequence, IsUnder, IsWrapped, any_form, choice_form}
 use Rattle.der_json.proofs.Forms.{form_of, formed, list_form, plain_form, same_form, sequence_form}
 use Rattle.der_json.proofs.NameLemmas.{AreDifferent, AreNames, HasNames, each_has_names}

@@ -1,5 +1,12 @@
-//! Laws of messages and their JSON. Each is the contract of a function that does nothing.
-ghost use Rattle.der_json.specs.Laws.{OneContent, OneMessage};
+//! Laws of messages and their JSON. Those of the relation are contracts of functions that do nothing.
+ghost use Rattle.std.specs.Prelude.{◌≡◌, true, IfSome};
+ghost use Rattle.der_json.specs.Laws.{OneContent, OneJsonOfContent, OneMessage};
+ghost use Rattle.der_schema.specs.Names.{has_names};
+ghost use Rattle.picky_der_core.specs.Element.{AreBytes};
+
+use crate::{from_json, to_json};
+use der_schema::Schema;
+use std::alloc::Global;
 
 /// No two contents of a type without parts have one JSON, if its items have names of X.680: each begins with a small
 /// letter (12.3), and no two are one (20).
@@ -7,8 +14,37 @@ pub fn one_content()
     ensures { OneContent }
 {}
 
+/// A content of a type without parts has only one JSON, unless the type is an ENUMERATED with an extension marker: the
+/// definition also lets a number be the JSON of an item, which `to_json` doesn't return.
+pub fn one_json_of_content()
+    ensures { OneJsonOfContent }
+{}
+
 /// No two messages of a type have one JSON, if the members, alternatives or items of each type in it have such names
 /// (20, 25, 29).
 pub fn one_message()
     ensures { OneMessage }
+{}
+
+/// Returns the bytes that `from_json` returns of the JSON that `to_json` returns of these, or `None` if one of them
+/// refuses. They are these bytes, by a schema with such names.
+pub fn there_and_back(alloc: Global, schema: Schema, bytes: &[u8]) -> Option<Vec<u8>>
+    ensures { has_names schema.nodes.now ≡ true → IfSome result (λ again. again.items ≡ bytes.now) }
+{
+    let Ok(json) = to_json(alloc, schema, bytes) else {
+        return None;
+    };
+    match from_json(alloc, schema, &json) {
+        Ok(again) => {
+            // No effect at run time.
+            are_bytes(again.as_slice());
+            Some(again)
+        }
+        Err(_) => None,
+    }
+}
+
+// Bytes are numbers below 256.
+fn are_bytes(bytes: &[u8])
+    ensures { AreBytes bytes.now }
 {}

@@ -1,4 +1,7 @@
 //! The constraints of values in JSON (X.680, 51), and those of their types in the library.
+ghost use Rattle.std.specs.Prelude.{IfSome};
+ghost use Rattle.serde_json.specs.Data.{Data};
+ghost use Rattle.der_json.specs.Refusals.{IsMistake};
 
 use crate::refusal::JsonMistake;
 use der_schema::{Item, Kind, Node};
@@ -6,7 +9,9 @@ use picky_der_core::integer::{is_integer, number_of};
 use serde_json::Value;
 
 // What is wrong with a value of the type inside by the constraint that a kind is.
-pub(crate) fn broken_constraint(nodes: &[Node], kind: Kind, json: &Value) -> Option<JsonMistake> {
+pub(crate) fn broken_constraint(nodes: &[Node], kind: Kind, json: &Value) -> Option<JsonMistake>
+    ensures { IfSome result (λ mistake. (whole : Data) → IsMistake mistake whole) }
+{
     let (is_kept, mistake) = match kind {
         Kind::InRange { least, most, .. } => {
             (is_number_in(json, least, most), JsonMistake::Number)
@@ -32,7 +37,9 @@ pub(crate) fn broken_constraint(nodes: &[Node], kind: Kind, json: &Value) -> Opt
 }
 
 // What is wrong with a content by the type that a kind without parts has in the library, or as DER.
-pub(crate) fn broken_type(kind: Kind, content: &[u8], json: &Value) -> Option<JsonMistake> {
+pub(crate) fn broken_type(kind: Kind, content: &[u8], json: &Value) -> Option<JsonMistake>
+    ensures { IfSome result (λ mistake. (whole : Data) → IsMistake mistake whole) }
+{
     let (is_kept, mistake) = match kind {
         Kind::NamedInteger(items) => (is_number_of(items, json), JsonMistake::Number),
         Kind::Unsigned(bits) => (is_unsigned(bits, content), JsonMistake::Number),

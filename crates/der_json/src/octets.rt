@@ -1,7 +1,9 @@
 //! Contents from JSON.
-ghost use Rattle.std.specs.Prelude.{IfOk};
+ghost use Rattle.std.specs.Prelude.{IfErr, IfOk};
+ghost use Rattle.serde_json.specs.Data.{Data};
 ghost use Rattle.serde_json.specs.View.{view};
 ghost use Rattle.der_json.specs.Contents.{IsContentJson};
+ghost use Rattle.der_json.specs.Refusals.{IsMistake, IsRefusal};
 
 use crate::JsonError;
 use crate::contents::content_value;
@@ -37,7 +39,9 @@ pub(crate) fn content_octets(
 }
 
 // What is wrong with a content that has the form of its kind, and that `to_json` refuses.
-fn mistake_in(kind: Kind) -> JsonMistake {
+fn mistake_in(kind: Kind) -> JsonMistake
+    ensures { (whole : Data) → IsMistake result whole }
+{
     match kind {
         Kind::Integer | Kind::NamedInteger(_) | Kind::Unsigned(_) | Kind::Signed(_) => {
             JsonMistake::Number
@@ -74,14 +78,18 @@ fn unchecked_octets(alloc: Global, kind: Kind, json: &Value) -> Result<Vec<u8>, 
 }
 
 // The text that this JSON is.
-fn text_of<'a>(alloc: Global, json: &'a Value) -> Result<&'a str, FromJsonError> {
+fn text_of<'a>(alloc: Global, json: &'a Value) -> Result<&'a str, FromJsonError>
+    ensures { IfErr result (IsRefusal (view json.now)) }
+{
     match json.as_str() {
         Some(text) => Ok(text),
         None => Err(FromJsonError::of(alloc, JsonMistake::Form(JsonForm::Text))),
     }
 }
 
-fn boolean_octets(alloc: Global, json: &Value) -> Result<Vec<u8>, FromJsonError> {
+fn boolean_octets(alloc: Global, json: &Value) -> Result<Vec<u8>, FromJsonError>
+    ensures { IfErr result (IsRefusal (view json.now)) }
+{
     let mut content = Vec::new(alloc);
     match json {
         Value::Bool(true) => content.push(0xFF)?,
@@ -93,7 +101,9 @@ fn boolean_octets(alloc: Global, json: &Value) -> Result<Vec<u8>, FromJsonError>
     Ok(content)
 }
 
-fn null_octets(alloc: Global, json: &Value) -> Result<Vec<u8>, FromJsonError> {
+fn null_octets(alloc: Global, json: &Value) -> Result<Vec<u8>, FromJsonError>
+    ensures { IfErr result (IsRefusal (view json.now)) }
+{
     match json {
         Value::Null => Ok(Vec::new(alloc)),
         _ => Err(FromJsonError::of(alloc, JsonMistake::Form(JsonForm::Null))),
@@ -105,7 +115,9 @@ fn item_octets(
     alloc: Global,
     items: &'static [Item],
     json: &Value,
-) -> Result<Vec<u8>, FromJsonError> {
+) -> Result<Vec<u8>, FromJsonError>
+    ensures { IfErr result (IsRefusal (view json.now)) }
+{
     let text = text_of(alloc, json)?;
     for item in items {
         if item.name == text {
@@ -116,7 +128,9 @@ fn item_octets(
 }
 
 // How many bits of the last byte are unused, and the bytes.
-fn bits_octets(alloc: Global, json: &Value) -> Result<Vec<u8>, FromJsonError> {
+fn bits_octets(alloc: Global, json: &Value) -> Result<Vec<u8>, FromJsonError>
+    ensures { IfErr result (IsRefusal (view json.now)) }
+{
     let (Some(len), Some(value)) = (json.get("length"), json.get("value")) else {
         return Err(FromJsonError::of(alloc, JsonMistake::Form(JsonForm::Bits)));
     };
@@ -138,7 +152,9 @@ fn bits_octets(alloc: Global, json: &Value) -> Result<Vec<u8>, FromJsonError> {
 }
 
 // The bytes of a text of hexadecimal digits.
-pub(crate) fn hexadecimal_octets(alloc: Global, json: &Value) -> Result<Vec<u8>, FromJsonError> {
+pub(crate) fn hexadecimal_octets(alloc: Global, json: &Value) -> Result<Vec<u8>, FromJsonError>
+    ensures { IfErr result (IsRefusal (view json.now)) }
+{
     match hex::decode(alloc, text_of(alloc, json)?) {
         Ok(octets) => Ok(octets),
         Err(hex::FromHexError::OutOfMemory) => Err(FromJsonError::OutOfMemory),
@@ -146,7 +162,9 @@ pub(crate) fn hexadecimal_octets(alloc: Global, json: &Value) -> Result<Vec<u8>,
     }
 }
 
-fn identifier_octets(alloc: Global, json: &Value) -> Result<Vec<u8>, FromJsonError> {
+fn identifier_octets(alloc: Global, json: &Value) -> Result<Vec<u8>, FromJsonError>
+    ensures { IfErr result (IsRefusal (view json.now)) }
+{
     match ObjectIdentifier::from_str(alloc, text_of(alloc, json)?) {
         Ok(identifier) => Ok(identifier.content().to_vec(alloc)?),
         Err(OidError::OutOfMemory) => Err(FromJsonError::OutOfMemory),
@@ -154,7 +172,9 @@ fn identifier_octets(alloc: Global, json: &Value) -> Result<Vec<u8>, FromJsonErr
     }
 }
 
-fn relative_octets(alloc: Global, json: &Value) -> Result<Vec<u8>, FromJsonError> {
+fn relative_octets(alloc: Global, json: &Value) -> Result<Vec<u8>, FromJsonError>
+    ensures { IfErr result (IsRefusal (view json.now)) }
+{
     match RelativeOid::from_str(alloc, text_of(alloc, json)?) {
         Ok(identifier) => Ok(identifier.content().to_vec(alloc)?),
         Err(OidError::OutOfMemory) => Err(FromJsonError::OutOfMemory),
@@ -163,7 +183,9 @@ fn relative_octets(alloc: Global, json: &Value) -> Result<Vec<u8>, FromJsonError
 }
 
 // A time of a year from 2050 on, without a fraction.
-fn later_octets(alloc: Global, json: &Value) -> Result<Vec<u8>, FromJsonError> {
+fn later_octets(alloc: Global, json: &Value) -> Result<Vec<u8>, FromJsonError>
+    ensures { IfErr result (IsRefusal (view json.now)) }
+{
     let text = text_of(alloc, json)?;
     match LaterTime::from_content(text.as_bytes().to_vec(alloc)?) {
         Some(_) => Ok(text.as_bytes().to_vec(alloc)?),
@@ -172,7 +194,9 @@ fn later_octets(alloc: Global, json: &Value) -> Result<Vec<u8>, FromJsonError> {
 }
 
 // The characters of a restricted string by its tag, each in one, two or four bytes.
-fn string_octets(alloc: Global, tag: u8, json: &Value) -> Result<Vec<u8>, FromJsonError> {
+fn string_octets(alloc: Global, tag: u8, json: &Value) -> Result<Vec<u8>, FromJsonError>
+    ensures { IfErr result (IsRefusal (view json.now)) }
+{
     let mut content = Vec::new(alloc);
     for character in text_of(alloc, json)?.chars() {
         let number = character as u32;

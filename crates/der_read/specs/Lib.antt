@@ -1,4 +1,6 @@
 pub mod AttributeNames
+pub mod BerMessages
+pub mod BerPrinted
 pub mod Certificates
 pub mod Described
 pub mod Explanation

@@ -2,11 +2,10 @@
 ghost use Rattle.std.specs.Prelude.{IfOk};
 ghost use Rattle.der_read.specs.JsonMessages.{IsAccepted, IsFromJson};
 
-use crate::explanation::{complaint_explanation, explanation_of};
+use crate::MessageType;
+use crate::fault::fault_of;
 use crate::schema::schema_of;
-use crate::{MessageType, refusal_of};
 use der_json::{FromJsonError, from_json_text};
-use der_show::complaint_of;
 use std::alloc::{AllocError, Global};
 
 // Why bytes aren't JSON (RFC 8259, 8.1).
@@ -49,15 +48,8 @@ pub fn message_from_json(
 fn accepted(alloc: Global, named: MessageType, bytes: Vec<u8>) -> Result<FromJson, AllocError>
     ensures { IfOk result (IsAccepted named bytes.items) }
 {
-    if let Some(refusal) = refusal_of(alloc, named, &bytes)? {
-        let reason = explanation_of(alloc, named, &bytes, refusal)?;
-        return Ok(FromJson::Refused(reason.text));
-    }
-    match complaint_of(alloc, &bytes)? {
-        Some(complaint) => {
-            let reason = complaint_explanation(alloc, complaint)?;
-            Ok(FromJson::Refused(reason.text))
-        }
+    match fault_of(alloc, named, &bytes)? {
+        Some(reason) => Ok(FromJson::Refused(reason.text)),
         None => Ok(FromJson::Message(bytes)),
     }
 }

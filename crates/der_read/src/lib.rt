@@ -2,9 +2,15 @@
 #![tactic(auto)]
 
 mod attribute_name;
+mod ber_printed;
+mod ber_words;
 mod certificate;
+mod content_types;
 mod explanation;
+mod fault;
+mod from_ber;
 mod from_json;
+mod in_der;
 mod json;
 mod kerberos_message;
 mod message;
@@ -19,8 +25,10 @@ mod strings;
 mod tabled;
 mod verdict;
 
+pub use ber_printed::{BerPrinted, read_ber};
 pub use certificate::certificate_line;
 pub use explanation::Explanation;
+pub use from_ber::{FromBer, message_from_ber};
 pub use from_json::{FromJson, message_from_json};
 pub use json::{MessageJson, json_of};
 pub use kerberos_message::KerberosMessage;

@@ -1,7 +1,7 @@
 -- Whether a table keeps the rules by which elements are distinguished: those of tags, and of defaults. The clauses are
 -- those of X.680.
-use Rattle.std.specs.Prelude.{ℕ, zero, suc, pos, Bool, true, false, not, ◌&&◌, ◌||◌, List, [], ◌∷◌, length, map, is_some}
-use Rattle.std.specs.Prelude.{Option, Some, None, slice_get, nat_lt, ◌==◌, if◌then◌else◌}
+use Rattle.std.specs.Prelude.{ℕ, zero, suc, pos, Bool, true, false, not, ◌&&◌, ◌||◌, List, [], ◌∷◌, length, map}
+use Rattle.std.specs.Prelude.{is_some, Option, Some, None, slice_get, nat_lt, ◌==◌, if◌then◌else◌}
 use Rattle.std.specs.List.{list_all}
 use Rattle.picky_der_core.specs.declared.asn1.wrapper.Wrapper.TheVariants as wrapper
 use Rattle.der_schema.specs.declared.node.DefaultValue.{DefaultValue}
@@ -115,8 +115,8 @@ abbrev pub in_implicit : Kind → Option ℕ
 in_implicit (kind.Wrapped (wrapper.Implicit number) i) = Some i
 in_implicit _ = None
 
--- The type of the node at an index is one of these types, or another one of theirs by `same`. In these three, more nodes
--- than so many aren't looked at one by another.
+-- The type of the node at an index is one of these types, or another one of theirs by `same`. In these three, more
+-- nodes than so many aren't looked at one by another.
 abbrev pub is_simple : (Kind → Bool) → (Kind → Option ℕ) → List Node → ℕ → ℕ → Bool
 is_simple leaf same nodes zero i = false
 is_simple leaf same nodes (suc n) i =
@@ -146,7 +146,8 @@ keeps_default nodes n i _ = true
 abbrev pub keeps_rules_at : List Node → ℕ → Kind → Bool
 keeps_rules_at nodes n k =
     are_all_apart (tags_at nodes n) (map (λ a. a.node) (alternatives_of k))
-    && (are_members_apart (tags_at nodes n) (members_of k) && (list_all (λ m. keeps_default nodes n m.node m.presence) (members_of k)
+    && (are_members_apart (tags_at nodes n) (members_of k)
+    && (list_all (λ m. keeps_default nodes n m.node m.presence) (members_of k)
     && (keeps_tag (is_in_tag nodes n) k && keeps_set (tags_at nodes n) nodes (in_set k))))
 
 -- each node names nodes before it, so that no more than all are named one by another

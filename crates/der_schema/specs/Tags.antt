@@ -1,6 +1,6 @@
 -- The tags of elements, by their types' kinds (X.680, table 1).
 use Rattle.std.specs.Prelude.{ℕ, ◌+◌, zero, suc, Bool, true, false, List, [], ◌∷◌, ◌++◌, Option, Some, None, slice_get}
-use Rattle.std.specs.Prelude.{◌==◌, if◌then◌else◌}
+use Rattle.std.specs.Prelude.{if◌then◌else◌}
 use Rattle.picky_der_core.specs.declared.asn1.wrapper.Wrapper.{Wrapper}
 use Rattle.picky_der_core.specs.declared.asn1.wrapper.Wrapper.TheVariants as wrapper
 use Rattle.picky_der_core.specs.Shape.{are_disjoint, contains}
@@ -104,7 +104,7 @@ tags_of_any _ = Some []
 -- in BER a string in parts has the constructed one of the same number (X.690, 8.6.4, 8.7.3.2, 8.14.4 and 8.23.3)
 abbrev pub tags_of_own : Option ℕ → Option (List ℕ)
 tags_of_own None = Some []
-tags_of_own (Some own) = Some (own ∷ (if is_constructed (own + 0x20) then own + 0x20 ∷ [] else []))
+tags_of_own (Some own) = Some (own ∷ (if is_constructed (own + 0x20) then (own + 0x20) ∷ [] else []))
 
 abbrev pub tags_of_kind : (ℕ → Option (List ℕ)) → Kind → Option (List ℕ)
 tags_of_kind tags k =

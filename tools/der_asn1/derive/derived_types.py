@@ -10,6 +10,7 @@ from ..meaning.examples import has_example
 from ..meaning.library import ONE_BYTE
 from ..meaning.rust_types import RustType, of
 from ..parse.tree import Presence
+from .first_tags import FirstTags, clashes
 from .rust_items import Item, Part, RustFile
 from .rust_tokens import Source
 
@@ -115,6 +116,7 @@ def _struct(file: RustFile, it: Item, notes: Notes, module: str) -> StructDeclar
     parameters = {one.argument for one in it.generics.parameters}
     fields = [_member(file, part, parameters) for part in it.parts]
     later = fields.pop() if fields[-1].type.name in _LAST else None
+    _check_tags(file, it, fields)
     if len(fields) > MOST_MEMBERS or not fields:
         raise file.source.error(it.line, f"`{it.name}` has {len(fields)} members, and not 1 to {MOST_MEMBERS}")
     unused = parameters - set().union(*(one.type.words() for one in [*fields, *([later] if later else [])]))
@@ -139,6 +141,13 @@ def _member(file: RustFile, part: Part, parameters: set[str]) -> Field:
     if type_.name == "Option":
         return Field(part.name, type_.arguments[0], Presence.OPTIONAL)
     return Field(part.name, type_)
+
+
+def _check_tags(file: RustFile, it: Item, fields: list[Field]) -> None:
+    """The next byte says whether a member that may be absent is there."""
+    parts = [(part, one.type, one.presence is not Presence.REQUIRED) for part, one in zip(it.parts, fields)]
+    for part, later, tag in clashes(FirstTags(file), parts):
+        raise file.source.error(later.line, f"`{later.name}`, and `{part.name}` before it, which may be absent, can both begin with {tag:02X}")
 
 
 def _default(file: RustFile, part: Part, word: str) -> RustType:
@@ -170,6 +179,9 @@ def _choice(file: RustFile, it: Item, module: str) -> ChoiceDeclaration:
         Notes(file.source, part.line, part.notes, ())
         if not part.type:
             raise file.source.error(part.line, f"`{part.name}` has no type, unlike other variants: use `()` for NULL")
+    alternatives = [(part, part.type, True) for part in it.parts]
+    for part, later, tag in clashes(FirstTags(file), alternatives):
+        raise file.source.error(later.line, f"`{later.name}` and `{part.name}` before it can both begin with {tag:02X}")
     return ChoiceDeclaration(**_common(file, it, module), variants=[Field(part.name, part.type) for part in it.parts])
 
 

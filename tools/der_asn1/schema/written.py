@@ -9,6 +9,7 @@ from ..meaning.wording import snake
 from ..parse import tree
 from .literals import lines_of, node_literal
 from .nodes import Table
+from .rules import keeps_rules
 from .tags import NoNode
 from .terms import Writer
 
@@ -36,12 +37,15 @@ def table_file(table: Table, types: dict[str, int], sources: dict[str, str], hom
     used = {it for it in _NAMES if any(f"{it} {{" in line or f"{it}::" in line for line in nodes)}
     paths = {**dict.fromkeys([*_NAMES, "Schema"], "der_schema"), "Wrapper": "picky_der_core::asn1", **homes}
     names = sorted(types, key=natural)
-    shared = _shared_nodes({name: types[name] for name in names}) if len(names) > 1 else []
-    functions = [line for name in names for line in _function(name, types[name], sources[name], "nodes()" if shared else "&NODES")]
+    kept = keeps_rules(table)
+    shared = _shared_nodes({name: types[name] for name in names}, kept) if len(names) > 1 else []
+    functions = [line for name in names for line in _function(name, types[name], sources[name], "nodes()" if shared else "&NODES", kept)]
     return [
         *comment("", "//!", f"The schemas of types of {', '.join(modules)}."),
-        "ghost use Rattle.std.specs.Prelude.{◌≡◌};",
+        "ghost use Rattle.std.specs.Prelude.{◌≡◌, true};",
+        "ghost use Rattle.der_schema.specs.Names.{has_names};",
         "ghost use Rattle.der_schema.specs.NotationOf.{notation_of};",
+        *(["ghost use Rattle.der_schema.specs.Rules.{keeps_rules};"] if kept else []),
         "",
         *imports({*used, "Schema", "Notated", *types}, paths),
         *functions,
@@ -59,13 +63,15 @@ def node_lines(table: Table) -> list[str]:
     return [line for it in table.nodes for line in lines_of(STEP, "", node_literal(it), ",")]
 
 
-def _function(name: str, index: int, source: str, nodes: str) -> list[str]:
-    """The function of a type."""
+def _function(name: str, index: int, source: str, nodes: str, kept: bool) -> list[str]:
+    """The function of a type, of a table that keeps the rules or doesn't."""
     return [
         "",
         f"/// The schema of `{source}`.",
         f"pub fn {snake(name)}() -> Schema",
-        f"    ensures {{ notation_of result.nodes.now result.root ≡ ⟦<{name} as Notated>⟧.notation }}",
+        f"    ensures notation {{ notation_of result.nodes.now result.root ≡ ⟦<{name} as Notated>⟧.notation }}",
+        "    ensures names { has_names result.nodes.now ≡ true }",
+        *(["    ensures rules { keeps_rules result.nodes.now ≡ true }"] if kept else []),
         "{",
         f"{STEP}Schema {{",
         f"{STEP * 2}nodes: {nodes},",
@@ -75,13 +81,15 @@ def _function(name: str, index: int, source: str, nodes: str) -> list[str]:
     ]
 
 
-def _shared_nodes(types: dict[str, int]) -> list[str]:
-    """The function of all nodes, whose clauses say which node is each type: so they are gone through once, and not for each type."""
+def _shared_nodes(types: dict[str, int], kept: bool) -> list[str]:
+    """The function of all nodes, whose clauses say what holds of them: so they are gone through once, and not for each type."""
     return [
         "",
-        "// the nodes, and which of them is each type",
+        "// the nodes, which of them is each type, and the rules of X.680 that they keep",
         "fn nodes() -> &'static [Node]",
         *(f"    ensures {snake(name)} {{ notation_of result.now {index} ≡ ⟦<{name} as Notated>⟧.notation }}" for name, index in types.items()),
+        "    ensures are_named { has_names result.now ≡ true }",
+        *(["    ensures are_kept { keeps_rules result.now ≡ true }"] if kept else []),
         "{",
         f"{STEP}&NODES",
         "}",

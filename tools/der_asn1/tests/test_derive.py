@@ -104,8 +104,8 @@ struct C(u8);
 
 class Writing(unittest.TestCase):
     def test_members(self):
-        text = derived(struct_of("a: u8,", "b: Option<Vec<u8>>,", "c: u8, // asn1: default 5", "d: i8, // asn1: default -5", "e: LaterMembers<NoneOf>,"))
-        self.assertIn("type Members = (\n    u8,\n    Optional<Vec<u8>>,\n    Defaulted<u8, Number<5>>,\n    Defaulted<i8, SignedNumber<-5>>,\n", text)
+        text = derived(struct_of("a: u8,", "b: Option<Vec<u8>>,", "c: u8, // asn1: default 5", "d: ImplicitContextTag1<i8>, // asn1: default -5", "e: LaterMembers<NoneOf>,"))
+        self.assertIn("type Members = (\n    u8,\n    Optional<Vec<u8>>,\n    Defaulted<u8, Number<5>>,\n    Defaulted<ImplicitContextTag1<i8>, SignedNumber<-5>>,\n", text)
         self.assertIn("    LaterMembers<NoneOf>,\n);", text)
         self.assertIn("      record { value = it.c; default = record {} },\n", text)
         self.assertIn("        let (a, Optional(b), c, d, e) = members;\n", text)
@@ -272,6 +272,29 @@ class Refusing(unittest.TestCase):
         for text, wanted in rows.items():
             with self.subTest(wanted):
                 self.assertIn(wanted, self.refused(text))
+
+    def test_members_that_begin_alike(self):
+        rows = {
+            struct_of("a: Option<u8>,", "b: Option<i64>,"): "`b`, and `a` before it, which may be absent, can both begin with 02",
+            struct_of("a: Option<u8>,", "b: Option<bool>,", "c: Integer,").replace("mod derived;\n", "mod derived;\nuse der_types::Integer;\n", 1): "`c`, and `a` before it, which may be absent, can both begin with 02",
+            struct_of("a: bool, // asn1: default FALSE", "b: bool,"): "`b`, and `a` before it, which may be absent, can both begin with 01",
+            struct_of("a: Option<ExplicitContextTag1<u8>>,", "b: ImplicitList<Vec<u8>, 0xA1>,"): "`b`, and `a` before it, which may be absent, can both begin with A1",
+            struct_of("a: Option<Asn1RawDer>,", "b: Vec<u8>,"): "`b`, and `a` before it, which may be absent, can both begin with 30",
+            enum_of("A(u8),", "B(bool),", "C(u16),"): "`C` and `A` before it can both begin with 02",
+        }
+        for text, wanted in rows.items():
+            with self.subTest(wanted):
+                self.assertIn(wanted, self.refused(text))
+
+    def test_members_that_may_begin_alike(self):
+        for text in (
+            struct_of("a: Option<u8>,", "b: bool,", "c: u8,"),
+            struct_of("a: u8,", "b: u8,"),
+            struct_of("a: Option<Other>,", "b: Other,").replace("mod derived;\n", "mod derived;\nuse mine::Other;\n", 1),
+            struct_of("a: Option<ExplicitContextTag1<u8>>,", "b: Option<ImplicitContextTag1<u8>>,"),
+        ):
+            with self.subTest(text):
+                files(text)
 
     def test_the_place(self):
         self.assertTrue(self.refused(struct_of("a: u8,", "b: f64,")).startswith("a.rt:7:1: error: "))

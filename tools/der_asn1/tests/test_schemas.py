@@ -12,9 +12,10 @@ from ..meaning.scopes import Program
 from ..parse import tree
 from ..parse.modules import read_file, read_text
 from ..parse.source import Problems
-from ..schema.nodes import Kind, Table
+from ..schema.nodes import Alternative, Item, Kind, Member, Node, Table, Wrapper
 from ..schema.printed import printed_table
 from ..schema.read import read_table
+from ..schema.rules import keeps_rules
 from ..schema.tags import NoNode
 from ..schema.terms import Writer
 from ..schema.written import node_lines
@@ -79,6 +80,17 @@ ALTERED = [
     ("SEQUENCE { a [1] NULL }", "[1]", "[2]"),
 ]
 
+# nodes that keep the rules on tags and defaults, up to the last one, which doesn't or isn't known to
+UNRULED = [
+    [Kind("Null"), Kind("Reference", (0,)), Kind("Choice", ((Alternative("a", 0), Alternative("b", 1)),))],
+    [Kind("Integer"), Kind("Sequence", ((Member("a", "Optional", 0), Member("b", "Required", 0)),))],
+    [Kind("Integer"), Kind("AnyElement"), Kind("Sequence", ((Member("a", "Optional", 0), Member("b", "Optional", 1)),))],
+    [Kind("Null"), Kind("Sequence", ((Member("a", "Required", 0), Member("b", "Required", 0)),)), Kind("Wrapped", (Wrapper("ImplicitList", 0x31), 1))],
+    [Kind("Null"), Kind("Wrapped", (Wrapper("Explicit", 0), 0)), Kind("Wrapped", (Wrapper("Implicit", 1), 1))],
+    [Kind("Enumerated", ((Item("no", 0),),)), Kind("Sequence", ((Member("a", "Default", 0, 0),),))],
+    [Kind("Integer"), Kind("Sequence", ((Member("a", "DefaultOf", 0, -1),),))],
+]
+
 
 def tables_of(modules, imported, **how):
     """The table of each type of modules that has one, by the type's name in its module, and the names of those that have none."""
@@ -136,6 +148,12 @@ class Nodes(unittest.TestCase):
                 _, table, without = table_of(notation)
                 self.assertIsNone(table)
                 self.assertTrue(without)
+
+    def test_the_rules_of_tags_and_defaults(self):
+        for kinds in UNRULED:
+            with self.subTest(kinds):
+                self.assertFalse(keeps_rules(Table([Node(None, it) for it in kinds])))
+                self.assertTrue(keeps_rules(Table([Node(None, it) for it in kinds[:-1]])))
 
     def test_a_name_of_a_named_type(self):
         modules = read_text(module_text("Realm ::= Text\nText ::= IA5String"), "m.asn1", Problems())

@@ -37,6 +37,11 @@ pub fn from_json(number: u32, json: &[u8], out: &mut [u8], used: &mut usize) -> 
     unsafe { raw::picky_der_from_json(number, json.as_ptr(), json.len(), out.as_mut_ptr(), out.len(), used) }
 }
 
+/// Appends the DER of the message with this BER to the first `used` bytes, or why it is none. Returns the code.
+pub fn from_ber(number: u32, bytes: &[u8], out: &mut [u8], used: &mut usize) -> u32 {
+    unsafe { raw::picky_der_from_ber(number, bytes.as_ptr(), bytes.len(), out.as_mut_ptr(), out.len(), used) }
+}
+
 /// Returns the code, and the element at the front of the bytes if it is `PICKY_DER_OK`.
 pub fn front(bytes: &[u8]) -> (u32, Element) {
     let mut element = Element::default();

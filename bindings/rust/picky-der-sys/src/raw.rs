@@ -21,9 +21,9 @@ pub const PICKY_DER_END: u32 = 7;
 pub const PICKY_DER_NO_PLACE: u32 = 8;
 /// No type has this number.
 pub const PICKY_DER_UNKNOWN_TYPE: u32 = 9;
-/// The type has no table, and so its messages have no JSON here.
+/// The type has no table, and so its messages have no JSON here, and no DER of their BER.
 pub const PICKY_DER_NO_TABLE: u32 = 10;
-/// The text isn't JSON of a message of the type.
+/// The text isn't JSON of a message of the type, or the bytes aren't BER of one.
 pub const PICKY_DER_NO_VALUE: u32 = 11;
 
 /// An element, by its place in the bytes. Its content is the `content_len` bytes after its header.
@@ -109,6 +109,7 @@ extern "C" {
     pub fn picky_der_path(number: u32, bytes: *const u8, bytes_len: usize, out: *mut u8, out_len: usize, used: *mut usize) -> u32;
     pub fn picky_der_to_json(number: u32, bytes: *const u8, bytes_len: usize, position: *mut usize, out: *mut u8, out_len: usize, used: *mut usize) -> u32;
     pub fn picky_der_from_json(number: u32, json: *const u8, json_len: usize, out: *mut u8, out_len: usize, used: *mut usize) -> u32;
+    pub fn picky_der_from_ber(number: u32, bytes: *const u8, bytes_len: usize, out: *mut u8, out_len: usize, used: *mut usize) -> u32;
     pub fn picky_der_front(bytes: *const u8, bytes_len: usize, element: *mut Element) -> u32;
     pub fn picky_der_elements(bytes: *const u8, bytes_len: usize, elements: *mut Element, elements_len: usize, count: *mut usize, position: *mut usize) -> u32;
     pub fn picky_der_next(bytes: *const u8, bytes_len: usize, place: *mut Place, ends: *mut usize, ends_len: usize, element: *mut Element) -> u32;

@@ -100,6 +100,9 @@ pub enum JsonError {
     Other(u32),
 }
 
+/// Why there is no DER of a message of a type for bytes in BER, in the same cases.
+pub type BerError = JsonError;
+
 impl JsonError {
     pub(crate) fn of(code: u32, reason: Vec<u8>) -> JsonError {
         match code {

@@ -20,7 +20,7 @@ mod writer;
 
 pub use elements::{elements, front, is_der, Class, Element, Elements};
 use error::written;
-pub use error::{Error, JsonError, Reason};
+pub use error::{BerError, Error, JsonError, Reason};
 pub use tables::Message;
 pub use writer::Writer;
 
@@ -60,6 +60,18 @@ impl Message {
         match written(json.len() + 256, |out, used| picky_der_sys::from_json(self as u32, json.as_bytes(), out, used)) {
             (picky_der_sys::PICKY_DER_OK, der) => Ok(der),
             (code, reason) => Err(JsonError::of(code, reason)),
+        }
+    }
+
+    /// The DER of the message of the type that these bytes are in BER (X.690, 8). `check` accepts it. It is made by a table of the type, as
+    /// `to_json` has one, and the content of `Cms` by its own type, if that has a table.
+    ///
+    /// # Errors
+    /// `BerError::Refused`, with what is wrong and where, if the bytes aren't BER of a message of the type.
+    pub fn from_ber(self, bytes: &[u8]) -> Result<Vec<u8>, BerError> {
+        match written(bytes.len() + 256, |out, used| picky_der_sys::from_ber(self as u32, bytes, out, used)) {
+            (picky_der_sys::PICKY_DER_OK, der) => Ok(der),
+            (code, reason) => Err(BerError::of(code, reason)),
         }
     }
 }

@@ -1,5 +1,5 @@
 //! The cases that tools/bindings writes: inputs, each with what `der read` says of it.
-use picky_der::{elements, front, is_der, Class, Error, JsonError, Message, Reason, Writer};
+use picky_der::{elements, front, is_der, BerError, Class, Error, JsonError, Message, Reason, Writer};
 
 const CERTIFICATE: u32 = 0;
 const READ: u32 = 1;
@@ -124,6 +124,21 @@ fn json() {
     assert!(matches!(&refusal, JsonError::Refused(reason) if reason.contains("tbsCertificate")), "{refusal}");
     for wrong in ["", "{", "{}", "[]", "null", "\u{202E}"] {
         assert!(matches!(Message::Certificate.from_json(wrong), Err(JsonError::Refused(_))), "{wrong}");
+    }
+}
+
+#[test]
+fn ber() {
+    let der = &cases()[0].der;
+    let header = if der[1] < 0x80 { 2 } else { 2 + usize::from(der[1] & 0x7F) };
+    let form = [&[0x30, 0x80], &der[header..], &[0, 0]].concat();
+    assert!(Message::Certificate.check(&form).is_err());
+    assert_eq!(&Message::Certificate.from_ber(&form).unwrap(), der);
+    assert_eq!(Message::Krb.from_ber(&form).unwrap_err(), BerError::NoTable);
+    let refusal = Message::Certificate.from_ber(&form[..form.len() - 2]).unwrap_err();
+    assert!(matches!(&refusal, BerError::Refused(reason) if reason.starts_with("not BER at ")), "{refusal}");
+    for wrong in [&[][..], &[0x30, 0x00], &[0x30, 0x80, 0x00]] {
+        assert!(matches!(Message::Certificate.from_ber(wrong), Err(BerError::Refused(_))), "{wrong:?}");
     }
 }
 

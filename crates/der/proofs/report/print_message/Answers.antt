@@ -1,19 +1,18 @@
+use Rattle.std.specs.Option.{option_copied}
 use Rattle.std.proofs.lemmas.Result.{IfOk-weaker}
-use Rattle.der.specs.Report.{show, read, cms}
-use Rattle.der.proofs.Reports.{prints_as}
+use Rattle.der.proofs.Reports.{printed_in_ber, printed_in_der}
 use Rattle.der.proofs.report.print_message.Goals as goal
 
-pub returns-in-Show : goal.returns-in-Show
-returns-in-Show g c =
-    IfOk-weaker c.print_shown.result _ _
-    (λ status h. prints_as _ _ _ _ (λ text p. show c.in-Show.options c.in-Show.is p) h) c.print_shown.ensures
+pub returns-in-Some : goal.returns-in-Some
+returns-in-Some g c =
+    IfOk-weaker c.print_in_ber.result _ _
+    (λ status h. printed_in_ber c.args.request.now c.args.view c.args.source.now (option_copied c.args.label)
+    c.args.bytes.now status _ _ c.in-Some.named c.in-Some.is h)
+    c.print_in_ber.ensures
 
-pub returns-in-Read : goal.returns-in-Read
-returns-in-Read g c =
-    IfOk-weaker c.print_read.result _ _ (λ status h. prints_as _ _ _ _ (λ text p. read c.in-Read.wanted c.in-Read.is p)
-    h) c.print_read.ensures
-
-pub returns-in-Cms : goal.returns-in-Cms
-returns-in-Cms g c =
-    IfOk-weaker c.print_signers.result _ _ (λ status h. prints_as _ _ _ _ (λ text p. cms c.in-Cms.signers c.in-Cms.is p)
-    h) c.print_signers.ensures
+pub returns-in-None : goal.returns-in-None
+returns-in-None g c =
+    IfOk-weaker c.print_in_der.result _ _
+    (λ status h. printed_in_der c.args.request.now c.args.view c.args.source.now (option_copied c.args.label)
+    c.args.bytes.now status _ _ c.in-None.is h)
+    c.print_in_der.ensures

@@ -1,6 +1,7 @@
-use Rattle.std.proofs.Common.{◌≡◌, true, ap, sym, subst, ◌∙◌}
+use Rattle.std.proofs.Common.{◌≡◌, true, false, ap, sym, subst, ◌∙◌}
 use Rattle.std.specs.Prelude.{Some}
 use Rattle.der_error_path.specs.Awaited.{are_sorted, awaited, default_in}
+use Rattle.der_error_path.specs.Contents.{node_can_have}
 use Rattle.der_error_path.specs.Steps.{IsMistake}
 use Rattle.der_error_path.specs.declared.path.Mistake.TheVariants as mistake
 use Rattle.der_error_path.proofs.mistakes.mistake_in.Goals as goal
@@ -12,6 +13,13 @@ returns-in-Some c =
     subst (λ name. IsMistake c.args.nodes.now (awaited c.args.passed.now.here) c.args.passed.now.rest.now
     c.args.step.now (mistake.Missing name)) (sym found.2)
     (IsMistake.missing e.tag e.content.now e.after.now (awaited c.args.inner) found.0 c.requires found.1)
+
+pub returns-then-not-node_can_have : goal.returns-then-not-node_can_have
+returns-then-not-node_can_have c =
+    let e = c.args.element.now in
+    let not : node_can_have c.args.nodes.now c.args.step.now.node e.content.now ≡ false =
+    sym c.node_can_have.ensures ∙ c.if-not-node_can_have.true in
+    IsMistake.content e.tag e.content.now e.after.now (awaited c.args.inner) c.requires not
 
 pub returns-then-is_content_of : goal.returns-then-is_content_of
 returns-then-is_content_of c =

@@ -6,6 +6,6 @@ use Rattle.der_read.proofs.from_json.accepted.Goals as goal
 pub returns-in-None : goal.returns-in-None
 returns-in-None c = record {
   same = refl;
-  message = subst (IsMessage c.args.named) c.deref.ensures.value (rw c.in_default.is at c.in_ok-refusal.ensures);
-  in_der = subst AreElements c.deref-2.ensures.value (rw c.in-None.is at c.in_ok-complaint.ensures);
+  message = subst (IsMessage c.args.named) c.deref.ensures.value (rw c.in-None.is at c.in_ok-reason.ensures.message);
+  in_der = subst AreElements c.deref.ensures.value (rw c.in-None.is at c.in_ok-reason.ensures.in_der);
 }

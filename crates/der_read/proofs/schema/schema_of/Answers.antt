@@ -3,136 +3,136 @@ use Rattle.std.proofs.Common.{ap, sym, Some}
 use Rattle.der_read.proofs.schema.schema_of.Goals as goal
 
 pub returns-in-Certificate-clause-some : goal.returns-in-Certificate-clause-some
-returns-in-Certificate-clause-some c = rw c.in-Certificate.is (ap Some (sym c.certificate.ensures))
+returns-in-Certificate-clause-some c = rw c.in-Certificate.is (ap Some (sym c.certificate.ensures.notation))
 
 pub returns-in-Crl-clause-some : goal.returns-in-Crl-clause-some
-returns-in-Crl-clause-some c = rw c.in-Crl.is (ap Some (sym c.certificate_list.ensures))
+returns-in-Crl-clause-some c = rw c.in-Crl.is (ap Some (sym c.certificate_list.ensures.notation))
 
 pub returns-in-AttributeCertificate-clause-some : goal.returns-in-AttributeCertificate-clause-some
-returns-in-AttributeCertificate-clause-some c = rw c.in-AttributeCertificate.is (ap Some (sym c.attribute_certificate.ensures))
+returns-in-AttributeCertificate-clause-some c = rw c.in-AttributeCertificate.is (ap Some (sym c.attribute_certificate.ensures.notation))
 
 pub returns-in-Csr-clause-some : goal.returns-in-Csr-clause-some
-returns-in-Csr-clause-some c = rw c.in-Csr.is (ap Some (sym c.certification_request.ensures))
+returns-in-Csr-clause-some c = rw c.in-Csr.is (ap Some (sym c.certification_request.ensures.notation))
 
 pub returns-in-OcspRequest-clause-some : goal.returns-in-OcspRequest-clause-some
-returns-in-OcspRequest-clause-some c = rw c.in-OcspRequest.is (ap Some (sym c.ocsp_request.ensures))
+returns-in-OcspRequest-clause-some c = rw c.in-OcspRequest.is (ap Some (sym c.ocsp_request.ensures.notation))
 
 pub returns-in-OcspResponse-clause-some : goal.returns-in-OcspResponse-clause-some
-returns-in-OcspResponse-clause-some c = rw c.in-OcspResponse.is (ap Some (sym c.ocsp_response.ensures))
+returns-in-OcspResponse-clause-some c = rw c.in-OcspResponse.is (ap Some (sym c.ocsp_response.ensures.notation))
 
 pub returns-in-BasicOcspResponse-clause-some : goal.returns-in-BasicOcspResponse-clause-some
-returns-in-BasicOcspResponse-clause-some c = rw c.in-BasicOcspResponse.is (ap Some (sym c.basic_ocsp_response.ensures))
+returns-in-BasicOcspResponse-clause-some c = rw c.in-BasicOcspResponse.is (ap Some (sym c.basic_ocsp_response.ensures.notation))
 
 pub returns-in-TimestampQuery-clause-some : goal.returns-in-TimestampQuery-clause-some
-returns-in-TimestampQuery-clause-some c = rw c.in-TimestampQuery.is (ap Some (sym c.time_stamp_req.ensures))
+returns-in-TimestampQuery-clause-some c = rw c.in-TimestampQuery.is (ap Some (sym c.time_stamp_req.ensures.notation))
 
 pub returns-in-TimestampResponse-clause-some : goal.returns-in-TimestampResponse-clause-some
-returns-in-TimestampResponse-clause-some c = rw c.in-TimestampResponse.is (ap Some (sym c.time_stamp_resp.ensures))
+returns-in-TimestampResponse-clause-some c = rw c.in-TimestampResponse.is (ap Some (sym c.time_stamp_resp.ensures.notation))
 
 pub returns-in-TstInfo-clause-some : goal.returns-in-TstInfo-clause-some
-returns-in-TstInfo-clause-some c = rw c.in-TstInfo.is (ap Some (sym c.tst_info.ensures))
+returns-in-TstInfo-clause-some c = rw c.in-TstInfo.is (ap Some (sym c.tst_info.ensures.notation))
 
 pub returns-in-Cms-clause-some : goal.returns-in-Cms-clause-some
-returns-in-Cms-clause-some c = rw c.in-Cms.is (ap Some (sym c.content_info.ensures))
+returns-in-Cms-clause-some c = rw c.in-Cms.is (ap Some (sym c.content_info.ensures.notation))
 
 pub returns-in-SignedData-clause-some : goal.returns-in-SignedData-clause-some
-returns-in-SignedData-clause-some c = rw c.in-SignedData.is (ap Some (sym c.signed_data.ensures))
+returns-in-SignedData-clause-some c = rw c.in-SignedData.is (ap Some (sym c.signed_data.ensures.notation))
 
 pub returns-in-EnvelopedData-clause-some : goal.returns-in-EnvelopedData-clause-some
-returns-in-EnvelopedData-clause-some c = rw c.in-EnvelopedData.is (ap Some (sym c.enveloped_data.ensures))
+returns-in-EnvelopedData-clause-some c = rw c.in-EnvelopedData.is (ap Some (sym c.enveloped_data.ensures.notation))
 
 pub returns-in-DigestedData-clause-some : goal.returns-in-DigestedData-clause-some
-returns-in-DigestedData-clause-some c = rw c.in-DigestedData.is (ap Some (sym c.digested_data.ensures))
+returns-in-DigestedData-clause-some c = rw c.in-DigestedData.is (ap Some (sym c.digested_data.ensures.notation))
 
 pub returns-in-EncryptedData-clause-some : goal.returns-in-EncryptedData-clause-some
-returns-in-EncryptedData-clause-some c = rw c.in-EncryptedData.is (ap Some (sym c.encrypted_data.ensures))
+returns-in-EncryptedData-clause-some c = rw c.in-EncryptedData.is (ap Some (sym c.encrypted_data.ensures.notation))
 
 pub returns-in-AuthenticatedData-clause-some : goal.returns-in-AuthenticatedData-clause-some
-returns-in-AuthenticatedData-clause-some c = rw c.in-AuthenticatedData.is (ap Some (sym c.authenticated_data.ensures))
+returns-in-AuthenticatedData-clause-some c = rw c.in-AuthenticatedData.is (ap Some (sym c.authenticated_data.ensures.notation))
 
 pub returns-in-AuthEnvelopedData-clause-some : goal.returns-in-AuthEnvelopedData-clause-some
-returns-in-AuthEnvelopedData-clause-some c = rw c.in-AuthEnvelopedData.is (ap Some (sym c.auth_enveloped_data.ensures))
+returns-in-AuthEnvelopedData-clause-some c = rw c.in-AuthEnvelopedData.is (ap Some (sym c.auth_enveloped_data.ensures.notation))
 
 pub returns-in-Pkcs8-clause-some : goal.returns-in-Pkcs8-clause-some
-returns-in-Pkcs8-clause-some c = rw c.in-Pkcs8.is (ap Some (sym c.private_key_info.ensures))
+returns-in-Pkcs8-clause-some c = rw c.in-Pkcs8.is (ap Some (sym c.private_key_info.ensures.notation))
 
 pub returns-in-EncryptedKey-clause-some : goal.returns-in-EncryptedKey-clause-some
-returns-in-EncryptedKey-clause-some c = rw c.in-EncryptedKey.is (ap Some (sym c.encrypted_private_key_info.ensures))
+returns-in-EncryptedKey-clause-some c = rw c.in-EncryptedKey.is (ap Some (sym c.encrypted_private_key_info.ensures.notation))
 
 pub returns-in-RsaKey-clause-some : goal.returns-in-RsaKey-clause-some
-returns-in-RsaKey-clause-some c = rw c.in-RsaKey.is (ap Some (sym c.rsa_private_key.ensures))
+returns-in-RsaKey-clause-some c = rw c.in-RsaKey.is (ap Some (sym c.rsa_private_key.ensures.notation))
 
 pub returns-in-EcKey-clause-some : goal.returns-in-EcKey-clause-some
-returns-in-EcKey-clause-some c = rw c.in-EcKey.is (ap Some (sym c.ec_private_key.ensures))
+returns-in-EcKey-clause-some c = rw c.in-EcKey.is (ap Some (sym c.ec_private_key.ensures.notation))
 
 pub returns-in-PublicKey-clause-some : goal.returns-in-PublicKey-clause-some
-returns-in-PublicKey-clause-some c = rw c.in-PublicKey.is (ap Some (sym c.subject_public_key_info.ensures))
+returns-in-PublicKey-clause-some c = rw c.in-PublicKey.is (ap Some (sym c.subject_public_key_info.ensures.notation))
 
 pub returns-in-RsaPublicKey-clause-some : goal.returns-in-RsaPublicKey-clause-some
-returns-in-RsaPublicKey-clause-some c = rw c.in-RsaPublicKey.is (ap Some (sym c.rsa_public_key.ensures))
+returns-in-RsaPublicKey-clause-some c = rw c.in-RsaPublicKey.is (ap Some (sym c.rsa_public_key.ensures.notation))
 
 pub returns-in-EcdsaSignature-clause-some : goal.returns-in-EcdsaSignature-clause-some
-returns-in-EcdsaSignature-clause-some c = rw c.in-EcdsaSignature.is (ap Some (sym c.ecdsa_sig_value.ensures))
+returns-in-EcdsaSignature-clause-some c = rw c.in-EcdsaSignature.is (ap Some (sym c.ecdsa_sig_value.ensures.notation))
 
 pub returns-in-EcParameters-clause-some : goal.returns-in-EcParameters-clause-some
-returns-in-EcParameters-clause-some c = rw c.in-EcParameters.is (ap Some (sym c.ecpk_parameters.ensures))
+returns-in-EcParameters-clause-some c = rw c.in-EcParameters.is (ap Some (sym c.ecpk_parameters.ensures.notation))
 
 pub returns-in-DsaParameters-clause-some : goal.returns-in-DsaParameters-clause-some
-returns-in-DsaParameters-clause-some c = rw c.in-DsaParameters.is (ap Some (sym c.dss_parms.ensures))
+returns-in-DsaParameters-clause-some c = rw c.in-DsaParameters.is (ap Some (sym c.dss_parms.ensures.notation))
 
 pub returns-in-Pkcs12-clause-some : goal.returns-in-Pkcs12-clause-some
-returns-in-Pkcs12-clause-some c = rw c.in-Pkcs12.is (ap Some (sym c.pfx.ensures))
+returns-in-Pkcs12-clause-some c = rw c.in-Pkcs12.is (ap Some (sym c.pfx.ensures.notation))
 
 pub returns-in-Ticket-clause-some : goal.returns-in-Ticket-clause-some
-returns-in-Ticket-clause-some c = rw c.in-Ticket.is (ap Some (sym c.ticket.ensures))
+returns-in-Ticket-clause-some c = rw c.in-Ticket.is (ap Some (sym c.ticket.ensures.notation))
 
 pub returns-in-AsReq-clause-some : goal.returns-in-AsReq-clause-some
-returns-in-AsReq-clause-some c = rw c.in-AsReq.is (ap Some (sym c.as_req.ensures))
+returns-in-AsReq-clause-some c = rw c.in-AsReq.is (ap Some (sym c.as_req.ensures.notation))
 
 pub returns-in-AsRep-clause-some : goal.returns-in-AsRep-clause-some
-returns-in-AsRep-clause-some c = rw c.in-AsRep.is (ap Some (sym c.as_rep.ensures))
+returns-in-AsRep-clause-some c = rw c.in-AsRep.is (ap Some (sym c.as_rep.ensures.notation))
 
 pub returns-in-TgsReq-clause-some : goal.returns-in-TgsReq-clause-some
-returns-in-TgsReq-clause-some c = rw c.in-TgsReq.is (ap Some (sym c.tgs_req.ensures))
+returns-in-TgsReq-clause-some c = rw c.in-TgsReq.is (ap Some (sym c.tgs_req.ensures.notation))
 
 pub returns-in-TgsRep-clause-some : goal.returns-in-TgsRep-clause-some
-returns-in-TgsRep-clause-some c = rw c.in-TgsRep.is (ap Some (sym c.tgs_rep.ensures))
+returns-in-TgsRep-clause-some c = rw c.in-TgsRep.is (ap Some (sym c.tgs_rep.ensures.notation))
 
 pub returns-in-ApReq-clause-some : goal.returns-in-ApReq-clause-some
-returns-in-ApReq-clause-some c = rw c.in-ApReq.is (ap Some (sym c.ap_req.ensures))
+returns-in-ApReq-clause-some c = rw c.in-ApReq.is (ap Some (sym c.ap_req.ensures.notation))
 
 pub returns-in-ApRep-clause-some : goal.returns-in-ApRep-clause-some
-returns-in-ApRep-clause-some c = rw c.in-ApRep.is (ap Some (sym c.ap_rep.ensures))
+returns-in-ApRep-clause-some c = rw c.in-ApRep.is (ap Some (sym c.ap_rep.ensures.notation))
 
 pub returns-in-KrbSafe-clause-some : goal.returns-in-KrbSafe-clause-some
-returns-in-KrbSafe-clause-some c = rw c.in-KrbSafe.is (ap Some (sym c.krb_safe.ensures))
+returns-in-KrbSafe-clause-some c = rw c.in-KrbSafe.is (ap Some (sym c.krb_safe.ensures.notation))
 
 pub returns-in-KrbPriv-clause-some : goal.returns-in-KrbPriv-clause-some
-returns-in-KrbPriv-clause-some c = rw c.in-KrbPriv.is (ap Some (sym c.krb_priv.ensures))
+returns-in-KrbPriv-clause-some c = rw c.in-KrbPriv.is (ap Some (sym c.krb_priv.ensures.notation))
 
 pub returns-in-KrbCred-clause-some : goal.returns-in-KrbCred-clause-some
-returns-in-KrbCred-clause-some c = rw c.in-KrbCred.is (ap Some (sym c.krb_cred.ensures))
+returns-in-KrbCred-clause-some c = rw c.in-KrbCred.is (ap Some (sym c.krb_cred.ensures.notation))
 
 pub returns-in-KrbError-clause-some : goal.returns-in-KrbError-clause-some
-returns-in-KrbError-clause-some c = rw c.in-KrbError.is (ap Some (sym c.krb_error.ensures))
+returns-in-KrbError-clause-some c = rw c.in-KrbError.is (ap Some (sym c.krb_error.ensures.notation))
 
 pub returns-in-Authenticator-clause-some : goal.returns-in-Authenticator-clause-some
-returns-in-Authenticator-clause-some c = rw c.in-Authenticator.is (ap Some (sym c.authenticator.ensures))
+returns-in-Authenticator-clause-some c = rw c.in-Authenticator.is (ap Some (sym c.authenticator.ensures.notation))
 
 pub returns-in-EncTicketPart-clause-some : goal.returns-in-EncTicketPart-clause-some
-returns-in-EncTicketPart-clause-some c = rw c.in-EncTicketPart.is (ap Some (sym c.enc_ticket_part.ensures))
+returns-in-EncTicketPart-clause-some c = rw c.in-EncTicketPart.is (ap Some (sym c.enc_ticket_part.ensures.notation))
 
 pub returns-in-EncAsRepPart-clause-some : goal.returns-in-EncAsRepPart-clause-some
-returns-in-EncAsRepPart-clause-some c = rw c.in-EncAsRepPart.is (ap Some (sym c.enc_as_rep_part.ensures))
+returns-in-EncAsRepPart-clause-some c = rw c.in-EncAsRepPart.is (ap Some (sym c.enc_as_rep_part.ensures.notation))
 
 pub returns-in-EncTgsRepPart-clause-some : goal.returns-in-EncTgsRepPart-clause-some
-returns-in-EncTgsRepPart-clause-some c = rw c.in-EncTgsRepPart.is (ap Some (sym c.enc_tgs_rep_part.ensures))
+returns-in-EncTgsRepPart-clause-some c = rw c.in-EncTgsRepPart.is (ap Some (sym c.enc_tgs_rep_part.ensures.notation))
 
 pub returns-in-EncApRepPart-clause-some : goal.returns-in-EncApRepPart-clause-some
-returns-in-EncApRepPart-clause-some c = rw c.in-EncApRepPart.is (ap Some (sym c.enc_ap_rep_part.ensures))
+returns-in-EncApRepPart-clause-some c = rw c.in-EncApRepPart.is (ap Some (sym c.enc_ap_rep_part.ensures.notation))
 
 pub returns-in-EncKrbPrivPart-clause-some : goal.returns-in-EncKrbPrivPart-clause-some
-returns-in-EncKrbPrivPart-clause-some c = rw c.in-EncKrbPrivPart.is (ap Some (sym c.enc_krb_priv_part.ensures))
+returns-in-EncKrbPrivPart-clause-some c = rw c.in-EncKrbPrivPart.is (ap Some (sym c.enc_krb_priv_part.ensures.notation))
 
 pub returns-in-EncKrbCredPart-clause-some : goal.returns-in-EncKrbCredPart-clause-some
-returns-in-EncKrbCredPart-clause-some c = rw c.in-EncKrbCredPart.is (ap Some (sym c.enc_krb_cred_part.ensures))
+returns-in-EncKrbCredPart-clause-some c = rw c.in-EncKrbCredPart.is (ap Some (sym c.enc_krb_cred_part.ensures.notation))
