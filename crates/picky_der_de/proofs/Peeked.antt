@@ -157,7 +157,7 @@ module _ {a b : State} {x : ℕ} (p : Peeks a b x) where
     until_end = omega (arith, t.until_end, still_room);
     end = t.end ∙ ap (λ (s : State). s.end) p.same;
     limit = t.limit ∙ still_limit;
-    sets = t.sets ∙ ap (λ (s : State). s.sets) p.same;
+    last = t.last ∙ ap (λ (s : State). s.last) p.same;
     unpeeked = t.unpeeked;
     fetched = omega (arith, t.fetched, fetches_more);
     had_not_failed = p.had_not_failed;

@@ -72,7 +72,7 @@ pub record Passes (old new : State) (bytes : List ℕ) : Type 0 where
 pub record ReadsLayout (l : Layout) (old new : State) (ts : Trees) : Type 0 where
   pub are : AreMembersOf l ts
   pub readable : AreReadable ts
-  pub order : AreInOrder old.sets (encodings ts)
+  pub order : AreInOrder old.last (encodings ts)
   -- whether the first byte was looked at or not
   pub passes : (a : State) → PeeksAtMost a old → Passes a new (members_encoding ts)
   pub implicit_tag : new.implicit_tag ≡ None

@@ -1,8 +1,12 @@
 //! Sequences and sets that are being read (X.690, 8.9 to 8.12).
 ghost use Rattle.std.specs.Prelude.{◌≡◌, ◌≤◌, ◌+◌, ◌++◌, ◌∷◌, [], None, OnOk};
+ghost use Rattle.picky_der_de.specs.SetOrder.{IsCompared};
+
+mod order;
 
 use crate::deserializer::EnclosingEnd;
 use crate::{Begins, Deserialize, Deserializer};
+use order::{Next, first_of, is_tested, read_in_set};
 use picky_der_core::asn1::Tag;
 use picky_der_core::misc::ReadExt;
 use picky_der_core::{Asn1DerError, Result};
@@ -28,9 +32,11 @@ pub struct Sequence<'a, R: ReadExt> {
     de: &'a mut Deserializer<R>,
     // The end around its own.
     outer: EnclosingEnd,
+    next: Next,
     ghost within: { de.now.consumed + de.now.until_end ≤ outer.position },
     ghost bounded: { outer.position ≤ de.now.limit },
     ghost whole: { de.now.failed ≡ None → de.now.implicit_tag ≡ None },
+    ghost compared: { IsCompared de.now next },
 }
 
 impl<'a, R: ReadExt> Sequence<'a, R> {
@@ -55,7 +61,8 @@ impl<'a, R: ReadExt> Sequence<'a, R> {
         ensures opened { OpensLazily len de.old (state_of result) (outer_of result) }
     {
         let outer = de.open_lazily(len);
-        Sequence { de, outer }
+        let next = first_of(Tag::SEQUENCE);
+        Sequence { de, outer, next }
     }
 
     /// The next member, or `None` exactly at the end.
@@ -79,7 +86,7 @@ impl<'a, R: ReadExt> Sequence<'a, R> {
         if self.de.is_at_end()? {
             return Ok(None);
         }
-        Ok(Some(self.de.next_member::<T>()?))
+        Ok(Some(self.read_member::<T>()?))
     }
 
     /// The next member. At the end the error is `TruncatedData`, and nothing is consumed. Any other error is that of
@@ -98,7 +105,7 @@ impl<'a, R: ReadExt> Sequence<'a, R> {
         if self.de.is_at_end()? {
             return Err(self.de.fail(Asn1DerError::TruncatedData));
         }
-        self.de.next_member()
+        self.read_member()
     }
 
     // The next member, if the end isn't here.
@@ -112,7 +119,10 @@ impl<'a, R: ReadExt> Sequence<'a, R> {
         ensures err { IfErr result (RefusesMember T.meaning T.shape T.facts.rule (state_of self.old)
             (state_of self.new)) }
     {
-        self.de.next_member()
+        if is_tested(self.next) {
+            return read_in_set(self.de, &mut self.next);
+        }
+        T::deserialize(self.de)
     }
 
     /// The tag of the next member, without consuming it, or `None` exactly at the end. Nothing is allocated.
@@ -183,7 +193,7 @@ impl<'a, R: ReadExt> Sequence<'a, R> {
         match self.next_optional::<T>()? {
             Some(value) => {
                 if D::is_default(&value) {
-                    return Err(self.de.refuse(Asn1DerError::InvalidData));
+                    return Err(self.refuse(Asn1DerError::InvalidData));
                 }
                 Ok(value)
             }
@@ -235,7 +245,7 @@ impl<'a, R: ReadExt> Sequence<'a, R> {
             (state_of self.entry) self.exit.0.now) }
         ensures err { IfErr result (RefusesClose (state_of self.entry) self.exit.0.now) }
     {
-        let Sequence { de, outer } = self;
+        let Sequence { de, outer, next: _ } = self;
         de.close_end(outer)
     }
 }
@@ -325,7 +335,13 @@ impl<R: ReadExt> Deserializer<R> {
         ensures ok { IfOk result (λ q. OpensList tag self.old (state_of q) (outer_of q)) }
     {
         let outer = self.open_list(tag)?;
-        Ok(Sequence { de: self, outer })
+        let _ = self.take_seen();
+        let next = first_of(tag);
+        Ok(Sequence {
+            de: self,
+            outer,
+            next,
+        })
     }
 
     // The members of a sequence or set of values of one type, under this tag.

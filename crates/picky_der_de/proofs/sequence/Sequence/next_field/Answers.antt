@@ -1,6 +1,7 @@
 use Rattle.std.proofs.Common.{◌≡◌, ℕ, ◌<◌, refl, sym, ◌∙◌, arith, true≢false}
 use Rattle.std.proofs.lemmas.Result.{err_from_is_err_and, IfErr-weaker}
 use Rattle.picky_der_de.proofs.Contents.{failed_same}
+use Rattle.picky_der_de.proofs.InOrder.{fails_in, failed_in}
 use Rattle.picky_der_de.proofs.MemberReads.{member_again, member_field, member_missing}
 use Rattle.picky_der_de.proofs.sequence.Sequence.next_field.Goals as goal
 
@@ -21,11 +22,12 @@ returns-then-branch-clause-err g c =
       same =
           refl;
     })
-    (c.args.self.now.whole k.0) c.fail.ensures.fails c.fail.ensures.error
-    (failed_same c.args.self.now.de.now c.fail.ensures.error c.fail.ensures.same)
+    (c.args.self.now.whole k.0) (fails_in c.fail.ensures.fails)
+    c.fail.ensures.error
+    (failed_in c.args.self.now.next (failed_same c.args.self.now.de.now c.fail.ensures.error c.fail.ensures.same))
 
 pub returns-clause-err : goal.returns-clause-err
 returns-clause-err g c =
     let here = c.in_ok-is_at_end.ensures.ok.1 in
     let ahead = above _ (λ z. true≢false (sym (here.1 z) ∙ c.if-branch.false)) in
-    IfErr-weaker c.next_member.result _ _ (λ e k. member_field ahead k) c.next_member.ensures.err
+    IfErr-weaker c.read_member.result _ _ (λ e k. member_field ahead k) c.read_member.ensures.err

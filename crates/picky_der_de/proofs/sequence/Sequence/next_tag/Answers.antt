@@ -1,4 +1,5 @@
 use Rattle.std.proofs.lemmas.Result.{err_from_is_err_and}
+use Rattle.picky_der_de.proofs.InOrder.{identifies_in, identifier_refused_in}
 use Rattle.picky_der_de.proofs.Peeked.{identifier_again}
 use Rattle.picky_der_de.proofs.sequence.Sequence.next_tag.Goals as goal
 
@@ -6,3 +7,9 @@ pub returns-in_err-is_at_end-clause-err : goal.returns-in_err-is_at_end-clause-e
 returns-in_err-is_at_end-clause-err g c =
     let p = err_from_is_err_and c.from_residual.result c.from_residual.ensures.1 in
     rw (p.1, p.2) (identifier_again c.in_err-is_at_end.ensures.err)
+
+pub returns-in-Ok-clause-tag : goal.returns-in-Ok-clause-tag
+returns-in-Ok-clause-tag g c = identifies_in c.args.self.now.next c.in-Ok.ensures.tag
+
+pub returns-in-Err-clause-err : goal.returns-in-Err-clause-err
+returns-in-Err-clause-err g c = identifier_refused_in c.args.self.now.next c.in-Err.ensures.err

@@ -5,6 +5,7 @@ use Rattle.picky_der_core.specs.Failure.{failure_of}
 use Rattle.picky_der_core.specs.EncodingLaws.{length-der}
 use Rattle.picky_der_de.specs.State.{State}
 use Rattle.picky_der_de.specs.RefusesBy.{unsaid}
+use Rattle.picky_der_de.proofs.InOrder.{fails_in}
 use Rattle.picky_der_de.proofs.MemberReads.{consumes_member, member_again}
 use Rattle.picky_der_de.proofs.ListReads.{all_refused, all_next, all_for_memory, some_none, some_more, some_all}
 use Rattle.picky_der_de.proofs.MemberRuled.{each_head, each_next, each_again, each_for_memory}
@@ -71,7 +72,8 @@ loop-values-init g c =
 pub returns-in_default-add-clause-err : goal.returns-in_default-add-clause-err
 returns-in_default-add-clause-err g c =
     let r = c.in_ok-value.ensures.ok in
-    c.loop-values.invariant.some.refuses _ _ (all_next r (all_for_memory c.fail.ensures.fails c.fail.ensures.error))
+    c.loop-values.invariant.some.refuses _ _ (all_next r (all_for_memory
+    (fails_in c.fail.ensures.fails) c.fail.ensures.error))
 
 pub returns-clause-ok : goal.returns-clause-ok
 returns-clause-ok g c =

@@ -1,0 +1,12 @@
+use Rattle.picky_der_de.proofs.SetOrder.{unordered_reads, unordered_refused}
+use Rattle.picky_der_de.proofs.sequence.Sequence.read_member.Goals as goal
+
+pub returns-else-is_tested-clause-ok : goal.returns-else-is_tested-clause-ok
+returns-else-is_tested-clause-ok g c =
+    unordered_reads c.args.self.now.next c.deserialize.result (c.is_tested.ensures.no c.if-is_tested.false)
+    (c.args.self.now.whole c.requires) c.deserialize.ensures.ok
+
+pub returns-else-is_tested-clause-err : goal.returns-else-is_tested-clause-err
+returns-else-is_tested-clause-err g c =
+    unordered_refused c.args.self.now.next c.deserialize.result (c.args.self.now.whole c.requires)
+    c.deserialize.ensures.err c.deserialize.ensures.refused_by
