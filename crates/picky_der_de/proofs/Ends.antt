@@ -1,14 +1,20 @@
 -- Ends, opened and closed.
-use Rattle.std.proofs.Common.{◌≡◌, ℕ, ◌+◌, ◌<◌, ◌≤◌, ◌^◌, List, ◌++◌}
+use Rattle.std.proofs.Common.{◌≡◌, ◌==◌, ℕ, ◌+◌, ◌<◌, ◌≤◌, ◌^◌, Bool, true, false, if◌then◌else◌, List, [], ◌∷◌, ◌++◌}
 use Rattle.std.proofs.Common.{length, take, Option, Some, None, refl, sym, ◌∙◌, ap, subst, arith}
 use Rattle.picky_der_core.specs.declared.error.Asn1DerError.{Asn1DerError}
 use Rattle.picky_der_core.specs.Tag.{number_of, IsTagNumber}
+use Rattle.picky_der_core.specs.Order.{is_less}
+use Rattle.picky_der_core.specs.OrderLaws.{IsSortedBy-one, IsSortedBy-first, ascending_after_nothing}
 use Rattle.picky_der_core.specs.Refusal.{refusal_of}
 use Rattle.picky_der_de.specs.declared.end.End.{End}
 use Rattle.picky_der_de.specs.declared.end.End.TheVariants.{Soft}
 use Rattle.picky_der_de.specs.State.{State}
 use Rattle.picky_der_de.specs.Steps.{Consumed, Fails, IsJudged, mendable_within, is_hard}
 use Rattle.picky_der_de.specs.Order.{order_of}
+use Rattle.picky_der_de.specs.declared.sequence.order.Next.{Next}
+use Rattle.picky_der_de.specs.declared.sequence.order.Next.TheVariants.{Untested, InOrder}
+use Rattle.picky_der_de.specs.SetOrder.{last_by, first_by, in_order, IsCompared}
+use Rattle.picky_der_de.proofs.InOrder.{consumes_in}
 use Rattle.picky_der_de.specs.Reading.{Concerns, now, ever}
 use Rattle.picky_der_de.specs.Headers.{header_bytes, BeginsContent}
 use Rattle.picky_der_de.specs.Ends.{EnclosingEnd, innermost, with_inner_end, with_outer_end, Closes, OpensList}
@@ -47,6 +53,41 @@ opens_list {n = n} {b = b} i h opened back = record {
   outer_end = back;
   no_refusal = λ bs k. not_refused i h k;
 }
+
+-- the first member of a list, before which none was seen
+first_if : (set : Bool) (kept : List ℕ)
+    → last_by (if set then InOrder else Untested) [] kept ≡ (if set then Some [] else None)
+first_if true kept = refl
+first_if false kept = refl
+
+first_last : (tag : ℕ) (kept : List ℕ) → last_by (first_by tag) [] kept ≡ order_of tag
+first_last tag kept = first_if (tag == 0x31) kept
+
+begins_unseen : {tag n : ℕ} {a b : State} → BeginsContent tag a b n → BeginsContent tag a (record b { seen = [] }) n
+begins_unseen h = record {
+  consumes = consumes_in h.consumes.last h.consumes;
+  implicit_tag = h.implicit_tag;
+  fits = h.fits;
+  all = h.all;
+  bounded = h.bounded;
+}
+
+pub opens_unseen : {tag n : ℕ} {a b c : State} {outer : EnclosingEnd} → IsTagNumber (number_of tag)
+    → BeginsContent tag a b n → c ≡ record (with_inner_end b n Soft) { seen = [] } → outer ≡ innermost b
+    → OpensList tag a (in_order c (first_by tag)) outer
+opens_unseen {tag} {n} {a} {b} {c} i h opened back =
+    let d : State = record (with_inner_end b n Soft) { seen = [] } in
+    let first : in_order d (first_by tag) ≡ record d { last = order_of tag } =
+    ap (λ l. record d { last = l }) (first_last tag b.kept) in
+    opens_list i (begins_unseen h) (ap (λ (z : State). in_order z (first_by tag)) opened ∙ first) back
+
+not_less_nothing : (member : List ℕ) → is_less member [] ≡ false
+not_less_nothing member = IsSortedBy-first is_less [] member []
+    (ascending_after_nothing (member ∷ []) (IsSortedBy-one is_less member))
+
+-- nothing is less than no bytes
+pub first_compared : {c : State} (o : Next) → c.seen ≡ [] → IsCompared c o
+first_compared o none f is member left e k fits = ap (is_less member) none ∙ not_less_nothing member
 
 -- ---- before an end that was opened
 

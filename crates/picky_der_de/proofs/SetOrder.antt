@@ -276,6 +276,31 @@ pub failed_uncompared : {a c : State} {e : Asn1DerError} (o : Next) → Fails a 
 failed_uncompared {e = e} o f not_failed =
     absurd (let q : None ≡ Some (failure_of e) = sym not_failed ∙ f.failed in cc)
 
+-- the next member of a set, which was shown whole and in order
+module _ {a c d : State} {near member : List ℕ} {until_end count : ℕ} {s : Shape} {t : Tree} (o : Next)
+    (front : IfSome a.input (λ bytes. StartsWith bytes near)) (none : IfNone a.input (near ≡ []))
+    (sees : SeesNext near until_end count) (whole : a.implicit_tag ≡ None) (r : Reads s a c t)
+    (seen : member ≡ take count (known_bytes a.input)) (is : d ≡ record c { seen = member }) where
+  same_member : member ≡ der t
+  same_member = seen ∙ seen_is_read front none sees whole r
+
+  pub next_reads : o ≡ InOrder → a.failed ≡ None → IsCompared a o → length near ≤ a.until_end
+      → ReadsMember s (in_order a o) (in_order d o) t
+  next_reads in_order_ not_failed h fits = reads o in_order_ h
+    where
+      reads : (p : Next) → p ≡ InOrder → IsCompared a p → ReadsMember s (in_order a p) (in_order d p) t
+      reads Untested q k = absurd (cc)
+      reads InOrder q k =
+          subst (λ (z : State). ReadsMember s (in_order a InOrder) (in_order z InOrder) t) (sym is)
+          (member_reads InOrder InOrder member whole r
+          (shown_in_order not_failed k front none sees.element fits (shown_is_read front none sees whole r))
+          (ap (λ x. Some x) same_member))
+      reads Kept q k = absurd (cc)
+
+  pub next_still_compared : a.until_end ≡ until_end → IsCompared d o
+  next_still_compared end =
+      next_compared front none sees whole r d o end (is ∙ ap (λ x. record c { seen = x }) same_member)
+
 -- ---- sets whose members are out of order, as they are refused
 
 -- two headers at the front of the same bytes are one, and the bytes after them are the same

@@ -6,7 +6,6 @@ ghost use Rattle.std.specs.IoError.{error_kind};
 ghost use Rattle.picky_der_core.specs.Error.{error_of_kind};
 ghost use Rattle.picky_der_core.specs.Failure.{failure_of};
 ghost use Rattle.picky_der_core.specs.Peeking.{prepend};
-ghost use Rattle.picky_der_core.specs.Order.{is_less};
 ghost use Rattle.picky_der_de.specs.Order.{known_bytes};
 ghost use Rattle.std.specs.Io.{StartsWith};
 ghost use Rattle.picky_der_de.specs.Steps.{IsWithin, Fails, IsOther, failed_with};
@@ -224,12 +223,11 @@ impl<R: ReadExt> Deserializer<R> {
         self.seen = member;
     }
 
-    // Whether a member is less than the one that is kept.
-    pub(crate) fn is_less_than_kept(&self, member: &[u8]) -> bool
-        ensures { result ≡ is_less member.now self.now.kept }
+    // The member that is kept.
+    pub(crate) fn kept(&self) -> &[u8]
+        ensures { result.now ≡ self.now.kept }
     {
-        let kept: &[u8] = &self.kept;
-        member.cmp(kept).is_lt()
+        &self.kept
     }
 
     // Forgets the member that is kept, and returns it.

@@ -61,8 +61,11 @@ impl<'a, R: ReadExt> Sequence<'a, R> {
         ensures opened { OpensLazily len de.old (state_of result) (outer_of result) }
     {
         let outer = de.open_lazily(len);
-        let next = first_of(Tag::SEQUENCE);
-        Sequence { de, outer, next }
+        Sequence {
+            de,
+            outer,
+            next: Next::Untested,
+        }
     }
 
     /// The next member, or `None` exactly at the end.
@@ -335,7 +338,6 @@ impl<R: ReadExt> Deserializer<R> {
         ensures ok { IfOk result (λ q. OpensList tag self.old (state_of q) (outer_of q)) }
     {
         let outer = self.open_list(tag)?;
-        let _ = self.take_seen();
         let next = first_of(tag);
         Ok(Sequence {
             de: self,

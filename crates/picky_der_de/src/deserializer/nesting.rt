@@ -8,7 +8,7 @@ ghost use Rattle.picky_der_de.specs.Steps.{Consumed, UsesNoMemory};
 ghost use Rattle.picky_der_de.specs.Headers.{BeginsContent, RefusesBegin};
 ghost use Rattle.picky_der_de.specs.Ends.{innermost, with_inner_end, Closes, RefusesClose, OpensList, RefusesList};
 ghost use Rattle.picky_der_de.specs.Ends.{OpensLazily};
-ghost use Rattle.picky_der_de.specs.Order.{order_of};
+ghost use Rattle.picky_der_de.specs.SetOrder.{first_by, in_order, IsCompared};
 ghost use Rattle.picky_der_de.specs.Wrappers.{implicit_tag_of, BeginsWrapper, OpensWrapper, RefusesOpening};
 ghost use Rattle.picky_der_de.specs.RefusesBy.{RefusesBy};
 ghost use Rattle.picky_der_de.specs.Rules.{wrapped_rule};
@@ -88,23 +88,24 @@ impl<R: ReadExt> Deserializer<R> {
     }
 
     // Consumes the header of a sequence or set under this tag, and opens its end. Directly under an implicit tag the
-    // header was consumed with that tag.
+    // header was consumed with that tag. No member was seen before the first one.
     //
     // `InvalidData` for another tag. Any other error is that of a header or of an end, or the reader's I/O error.
     #[inline(always)]
     pub(crate) fn open_list(&mut self, tag: Tag) -> Result<EnclosingEnd>
         requires number { IsTagNumber (number_of tag) }
-        ensures ok { IfOk result (λ outer. OpensList tag self.old
-            (record self.new { last = order_of tag }) outer) }
+        ensures ok { IfOk result (OpensList tag self.old (in_order self.new (first_by tag))) }
+        ensures compared { OnOk result (IsCompared self.new (first_by tag)) }
         ensures bounded { IfOk result (λ outer. outer.position ≤ self.new.limit) }
         ensures err { IfErr result (RefusesList tag self.old self.new) }
     {
         let len = self.begin(tag)?;
-        Ok(self.open_end(len, End::Soft))
+        let outer = self.open_end(len, End::Soft);
+        let _ = self.take_seen();
+        Ok(outer)
     }
 
-    // Opens a soft end `len` bytes from here. Directly under an implicit tag the
-    // contents have their own header.
+    // Opens a soft end `len` bytes from here. Directly under an implicit tag the contents have their own header.
     //
     // If these bytes reach past the innermost end, the deserializer has failed: with `InvalidData` at a hard end, and
     // else with `TruncatedData`. If it had failed before, nothing changes.

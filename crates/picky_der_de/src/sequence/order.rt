@@ -4,7 +4,7 @@ ghost use Rattle.std.specs.Prelude.{◌≡◌, ◌≢◌, true, false, None, IfS
 ghost use Rattle.picky_der_core.specs.Order.{is_less};
 ghost use Rattle.picky_der_core.specs.Encoding.{der};
 ghost use Rattle.picky_der_de.specs.Members.{ReadsMember, RefusesMember};
-ghost use Rattle.picky_der_de.specs.Order.{Follows, RefusesTest};
+ghost use Rattle.picky_der_de.specs.Order.{is_out_of_order, Follows, RefusesTest};
 ghost use Rattle.picky_der_de.specs.Reading.{Reads, Refuses};
 ghost use Rattle.picky_der_de.specs.RefusesBy.{RefusesBy};
 ghost use Rattle.picky_der_de.specs.SetOrder.{first_by, is_in_order, in_order, IsCompared, SeesNext};
@@ -55,6 +55,17 @@ fn is_before(member: &[u8], last: &[u8]) -> bool
     ensures { result ≡ is_less member.now last.now }
 {
     member.cmp(last).is_lt()
+}
+
+// Whether a member is less than the last one. If it is known to be in order, it isn't looked at.
+fn is_less_than_last<R: ReadExt>(de: &Deserializer<R>, next: Next, member: &[u8]) -> bool
+    requires { is_in_order next ≡ true → is_less member.now de.now.seen ≡ false }
+    ensures { result ≡ is_out_of_order (in_order de.now next).last member.now }
+{
+    match next {
+        Next::Untested | Next::InOrder => false,
+        Next::Kept => is_before(member, de.kept()),
+    }
 }
 
 // How many bytes the member at the front of these bytes has, if it and the member after it are there whole and in
@@ -181,7 +192,7 @@ fn test_order<T: Serialize, R: ReadExt>(
     let Ok(member) = to_vec(de.alloc(), value) else {
         return Err(de.fail(Asn1DerError::OutOfMemory));
     };
-    if matches!(*next, Next::Kept) && de.is_less_than_kept(&member) {
+    if is_less_than_last(de, *next, &member) {
         return Err(de.fail(Asn1DerError::InvalidData));
     }
     de.set_kept(member);
