@@ -3,7 +3,7 @@ use Rattle.std.proofs.Common.{◌≡◌, ◌≢◌, ℕ, ◌-◌, ◌≤◌, Boo
 use Rattle.std.proofs.Common.{IfNone, IfSome, sym, ◌∙◌, ap, ap₂, subst, arith, append_assoc, true, false, refl}
 use Rattle.std.proofs.Common.{◌+◌, ◌^◌, ◌<◌, map, Result, Ok, Err, IfOk, IfErr, true≢false}
 use Rattle.std.specs.Io.{StartsWith}
-use Rattle.std.specs.Io.KnownBytes.{Consumes}
+use Rattle.std.specs.Io.KnownBytes.{Consumes, Keeps}
 use Rattle.std.proofs.lemmas.List.{take-append-drop, append_cancel_left}
 use Rattle.std.proofs.lemmas.Grind.{common_steps}
 use Rattle.picky_der_core.specs.Element.{length_octets, tlv, IsElement}
@@ -15,6 +15,7 @@ use Rattle.picky_der_de.specs.Order.{AreInOrder, Follows, known_bytes}
 use Rattle.picky_der_de.specs.declared.sequence.order.Next.{Next}
 use Rattle.picky_der_de.specs.declared.sequence.order.Next.TheVariants.{Untested, InOrder, Kept}
 use Rattle.picky_der_de.specs.SetOrder.{last_by, is_in_order, in_order, IsCompared, SeesNext}
+use Rattle.picky_der_de.specs.LookAhead.{Peeks, Identifies, IdentifiesIn}
 use Rattle.picky_der_de.proofs.Order.{judged_alike}
 use Rattle.picky_der_de.proofs.InOrder.{with_members, fails_in, reads_in, refuses_in, refused_in, failed_in}
 use Rattle.picky_der_core.specs.declared.error.Asn1DerError.{Asn1DerError}
@@ -184,6 +185,11 @@ unordered_refused o (Err e) whole r by = member_refused o o whole r by
 
 -- ---- the last member
 
+pub last_tested : {a : State} (o : Next) → o ≢ Untested → (in_order a o).last ≢ None
+last_tested Untested some = absurd (some refl)
+last_tested InOrder some = λ q. cc
+last_tested Kept some = λ q. cc
+
 with_some : (l : Option (List ℕ)) (member : List ℕ) → l ≢ None → Some member ≡ with_last l member
 with_some None member some = absurd (some refl)
 with_some (Some x) member some = refl
@@ -276,6 +282,32 @@ pub failed_uncompared : {a c : State} {e : Asn1DerError} (o : Next) → Fails a 
 failed_uncompared {e = e} o f not_failed =
     absurd (let q : None ≡ Some (failure_of e) = sym not_failed ∙ f.failed in cc)
 
+pub untested_compared : {a : State} (o : Next) → o ≡ Untested → IsCompared a o
+untested_compared o is = uncompared o (ap is_in_order is)
+
+-- the next byte was looked at
+consumes_kept : (i j left : Option (List ℕ)) (member : List ℕ) → Keeps i j → Consumes j left member
+    → Consumes i left member
+consumes_kept None j left member k h = tt
+consumes_kept (Some x) None left member k h = absurd k
+consumes_kept (Some x) (Some y) None member k h = absurd h
+consumes_kept (Some x) (Some y) (Some z) member k h = sym k ∙ h
+
+pub peeked_compared : {a c : State} {b : ℕ} (o : Next) → IsCompared a o → Peeks a c b → IsCompared c o
+peeked_compared {a} {c} o h p f is member left e k fits =
+    ap (is_less member) (ap (λ (s : State). s.seen) p.same)
+    ∙ h (sym (ap (λ (s : State). s.failed) p.same) ∙ f) is member left e
+    (consumes_kept a.input c.input left member p.input k)
+    (subst (λ n. length member ≤ n) (ap (λ (s : State). s.until_end) p.same) fits)
+
+identified_in : (d : Option ℕ) {a c : State} {tag : ℕ} (o : Next) → IsCompared a o → IdentifiesIn d a c tag
+    → IsCompared c o
+identified_in None o h p = peeked_compared o h p
+identified_in (Some awaited) o h p = subst (λ z. IsCompared z o) (sym p.2) h
+
+pub identified_compared : {a c : State} {tag : ℕ} (o : Next) → IsCompared a o → Identifies a c tag → IsCompared c o
+identified_compared {a} o h i = identified_in a.implicit_tag o h i.is
+
 -- the next member of a set, which was shown whole and in order
 module _ {a c d : State} {near member : List ℕ} {until_end count : ℕ} {s : Shape} {t : Tree} (o : Next)
     (front : IfSome a.input (λ bytes. StartsWith bytes near)) (none : IfNone a.input (near ≡ []))
@@ -286,7 +318,7 @@ module _ {a c d : State} {near member : List ℕ} {until_end count : ℕ} {s : S
 
   pub next_reads : o ≡ InOrder → a.failed ≡ None → IsCompared a o → length near ≤ a.until_end
       → ReadsMember s (in_order a o) (in_order d o) t
-  next_reads in_order_ not_failed h fits = reads o in_order_ h
+  next_reads here not_failed h fits = reads o here h
     where
       reads : (p : Next) → p ≡ InOrder → IsCompared a p → ReadsMember s (in_order a p) (in_order d p) t
       reads Untested q k = absurd (cc)

@@ -131,9 +131,9 @@ pub(super) fn read_in_set<T: Deserialize, R: ReadExt>(
         (in_order de.old next.old) (in_order de.new next.new)) }
     ensures compared { IsCompared de.new next.new }
 {
-    if !matches!(*next, Next::InOrder) {
+    let Next::InOrder = *next else {
         return read_unseen(de, next);
-    }
+    };
     let Some(count) = next_at_front(de.near(), de.until_end()) else {
         return read_unseen(de, next);
     };

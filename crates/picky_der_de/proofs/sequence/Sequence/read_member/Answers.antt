@@ -1,4 +1,4 @@
-use Rattle.picky_der_de.proofs.SetOrder.{unordered_reads, unordered_refused}
+use Rattle.picky_der_de.proofs.SetOrder.{unordered_reads, unordered_refused, last_tested}
 use Rattle.picky_der_de.proofs.sequence.Sequence.read_member.Goals as goal
 
 pub returns-else-is_tested-clause-ok : goal.returns-else-is_tested-clause-ok
@@ -10,3 +10,7 @@ pub returns-else-is_tested-clause-err : goal.returns-else-is_tested-clause-err
 returns-else-is_tested-clause-err g c =
     unordered_refused c.args.self.now.next c.deserialize.result (c.args.self.now.whole c.requires)
     c.deserialize.ensures.err c.deserialize.ensures.refused_by
+
+pub read_in_set-requires-clause-in_set : goal.read_in_set-requires-clause-in_set
+read_in_set-requires-clause-in_set g c =
+    last_tested c.args.self.now.next (c.is_tested.ensures.yes c.if-is_tested.true)

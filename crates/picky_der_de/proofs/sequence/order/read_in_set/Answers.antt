@@ -6,7 +6,7 @@ pub returns-in-Ok-clause-ok : goal.returns-in-Ok-clause-ok
 returns-in-Ok-clause-ok g c =
     let n = c.near.ensures in
     next_reads c.args.next.now n.front n.known c.in-Some.ensures c.requires.whole c.in-Ok.ensures.ok
-    c.seen_ahead-member.ensures c.set_seen.ensures ? c.requires.had_not_failed c.requires.compared n.fits
+    c.seen_ahead-member.ensures c.set_seen.ensures c.in-InOrder.is c.requires.had_not_failed c.requires.compared n.fits
 
 pub returns-in-Ok-clause-compared : goal.returns-in-Ok-clause-compared
 returns-in-Ok-clause-compared g c =
