@@ -86,8 +86,8 @@ not_less_nothing member = IsSortedBy-first is_less [] member []
     (ascending_after_nothing (member ∷ []) (IsSortedBy-one is_less member))
 
 -- nothing is less than no bytes
-pub first_compared : {c : State} (o : Next) → c.seen ≡ [] → IsCompared c o
-first_compared o none f is member left e k fits = ap (is_less member) none ∙ not_less_nothing member
+pub first_compared : (c : State) (o : Next) → c.seen ≡ [] → IsCompared c o
+first_compared c o none f is member left e k fits = ap (is_less member) none ∙ not_less_nothing member
 
 -- ---- before an end that was opened
 

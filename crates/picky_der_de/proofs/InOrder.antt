@@ -84,20 +84,20 @@ module _ {l m : Option (List ℕ)} {x y u w : List ℕ} {a c : State} where
   refused_in rule by j = by (judged_in j)
 
 -- a value that was read while other members were there
-module _ {A : Type 0} {s : Shape} {a b c d : State} (r : Result A Asn1DerError) {x u y w : List ℕ}
+module _ {A : Type 0} (a c : State) {b d : State} (r : Result A Asn1DerError) {x u y w : List ℕ}
     (before : b ≡ record a { seen = x; kept = u }) (after : d ≡ record c { seen = y; kept = w }) where
-  pub reads_aside : {meaning : A → Tree} → IfOk r (λ v. Reads s b c (meaning v))
+  pub reads_aside : (s : Shape) (meaning : A → Tree) → IfOk r (λ v. Reads s b c (meaning v))
       → IfOk r (λ v. Reads s a d (meaning v))
-  reads_aside {meaning} h = rw after (aside r (subst (λ z. IfOk r (λ v. Reads s z c (meaning v))) before h))
+  reads_aside s meaning h = rw after (aside r (subst (λ z. IfOk r (λ v. Reads s z c (meaning v))) before h))
     where
       aside : (q : Result A Asn1DerError) → IfOk q (λ v. Reads s (record a { seen = x; kept = u }) c (meaning v))
           → IfOk q (λ v. Reads s a (record c { seen = y; kept = w }) (meaning v))
       aside (Ok v) k = reads_in k.consumes.last k
       aside (Err e) k = tt
 
-  pub refuses_aside : {V : Type 0} {meaning : V → Tree} → IfErr r (Refuses meaning s b c)
+  pub refuses_aside : {V : Type 0} (s : Shape) (meaning : V → Tree) → IfErr r (Refuses meaning s b c)
       → IfErr r (Refuses meaning s a d)
-  refuses_aside {V} {meaning} h = rw after (aside r (subst (λ z. IfErr r (Refuses meaning s z c)) before h))
+  refuses_aside s meaning h = rw after (aside r (subst (λ z. IfErr r (Refuses meaning s z c)) before h))
     where
       aside : (q : Result A Asn1DerError) → IfErr q (Refuses meaning s (record a { seen = x; kept = u }) c)
           → IfErr q (Refuses meaning s a (record c { seen = y; kept = w }))
@@ -114,13 +114,13 @@ module _ {A : Type 0} {s : Shape} {a b c d : State} (r : Result A Asn1DerError) 
 
 -- ---- failures
 
-pub failed_in : {a c : State} {e : Asn1DerError} (o : Next) → c ≡ failed_with a e
+pub failed_in : (a : State) {c : State} (e : Asn1DerError) (o : Next) → c ≡ failed_with a e
     → in_order c o ≡ failed_with (in_order a o) e
-failed_in o same = ap (λ (z : State). in_order z o) same
+failed_in a e o same = ap (λ (z : State). in_order z o) same
 
-pub fails_as_in : {a c : State} {kind e : Asn1DerError} (o : Next) → FailsAs kind a e c
+pub fails_as_in : (a : State) {c : State} (kind e : Asn1DerError) (o : Next) → FailsAs kind a e c
     → FailsAs kind (in_order a o) e (in_order c o)
-fails_as_in o h = (h.0, failed_in o h.1)
+fails_as_in a kind e o h = (h.0, failed_in a e o h.1)
 
 -- ---- the next byte
 
@@ -136,10 +136,10 @@ peeks_in o p = record {
   same = ap (λ (z : State). in_order z o) p.same;
 }
 
-is_in : (d : Option ℕ) {a c : State} {tag : ℕ} (o : Next) → IdentifiesIn d a c tag
+is_in : (d : Option ℕ) (a c : State) (tag : ℕ) (o : Next) → IdentifiesIn d a c tag
     → IdentifiesIn d (in_order a o) (in_order c o) tag
-is_in None o p = peeks_in o p
-is_in (Some awaited) o p = (p.0, ap (λ (z : State). in_order z o) p.1)
+is_in None a c tag o p = peeks_in o p
+is_in (Some awaited) a c tag o p = (p.0, p.1, ap (λ (z : State). in_order z o) p.2)
 
 refusal_in : (d : Option ℕ) (a : State) (o : Next) (rest : List ℕ)
     → identifier_refusal_in d (in_order a o) rest ≡ identifier_refusal_in d a rest
@@ -149,8 +149,8 @@ refusal_in (Some number) a o rest = refl
 
 pub identifies_in : {a c : State} {tag : ℕ} (o : Next) → Identifies a c tag
     → Identifies (in_order a o) (in_order c o) tag
-identifies_in {a} o h = record {
-  is = is_in a.implicit_tag o h.is;
+identifies_in {a} {c} {tag} o h = record {
+  is = is_in a.implicit_tag a c tag o h.is;
   no_refusal = λ bs k. refusal_in a.implicit_tag a o (take a.until_end bs) ∙ h.no_refusal bs k;
 }
 

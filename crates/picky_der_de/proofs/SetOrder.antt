@@ -129,66 +129,66 @@ member_reads {a = a} {c = c} o p seen whole r h is = record {
 }
 
 -- the same with the test afterwards
-pub still_last : {a c : State} (o : Next) → c.seen ≡ a.seen → c.kept ≡ a.kept
+pub still_last : (a c : State) (o : Next) → c.seen ≡ a.seen → c.kept ≡ a.kept
     → (in_order c o).last ≡ (in_order a o).last
-still_last o seen kept = ap₂ (last_by o) seen kept
+still_last a c o seen kept = ap₂ (last_by o) seen kept
 
-pub member_follows : {s : Shape} {a c d : State} {t : Tree} (o p : Next) → a.implicit_tag ≡ None
+pub member_follows : {s : Shape} {a c : State} (d : State) {t : Tree} (o p : Next) → a.implicit_tag ≡ None
     → Reads s a c t → c.seen ≡ a.seen → c.kept ≡ a.kept
     → Follows (der t) (record (in_order c o) { kept = d.kept }) (in_order d p)
     → ReadsMember s (in_order a o) (in_order d p) t
-member_follows {c = c} {d = d} o p whole r seen kept follows = record {
+member_follows {a = a} {c = c} d o p whole r seen kept follows = record {
   mid = with_members (in_order c o).last c.seen d.kept c;
-  reads = reads_in (still_last o seen kept) r;
+  reads = reads_in (still_last a c o seen kept) r;
   implicit_tag = whole;
   follows = follows;
 }
 
-pub member_failed : {V : Type 0} {meaning : V → Tree} {s : Shape} {rule : Rule} {a c d : State} {e : Asn1DerError}
-    (o p : Next) (v : V) → a.implicit_tag ≡ None → Reads s a c (meaning v) → c.seen ≡ a.seen
+pub member_failed : {V : Type 0} {meaning : V → Tree} {s : Shape} {rule : Rule} {a c : State} (d : State)
+    {e : Asn1DerError} (o p : Next) (v : V) → a.implicit_tag ≡ None → Reads s a c (meaning v) → c.seen ≡ a.seen
     → c.kept ≡ a.kept → RefusesTest (der (meaning v)) (in_order c o) (in_order d p) e
     → RefusesMember meaning s rule (in_order a o) (in_order d p) e
-member_failed o p v whole r seen kept t = member_untested v (reads_in (still_last o seen kept) r) t (λ w. whole)
+member_failed {a = a} {c = c} d o p v whole r seen kept t = member_untested v (reads_in (still_last a c o seen kept) r) t (λ w. whole)
 
 -- it is less than the last one
 pub order_failed : {member : List ℕ} {c d : State} {e : Asn1DerError} (o : Next) → Fails c d e → e ≡ InvalidData
     → d ≡ failed_with c e → is_out_of_order (in_order c o).last member ≡ true
     → RefusesTest member (in_order c o) (in_order d o) e
-order_failed o f is same less = out_of_order (record {
+order_failed {c = c} {e = e} o f is same less = out_of_order (record {
   fails = fails_in f;
   less = less;
   error = is;
-  same = failed_in o same;
+  same = failed_in c e o same;
 })
 
 -- an allocation failed
 pub memory_failed : {member : List ℕ} {c d : State} {e : Asn1DerError} (o : Next) → (in_order c o).last ≢ None
     → Fails c d e → e ≡ OutOfMemory → d ≡ failed_with c e → RefusesTest member (in_order c o) (in_order d o) e
-memory_failed o some f is same = without_memory some (fails_in f) is (failed_in o same)
+memory_failed {c = c} {e = e} o some f is same = without_memory some (fails_in f) is (failed_in c e o same)
 
 -- a list whose order isn't tested
-pub unordered_reads : {A : Type 0} {meaning : A → Tree} {s : Shape} {a c : State} (o : Next)
+pub unordered_reads : {A : Type 0} (meaning : A → Tree) (s : Shape) (a c : State) (o : Next)
     (r : Result A Asn1DerError) → o ≡ Untested → a.implicit_tag ≡ None → IfOk r (λ v. Reads s a c (meaning v))
     → IfOk r (λ v. ReadsMember s (in_order a o) (in_order c o) (meaning v))
-unordered_reads {meaning = meaning} {a = a} {c = c} o (Ok v) none whole r =
+unordered_reads meaning s a c o (Ok v) none whole r =
     let before : (in_order a o).last ≡ None = ap (λ n. last_by n a.seen a.kept) none in
     let after : (in_order c o).last ≡ None = ap (λ n. last_by n c.seen c.kept) none in
     member_reads o o c.seen whole r (ap (λ l. is_out_of_order l (der (meaning v))) before)
     (after ∙ sym (ap (λ l. with_last l (der (meaning v))) before))
-unordered_reads o (Err e) none whole r = tt
+unordered_reads meaning s a c o (Err e) none whole r = tt
 
-pub unordered_refused : {A V : Type 0} {meaning : V → Tree} {s : Shape} {rule : Rule} {a c : State} (o : Next)
+pub unordered_refused : {A V : Type 0} (meaning : V → Tree) (s : Shape) (rule : Rule) (a c : State) (o : Next)
     (r : Result A Asn1DerError) → a.implicit_tag ≡ None → IfErr r (Refuses meaning s a c)
     → IfErr r (RefusesBy rule a c) → IfErr r (RefusesMember meaning s rule (in_order a o) (in_order c o))
-unordered_refused o (Ok v) whole r by = tt
-unordered_refused o (Err e) whole r by = member_refused o o whole r by
+unordered_refused meaning s rule a c o (Ok v) whole r by = tt
+unordered_refused meaning s rule a c o (Err e) whole r by = member_refused o o whole r by
 
 -- ---- the last member
 
-pub last_tested : {a : State} (o : Next) → o ≢ Untested → (in_order a o).last ≢ None
-last_tested Untested some = absurd (some refl)
-last_tested InOrder some = λ q. cc
-last_tested Kept some = λ q. cc
+pub last_tested : (a : State) (o : Next) → o ≢ Untested → (in_order a o).last ≢ None
+last_tested a Untested some = absurd (some refl)
+last_tested a InOrder some = λ q. cc
+last_tested a Kept some = λ q. cc
 
 with_some : (l : Option (List ℕ)) (member : List ℕ) → l ≢ None → Some member ≡ with_last l member
 with_some None member some = absurd (some refl)
@@ -198,10 +198,10 @@ pub is_last : (l n : Option (List ℕ)) (member : List ℕ) → l ≢ None → n
 is_last l n member some is = is ∙ with_some l member some
 
 -- after a member that is kept
-pub kept_follows : {member : List ℕ} {c d : State} (o : Next) → (in_order c o).last ≢ None
+pub kept_follows : {member : List ℕ} (c : State) {d : State} (o : Next) → (in_order c o).last ≢ None
     → is_out_of_order (in_order c o).last member ≡ false → d ≡ record c { kept = member }
     → Follows member (record (in_order c o) { kept = d.kept }) (in_order d Kept)
-kept_follows {member} {c} {d} o some h is =
+kept_follows {member} c {d} o some h is =
     subst (λ (z : State). Follows member (record (in_order c o) { kept = z.kept }) (in_order z Kept)) (sym is) (record {
       in_order = h;
       same = ap (λ l. record c { last = l; kept = member }) (with_some (in_order c o).last member some);
@@ -249,22 +249,22 @@ known_consumes : (i : Option (List ℕ)) (x rest : List ℕ) → i ≡ Some (x +
 known_consumes None x rest e = tt
 known_consumes (Some bytes) x rest e = cc
 
-pub shown_compared : {a : State} {near : List ℕ} {count : ℕ} (o : Next) → a.failed ≡ None → IsCompared a o
+pub shown_compared : (a : State) {near : List ℕ} {count : ℕ} (o : Next) → a.failed ≡ None → IsCompared a o
     → IfSome a.input (λ bytes. StartsWith bytes near) → IfNone a.input (near ≡ []) → IsElementInFront near count
     → length near ≤ a.until_end → is_in_order o ≡ true → is_less (take count near) a.seen ≡ false
-shown_compared {a} {near} {count} o not_failed h front none e fits is =
+shown_compared a {near} {count} o not_failed h front none e fits is =
     let k = known_next a.input near count front none e in
     h not_failed is (take count near) (Some (drop count near ++ k.rest)) (element_next e)
     (known_consumes a.input (take count near) (drop count near ++ k.rest) k.known)
     (omega (arith, length_front count near e.fits, e.fits, fits))
 
 -- so it may come next
-pub shown_in_order : {a : State} {near : List ℕ} {count : ℕ} → a.failed ≡ None → IsCompared a InOrder
+pub shown_in_order : (a : State) {near : List ℕ} {count : ℕ} → a.failed ≡ None → IsCompared a InOrder
     → IfSome a.input (λ bytes. StartsWith bytes near) → IfNone a.input (near ≡ []) → IsElementInFront near count
-    → length near ≤ a.until_end → {t : Tree} → der t ≡ take count near
+    → length near ≤ a.until_end → (t : Tree) → der t ≡ take count near
     → is_out_of_order (in_order a InOrder).last (der t) ≡ false
-shown_in_order {a} not_failed h front none e fits is =
-    ap (λ x. is_less x a.seen) is ∙ shown_compared InOrder not_failed h front none e fits refl
+shown_in_order a not_failed h front none e fits t is =
+    ap (λ x. is_less x a.seen) is ∙ shown_compared a InOrder not_failed h front none e fits refl
 
 -- what is known of a member that was read unseen
 pub unseen_compared : {a c : State} {s : Shape} {t : Tree} (o : Next) → a.failed ≡ None → a.implicit_tag ≡ None
@@ -275,15 +275,15 @@ unseen_compared {a} {c} {t = t} o not_failed whole h r same is =
     (omega (arith, read.until_end))
 
 -- nothing is known, or nothing will be read
-pub uncompared : {a : State} (o : Next) → is_in_order o ≡ false → IsCompared a o
-uncompared o none f is = absurd (true≢false (sym is ∙ none))
+pub uncompared : (a : State) (o : Next) → is_in_order o ≡ false → IsCompared a o
+uncompared a o none f is = absurd (true≢false (sym is ∙ none))
 
 pub failed_uncompared : {a c : State} {e : Asn1DerError} (o : Next) → Fails a c e → IsCompared c o
 failed_uncompared {e = e} o f not_failed =
     absurd (let q : None ≡ Some (failure_of e) = sym not_failed ∙ f.failed in cc)
 
-pub untested_compared : {a : State} (o : Next) → o ≡ Untested → IsCompared a o
-untested_compared o is = uncompared o (ap is_in_order is)
+pub untested_compared : (a : State) (o : Next) → o ≡ Untested → IsCompared a o
+untested_compared a o is = uncompared a o (ap is_in_order is)
 
 -- the next byte was looked at
 consumes_kept : (i j left : Option (List ℕ)) (member : List ℕ) → Keeps i j → Consumes j left member
@@ -300,13 +300,13 @@ peeked_compared {a} {c} o h p f is member left e k fits =
     (consumes_kept a.input c.input left member p.input k)
     (subst (λ n. length member ≤ n) (ap (λ (s : State). s.until_end) p.same) fits)
 
-identified_in : (d : Option ℕ) {a c : State} {tag : ℕ} (o : Next) → IsCompared a o → IdentifiesIn d a c tag
+identified_in : (d : Option ℕ) (a c : State) (tag : ℕ) (o : Next) → IsCompared a o → IdentifiesIn d a c tag
     → IsCompared c o
-identified_in None o h p = peeked_compared o h p
-identified_in (Some awaited) o h p = subst (λ z. IsCompared z o) (sym p.2) h
+identified_in None a c tag o h p = peeked_compared o h p
+identified_in (Some awaited) a c tag o h p = subst (λ z. IsCompared z o) (sym p.2) h
 
 pub identified_compared : {a c : State} {tag : ℕ} (o : Next) → IsCompared a o → Identifies a c tag → IsCompared c o
-identified_compared {a} o h i = identified_in a.implicit_tag o h i.is
+identified_compared {a} {c} {tag} o h i = identified_in a.implicit_tag a c tag o h i.is
 
 -- the next member of a set, which was shown whole and in order
 module _ {a c d : State} {near member : List ℕ} {until_end count : ℕ} {s : Shape} {t : Tree} (o : Next)
@@ -325,7 +325,7 @@ module _ {a c d : State} {near member : List ℕ} {until_end count : ℕ} {s : S
       reads InOrder q k =
           subst (λ (z : State). ReadsMember s (in_order a InOrder) (in_order z InOrder) t) (sym is)
           (member_reads InOrder InOrder member whole r
-          (shown_in_order not_failed k front none sees.element fits (shown_is_read front none sees whole r))
+          (shown_in_order a not_failed k front none sees.element fits t (shown_is_read front none sees whole r))
           (ap (λ x. Some x) same_member))
       reads Kept q k = absurd (cc)
 

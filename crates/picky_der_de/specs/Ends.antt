@@ -41,10 +41,11 @@ pub record Closes (outer : EnclosingEnd) (old new : State) : Type 0 where
   pub had_not_failed : old.failed ≡ None
   pub same : new ≡ with_outer_end outer old
 
--- bytes are left before the end, and none of them was consumed
+-- bytes are left before the end, and none of them was consumed; of the last member of a set nothing is said then
 pub record RefusesClose (old new : State) (e : Asn1DerError) : Type 0 where
   pub fails : Fails old new e
-  pub left : old.failed ≡ None → (0 < old.until_end) × (e ≡ InvalidData) × (new ≡ failed_with old e)
+  pub left : old.failed ≡ None → (0 < old.until_end) × (e ≡ InvalidData)
+      × (new ≡ record (failed_with old e) { last = new.last })
 
 -- ---- sequences and sets
 

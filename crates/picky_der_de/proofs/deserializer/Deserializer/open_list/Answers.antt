@@ -12,4 +12,4 @@ returns-clause-ok g c =
 
 pub returns-clause-compared : goal.returns-clause-compared
 returns-clause-compared g c =
-    first_compared (first_by c.args.tag) (ap (λ (s : State). s.seen) c.take_seen.ensures.same)
+    first_compared c.take_seen.new.self (first_by c.args.tag) (ap (λ (s : State). s.seen) c.take_seen.ensures.same)

@@ -3,14 +3,14 @@ use Rattle.picky_der_de.proofs.sequence.Sequence.read_member.Goals as goal
 
 pub returns-else-is_tested-clause-ok : goal.returns-else-is_tested-clause-ok
 returns-else-is_tested-clause-ok g c =
-    unordered_reads c.args.self.now.next c.deserialize.result (c.is_tested.ensures.no c.if-is_tested.false)
+    unordered_reads g.T.Serialize.meaning g.T.Deserialize.shape c.args.self.now.de.now c.deserialize.new.de c.args.self.now.next c.deserialize.result (c.is_tested.ensures.no c.if-is_tested.false)
     (c.args.self.now.whole c.requires) c.deserialize.ensures.ok
 
 pub returns-else-is_tested-clause-err : goal.returns-else-is_tested-clause-err
 returns-else-is_tested-clause-err g c =
-    unordered_refused c.args.self.now.next c.deserialize.result (c.args.self.now.whole c.requires)
+    unordered_refused g.T.Serialize.meaning g.T.Deserialize.shape g.T.Deserialize.facts.rule c.args.self.now.de.now c.deserialize.new.de c.args.self.now.next c.deserialize.result (c.args.self.now.whole c.requires)
     c.deserialize.ensures.err c.deserialize.ensures.refused_by
 
 pub read_in_set-requires-clause-in_set : goal.read_in_set-requires-clause-in_set
 read_in_set-requires-clause-in_set g c =
-    last_tested c.args.self.now.next (c.is_tested.ensures.yes c.if-is_tested.true)
+    last_tested c.args.self.now.de.now c.args.self.now.next (c.is_tested.ensures.yes c.if-is_tested.true)

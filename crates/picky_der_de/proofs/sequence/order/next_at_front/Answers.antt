@@ -5,8 +5,8 @@ use Rattle.picky_der_de.specs.Ahead.{IsElementInFront}
 use Rattle.picky_der_de.proofs.SetOrder.{sees_none, sees_next}
 use Rattle.picky_der_de.proofs.sequence.order.next_at_front.Goals as goal
 
-pub returns-then-branch : goal.returns-then-branch
-returns-then-branch c = sees_none c.in_ok-count.ensures.is c.if-branch.true
+pub returns-then-count-until_end : goal.returns-then-count-until_end
+returns-then-count-until_end c = sees_none c.in_ok-count.ensures.is c.if-count-until_end.true
 
 pub returns : goal.returns
 returns c =

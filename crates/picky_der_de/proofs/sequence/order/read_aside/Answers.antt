@@ -3,15 +3,15 @@ use Rattle.picky_der_de.proofs.sequence.order.read_aside.Goals as goal
 
 pub returns-clause-ok : goal.returns-clause-ok
 returns-clause-ok g c =
-    reads_aside {a = c.args.de.now} {c = c.deserialize-result.new.de} c.deserialize-result.result
-    c.take_seen-seen.ensures.same c.set_seen.ensures c.deserialize-result.ensures.ok
+    reads_aside c.args.de.now c.deserialize-result.new.de c.deserialize-result.result
+    c.take_seen-seen.ensures.same c.set_seen.ensures g.T.Deserialize.shape g.T.Serialize.meaning c.deserialize-result.ensures.ok
 
 pub returns-clause-err : goal.returns-clause-err
 returns-clause-err g c =
-    refuses_aside {a = c.args.de.now} {c = c.deserialize-result.new.de} c.deserialize-result.result
-    c.take_seen-seen.ensures.same c.set_seen.ensures c.deserialize-result.ensures.err
+    refuses_aside c.args.de.now c.deserialize-result.new.de c.deserialize-result.result
+    c.take_seen-seen.ensures.same c.set_seen.ensures g.T.Deserialize.shape g.T.Serialize.meaning c.deserialize-result.ensures.err
 
 pub returns-clause-refused_by : goal.returns-clause-refused_by
 returns-clause-refused_by g c =
-    refused_aside {a = c.args.de.now} {c = c.deserialize-result.new.de} c.deserialize-result.result
-    c.take_seen-seen.ensures.same c.set_seen.ensures _ c.deserialize-result.ensures.refused_by
+    refused_aside c.args.de.now c.deserialize-result.new.de c.deserialize-result.result
+    c.take_seen-seen.ensures.same c.set_seen.ensures g.T.Deserialize.facts.rule c.deserialize-result.ensures.refused_by

@@ -5,7 +5,7 @@ use Rattle.picky_der_de.proofs.sequence.order.read_unseen.Goals as goal
 
 pub test_order-requires-clause-in_set : goal.test_order-requires-clause-in_set
 test_order-requires-clause-in_set g c =
-    λ none. c.requires.in_set (sym (still_last c.args.next.now c.read_beside.ensures.seen
+    λ none. c.requires.in_set (sym (still_last c.args.de.now c.read_beside.new.de c.args.next.now c.read_beside.ensures.seen
     c.read_beside.ensures.kept) ∙ none)
 
 pub test_order-requires-clause-compared : goal.test_order-requires-clause-compared
@@ -15,13 +15,13 @@ test_order-requires-clause-compared g c =
 
 pub returns-in-Ok-test_order-clause-ok : goal.returns-in-Ok-test_order-clause-ok
 returns-in-Ok-test_order-clause-ok g c =
-    member_follows c.args.next.now _ c.requires.whole c.in-Ok.ensures.ok
+    member_follows c.test_order.new.de c.args.next.now _ c.requires.whole c.in-Ok.ensures.ok
     c.read_beside.ensures.seen c.read_beside.ensures.kept
     c.in-Ok-test_order.ensures.ok
 
 pub returns-in-Err-test_order-clause-err : goal.returns-in-Err-test_order-clause-err
 returns-in-Err-test_order-clause-err g c =
-    member_failed c.args.next.now _ c.in-Ok.value c.requires.whole c.in-Ok.ensures.ok
+    member_failed c.test_order.new.de c.args.next.now _ c.in-Ok.value c.requires.whole c.in-Ok.ensures.ok
     c.read_beside.ensures.seen c.read_beside.ensures.kept
     c.in-Err-test_order.ensures.err
 
