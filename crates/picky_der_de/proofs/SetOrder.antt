@@ -148,7 +148,8 @@ pub member_failed : {V : Type 0} {meaning : V → Tree} {s : Shape} {rule : Rule
     {e : Asn1DerError} (o p : Next) (v : V) → a.implicit_tag ≡ None → Reads s a c (meaning v) → c.seen ≡ a.seen
     → c.kept ≡ a.kept → RefusesTest (der (meaning v)) (in_order c o) (in_order d p) e
     → RefusesMember meaning s rule (in_order a o) (in_order d p) e
-member_failed {a = a} {c = c} d o p v whole r seen kept t = member_untested v (reads_in (still_last a c o seen kept) r) t (λ w. whole)
+member_failed {a = a} {c = c} d o p v whole r seen kept t =
+    member_untested v (reads_in (still_last a c o seen kept) r) t (λ w. whole)
 
 -- it is less than the last one
 pub order_failed : {member : List ℕ} {c d : State} {e : Asn1DerError} (o : Next) → Fails c d e → e ≡ InvalidData

@@ -24,7 +24,8 @@ returns-then-branch-clause-err g c =
     })
     (c.args.self.now.whole k.0) (fails_in c.fail.ensures.fails)
     c.fail.ensures.error
-    (failed_in c.args.self.now.de.now _ c.args.self.now.next (failed_same c.args.self.now.de.now c.fail.ensures.error c.fail.ensures.same))
+    (failed_in c.args.self.now.de.now _ c.args.self.now.next
+    (failed_same c.args.self.now.de.now c.fail.ensures.error c.fail.ensures.same))
 
 pub returns-clause-err : goal.returns-clause-err
 returns-clause-err g c =

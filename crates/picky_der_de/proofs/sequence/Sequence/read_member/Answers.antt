@@ -3,12 +3,16 @@ use Rattle.picky_der_de.proofs.sequence.Sequence.read_member.Goals as goal
 
 pub returns-else-is_tested-clause-ok : goal.returns-else-is_tested-clause-ok
 returns-else-is_tested-clause-ok g c =
-    unordered_reads g.T.Serialize.meaning g.T.Deserialize.shape c.args.self.now.de.now c.deserialize.new.de c.args.self.now.next c.deserialize.result (c.is_tested.ensures.no c.if-is_tested.false)
+    let s = c.args.self.now in
+    unordered_reads g.T.Serialize.meaning g.T.Deserialize.shape s.de.now c.deserialize.new.de s.next
+    c.deserialize.result (c.is_tested.ensures.no c.if-is_tested.false)
     (c.args.self.now.whole c.requires) c.deserialize.ensures.ok
 
 pub returns-else-is_tested-clause-err : goal.returns-else-is_tested-clause-err
 returns-else-is_tested-clause-err g c =
-    unordered_refused g.T.Serialize.meaning g.T.Deserialize.shape g.T.Deserialize.facts.rule c.args.self.now.de.now c.deserialize.new.de c.args.self.now.next c.deserialize.result (c.args.self.now.whole c.requires)
+    let s = c.args.self.now in
+    unordered_refused g.T.Serialize.meaning g.T.Deserialize.shape g.T.Deserialize.facts.rule s.de.now
+    c.deserialize.new.de s.next c.deserialize.result (c.args.self.now.whole c.requires)
     c.deserialize.ensures.err c.deserialize.ensures.refused_by
 
 pub read_in_set-requires-clause-in_set : goal.read_in_set-requires-clause-in_set

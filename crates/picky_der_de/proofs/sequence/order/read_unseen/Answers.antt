@@ -5,8 +5,8 @@ use Rattle.picky_der_de.proofs.sequence.order.read_unseen.Goals as goal
 
 pub test_order-requires-clause-in_set : goal.test_order-requires-clause-in_set
 test_order-requires-clause-in_set g c =
-    λ none. c.requires.in_set (sym (still_last c.args.de.now c.read_beside.new.de c.args.next.now c.read_beside.ensures.seen
-    c.read_beside.ensures.kept) ∙ none)
+    λ none. c.requires.in_set (sym (still_last c.args.de.now c.read_beside.new.de c.args.next.now
+    c.read_beside.ensures.seen c.read_beside.ensures.kept) ∙ none)
 
 pub test_order-requires-clause-compared : goal.test_order-requires-clause-compared
 test_order-requires-clause-compared g c =

@@ -30,7 +30,8 @@ returns-then-is_less_than_last-clause-err g c =
     ∙ sym c.is_less_than_last.ensures ∙ c.if-is_less_than_last.true)
 
 pub returns-then-is_less_than_last-clause-compared : goal.returns-then-is_less_than_last-clause-compared
-returns-then-is_less_than_last-clause-compared g c = failed_uncompared c.args.next.now c.fail-then-is_less_than_last.ensures.fails
+returns-then-is_less_than_last-clause-compared g c =
+    failed_uncompared c.args.next.now c.fail-then-is_less_than_last.ensures.fails
 
 pub returns-clause-ok : goal.returns-clause-ok
 returns-clause-ok g c =
