@@ -8,6 +8,7 @@ use Rattle.picky_der_de.specs.declared.sequence.order.Next.{Next}
 use Rattle.picky_der_de.specs.State.{State}
 use Rattle.picky_der_de.specs.Steps.{Consumed, Fails, IsJudged, IsMissing, end_is_here, input_ended, failed_with}
 use Rattle.picky_der_de.specs.Refusing.{FailsAs}
+use Rattle.picky_der_de.specs.Ends.{RefusesClose}
 use Rattle.picky_der_de.specs.RefusesBy.{Rule, RefusesBy}
 use Rattle.picky_der_de.specs.Reading.{Concerns, now, ever, Reads, Refuses}
 use Rattle.picky_der_de.specs.SetOrder.{in_order}
@@ -121,6 +122,20 @@ failed_in a e o same = ap (λ (z : State). in_order z o) same
 pub fails_as_in : (a : State) {c : State} (kind e : Asn1DerError) (o : Next) → FailsAs kind a e c
     → FailsAs kind (in_order a o) e (in_order c o)
 fails_as_in a kind e o h = (h.0, failed_in a e o h.1)
+
+-- the end was closed
+
+pub refuses_close_in : (a : State) {c : State} (e : Asn1DerError) (o : Next) → RefusesClose a c e
+    → RefusesClose (in_order a o) c e
+refuses_close_in a e o k = record {
+  fails = fails_in k.fails;
+  left = λ w. let q = k.left w in (q.0, q.1, q.2);
+}
+
+pub close_refused_in : {A : Type 0} (a c : State) (o : Next) (r : Result A Asn1DerError) → IfErr r (RefusesClose a c)
+    → IfErr r (RefusesClose (in_order a o) c)
+close_refused_in a c o (Ok v) k = tt
+close_refused_in a c o (Err e) k = refuses_close_in a e o k
 
 -- ---- the next byte
 

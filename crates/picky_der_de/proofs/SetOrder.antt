@@ -1,7 +1,7 @@
 -- Members of sets: those that are shown before they are read, and those that are out of order.
 use Rattle.std.proofs.Common.{◌≡◌, ◌≢◌, ℕ, ◌-◌, ◌≤◌, Bool, List, [], ◌∷◌, ◌++◌, length, take, drop, Option, Some, None}
 use Rattle.std.proofs.Common.{IfNone, IfSome, sym, ◌∙◌, ap, ap₂, subst, arith, append_assoc, true, false, refl}
-use Rattle.std.proofs.Common.{◌+◌, ◌^◌, ◌<◌, map, Result, Ok, Err, IfOk, IfErr, true≢false}
+use Rattle.std.proofs.Common.{◌+◌, ◌^◌, ◌<◌, map, Result, Ok, Err, IfOk, OnOk, IfErr, true≢false}
 use Rattle.std.specs.Io.{StartsWith}
 use Rattle.std.specs.Io.KnownBytes.{Consumes, Keeps}
 use Rattle.std.proofs.lemmas.List.{take-append-drop, append_cancel_left}
@@ -38,9 +38,9 @@ use Rattle.picky_der_core.specs.ElementLaws.{length_octets_prefix}
 use Rattle.picky_der_core.specs.Refusal.{Refusal, refusal_of, header_refusal}
 use Rattle.picky_der_de.specs.declared.end.End.TheVariants.{Soft}
 use Rattle.picky_der_de.specs.Headers.{header_bytes}
-use Rattle.picky_der_de.specs.Ends.{EnclosingEnd, OpensList, RefusesList}
+use Rattle.picky_der_de.specs.Ends.{EnclosingEnd, Closes, RefusesClose, OpensList, RefusesList}
 use Rattle.picky_der_de.proofs.Steps.{judged_after}
-use Rattle.picky_der_de.proofs.Ends.{judged_with_inner_end}
+use Rattle.picky_der_de.proofs.Ends.{judged_with_inner_end, first_compared}
 use Rattle.picky_der_de.proofs.Headers.{header-read}
 
 -- the first so many of these bytes are known to be next, and the others after them
@@ -333,6 +333,12 @@ module _ {a c d : State} {near member : List ℕ} {until_end count : ℕ} {s : S
   pub next_still_compared : a.until_end ≡ until_end → IsCompared d o
   next_still_compared end =
       next_compared front none sees whole r d o end (is ∙ ap (λ x. record c { seen = x }) same_member)
+
+-- no member is next after an end that was closed
+pub closed_compared : {A : Type 0} {outer : EnclosingEnd} (a c : State) (o : Next) (r : Result A Asn1DerError)
+    → OnOk r (Closes outer a c) → IfErr r (RefusesClose a c) → IsCompared c o
+closed_compared a c o (Ok v) k h = first_compared c o (ap (λ (s : State). s.seen) k.same)
+closed_compared a c o (Err e) k h = failed_uncompared o h.fails
 
 -- ---- sets whose members are out of order, as they are refused
 

@@ -1,5 +1,5 @@
 -- Ends, as they are opened and closed.
-use Rattle.std.specs.Prelude.{◌≡◌, ℕ, ◌+◌, ◌-◌, ◌<◌, ◌≤◌, List, Option, None, Some}
+use Rattle.std.specs.Prelude.{◌≡◌, ℕ, ◌+◌, ◌-◌, ◌<◌, ◌≤◌, List, [], Option, None, Some}
 use Rattle.picky_der_core.specs.declared.error.Asn1DerError.{Asn1DerError}
 use Rattle.picky_der_core.specs.declared.failure.Failure.{Failure}
 use Rattle.picky_der_core.specs.declared.error.Asn1DerError.TheVariants.{InvalidData}
@@ -27,12 +27,13 @@ innermost s = record { position = s.consumed + s.until_end; kind = s.end; last =
 abbrev pub with_inner_end : State → ℕ → End → State
 with_inner_end s n kind = record s { until_end = n; end = kind; last = None }
 
--- the end around the innermost one was put back
+-- the end around the innermost one was put back, and no member is next
 abbrev pub with_outer_end : EnclosingEnd → State → State
 with_outer_end outer s = record s {
   until_end = outer.position - s.consumed;
   end = outer.kind;
   last = outer.last;
+  seen = [];
 }
 
 -- the end was reached, and the one around it is the innermost again

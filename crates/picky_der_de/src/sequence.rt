@@ -243,13 +243,11 @@ impl<'a, R: ReadExt> Sequence<'a, R> {
     }
 
     /// Closes the sequence. `InvalidData` for bytes that are left over before its end: none of them is consumed.
-    pub fn end(mut self) -> Result<()>
+    pub fn end(self) -> Result<()>
         ensures ok { OnOk result (Closes (outer_of self.entry)
             (state_of self.entry) self.exit.0.now) }
         ensures err { IfErr result (RefusesClose (state_of self.entry) self.exit.0.now) }
     {
-        // No member is next.
-        self.next = Next::Untested;
         let Sequence { de, outer, next: _ } = self;
         de.close_end(outer)
     }

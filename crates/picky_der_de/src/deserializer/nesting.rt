@@ -190,6 +190,7 @@ impl<R: ReadExt> Deserializer<R> {
         if self.until_end > 0 {
             return Err(self.fail(Asn1DerError::InvalidData));
         }
+        let _ = self.take_seen();
         self.until_end = outer.position - self.reader.pos();
         self.end = outer.kind;
         Ok(())
