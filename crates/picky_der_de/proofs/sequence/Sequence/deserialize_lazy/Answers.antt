@@ -10,4 +10,4 @@ pub returns-clause-opened : goal.returns-clause-opened
 returns-clause-opened g c =
     let e = c.open_lazily-outer.ensures in
     subst (λ (z : State). OpensLazily c.args.len c.args.de.now z c.open_lazily-outer.result)
-    (same_last c.open_lazily-outer.new.de e.last) e.opened
+    (same_last c.open_lazily-outer.new.self e.last) e.opened

@@ -1,15 +1,15 @@
 use Rattle.picky_der_de.proofs.SetOrder.{unordered_reads, unordered_refused, last_tested}
 use Rattle.picky_der_de.proofs.sequence.Sequence.read_member.Goals as goal
 
-pub returns-else-is_tested-clause-ok : goal.returns-else-is_tested-clause-ok
-returns-else-is_tested-clause-ok g c =
+pub returns-clause-ok : goal.returns-clause-ok
+returns-clause-ok g c =
     let s = c.args.self.now in
     unordered_reads g.T.Serialize.meaning g.T.Deserialize.shape s.de.now c.deserialize.new.de s.next
     c.deserialize.result (c.is_tested.ensures.no c.if-is_tested.false)
     (c.args.self.now.whole c.requires) c.deserialize.ensures.ok
 
-pub returns-else-is_tested-clause-err : goal.returns-else-is_tested-clause-err
-returns-else-is_tested-clause-err g c =
+pub returns-clause-err : goal.returns-clause-err
+returns-clause-err g c =
     let s = c.args.self.now in
     unordered_refused g.T.Serialize.meaning g.T.Deserialize.shape g.T.Deserialize.facts.rule s.de.now
     c.deserialize.new.de s.next c.deserialize.result (c.args.self.now.whole c.requires)

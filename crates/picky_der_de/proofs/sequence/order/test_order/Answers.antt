@@ -43,4 +43,4 @@ returns-clause-ok g c =
     (c.set_kept.ensures ∙ ap (λ x. record c.args.de.now { kept = x }) c.in-Ok.ensures.ok)
 
 pub returns-clause-compared : goal.returns-clause-compared
-returns-clause-compared g c = uncompared c.set_kept.new.de Kept refl
+returns-clause-compared g c = uncompared c.set_kept.new.self Kept refl
