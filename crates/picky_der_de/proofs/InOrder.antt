@@ -6,8 +6,9 @@ use Rattle.picky_der_core.specs.Shape.{Shape}
 use Rattle.picky_der_core.specs.Tree.{Tree}
 use Rattle.picky_der_de.specs.declared.sequence.order.Next.{Next}
 use Rattle.picky_der_de.specs.State.{State}
-use Rattle.picky_der_de.specs.Steps.{Consumed, Fails, IsJudged, IsMissing, end_is_here, input_ended, failed_with}
-use Rattle.picky_der_de.specs.Refusing.{FailsAs}
+use Rattle.picky_der_de.specs.Steps.{Consumed, Fails, IsJudged, IsMissing, end_is_here, input_ended, failed_with, HasFailedWith}
+use Rattle.picky_der_de.proofs.Steps.{failed_but_last}
+use Rattle.picky_der_de.specs.Refusing.{FailsAs, FailsAlone}
 use Rattle.picky_der_de.specs.Ends.{RefusesClose}
 use Rattle.picky_der_de.specs.RefusesBy.{Rule, RefusesBy}
 use Rattle.picky_der_de.specs.Reading.{Concerns, now, ever, Reads, Refuses}
@@ -113,29 +114,24 @@ module _ {A : Type 0} (a c : State) {b d : State} (r : Result A Asn1DerError) {x
       aside (Ok v) k = tt
       aside (Err e) k = refused_in rule k
 
--- ---- failures
+-- ---- failures, after which the last member isn't said
 
 pub failed_in : (a : State) {c : State} (e : Asn1DerError) (o : Next) → c ≡ failed_with a e
-    → in_order c o ≡ failed_with (in_order a o) e
-failed_in a e o same = ap (λ (z : State). in_order z o) same
+    → HasFailedWith (in_order a o) e c
+failed_in a e o same = failed_but_last a e same
 
 pub fails_as_in : (a : State) {c : State} (kind e : Asn1DerError) (o : Next) → FailsAs kind a e c
-    → FailsAs kind (in_order a o) e (in_order c o)
-fails_as_in a kind e o h = (h.0, failed_in a e o h.1)
+    → FailsAlone kind (in_order a o) e c
+fails_as_in a kind e o h = (h.0, failed_but_last a e h.1)
 
 -- the end was closed
-
-pub refuses_close_in : (a : State) {c : State} (e : Asn1DerError) (o : Next) → RefusesClose a c e
-    → RefusesClose (in_order a o) c e
-refuses_close_in a e o k = record {
-  fails = fails_in k.fails;
-  left = λ w. let q = k.left w in (q.0, q.1, q.2);
-}
-
 pub close_refused_in : {A : Type 0} (a c : State) (o : Next) (r : Result A Asn1DerError) → IfErr r (RefusesClose a c)
     → IfErr r (RefusesClose (in_order a o) c)
 close_refused_in a c o (Ok v) k = tt
-close_refused_in a c o (Err e) k = refuses_close_in a e o k
+close_refused_in a c o (Err e) k = record {
+  fails = fails_in k.fails;
+  left = λ w. let q = k.left w in (q.0, q.1, q.2);
+}
 
 -- ---- the next byte
 
@@ -174,7 +170,7 @@ missing_in o (end_is_here z is) = end_is_here z is
 missing_in o (input_ended some ended is) = input_ended some ended is
 
 peek_refused_in : {a c : State} {e : Asn1DerError} (o : Next) → RefusesPeek identifier_refusal a c e
-    → RefusesPeek identifier_refusal (in_order a o) (in_order c o) e
+    → RefusesPeek identifier_refusal (in_order a o) c e
 peek_refused_in {a} o r = record {
   fails = fails_in r.fails;
   just = λ j bs k. let q = r.just (judged_in j) bs k in
@@ -186,11 +182,11 @@ peek_refused_in {a} o r = record {
         used = q.used;
       };
   memory = r.memory;
-  same = ap (λ (z : State). in_order z o) r.same;
+  same = r.same;
 }
 
 pub identifier_refused_in : {a c : State} {e : Asn1DerError} (o : Next) → RefusesIdentifier a c e
-    → RefusesIdentifier (in_order a o) (in_order c o) e
+    → RefusesIdentifier (in_order a o) c e
 identifier_refused_in o r = record {
   refuses = peek_refused_in o r.refuses;
   missing = λ j. let q = r.missing (judged_in j) in (q.0, missing_in o q.1);

@@ -12,7 +12,7 @@ use Rattle.picky_der_core.specs.Shape.{Shape, IsOf, IsFirst}
 use Rattle.picky_der_core.specs.Reading.{Place, written_at, IsAtFront}
 use Rattle.picky_der_de.specs.declared.end.End.TheVariants.{Soft}
 use Rattle.picky_der_de.specs.State.{State}
-use Rattle.picky_der_de.specs.Steps.{Consumed, Fails, IsJudged, failed_with, place_in, place_of, fetched_count}
+use Rattle.picky_der_de.specs.Steps.{Consumed, Fails, IsJudged, HasFailedWith, place_in, place_of, fetched_count}
 use Rattle.picky_der_de.specs.RefusesBy.{Rule, RefusesBy}
 use Rattle.picky_der_de.proofs.PlainRuled.{same_left}
 use Rattle.picky_der_de.specs.Rules.{field_rule, missing, refused}
@@ -115,13 +115,13 @@ member_ahead {t = t} r = omega (arith, (consumes_member r).until_end, length-der
 
 -- it had failed before
 pub member_again : {V : Type 0} {meaning : V → Tree} {s : Shape} {rule : Rule} {a : State} {e : Asn1DerError}
-    → a.failed ≡ Some (failure_of e) → RefusesMember meaning s rule a a e
-member_again {a = a} {e = e} h =
+    (l : Option (List ℕ)) → a.failed ≡ Some (failure_of e) → RefusesMember meaning s rule (record a { last = l }) a e
+member_again {a = a} {e = e} l h =
     let no : a.failed ≡ None → ⊥ = λ w. let q : None ≡ Some (failure_of e) = sym w ∙ h in cc in
     record {
-      fails = fails_again a h;
+      fails = fails_alike l (fails_again a h);
       refuses = no_value (record {
-        fails = fails_again a h;
+        fails = fails_alike l (fails_again a h);
         none = λ j. absurd (no j.had_not_failed);
         first =
             λ j. absurd (no j.had_not_failed);
@@ -159,7 +159,7 @@ nothing_here meaning v z is (ever n r d y left i q f) st = n is
 
 -- a member was wanted at the end
 pub member_missing : {V : Type 0} {meaning : V → Tree} {s : Shape} (rule : Rule) {a b c : State} {e : Asn1DerError}
-    → HasNoMore a b → a.implicit_tag ≡ None → Fails b c e → e ≡ TruncatedData → c ≡ failed_with b e
+    → HasNoMore a b → a.implicit_tag ≡ None → Fails b c e → e ≡ TruncatedData → HasFailedWith b e c
     → RefusesMember meaning s (field_rule rule) a c e
 member_missing {meaning = meaning} {s = s} rule {a = a} {b = b} {c = c} {e = e} h d f is failed =
     member_unread (record {

@@ -55,7 +55,7 @@ choice_unread {old} {new} {e} s ahead whole = record {
         (ap (λ (x : State). x.consumed) s.same) (ap (λ (x : State). x.peeked) s.same) k
         (λ h. nothing_there old.implicit_tag old whole ∙ ap (λ x. Some (x, [])) h);
     memory = λ n same. missing_not_for_memory (read_missing s ahead same);
-    same = s.same;
+    same = ap (λ (z : State). record z { last = new.last }) s.same;
   };
   hidden = λ j. no_byte whole (read_missing s ahead j.faults);
 }

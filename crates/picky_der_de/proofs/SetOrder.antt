@@ -15,7 +15,7 @@ use Rattle.picky_der_de.specs.Order.{AreInOrder, Follows, known_bytes}
 use Rattle.picky_der_de.specs.declared.sequence.order.Next.{Next}
 use Rattle.picky_der_de.specs.declared.sequence.order.Next.TheVariants.{Untested, InOrder, Kept}
 use Rattle.picky_der_de.specs.SetOrder.{last_by, is_in_order, in_order, IsCompared, SeesNext}
-use Rattle.picky_der_de.specs.LookAhead.{Peeks, Identifies, IdentifiesIn}
+use Rattle.picky_der_de.specs.LookAhead.{Peeks, Identifies, IdentifiesIn, RefusesIdentifier}
 use Rattle.picky_der_de.proofs.Order.{judged_alike}
 use Rattle.picky_der_de.proofs.InOrder.{with_members, fails_in, reads_in, refuses_in, refused_in, failed_in}
 use Rattle.picky_der_core.specs.declared.error.Asn1DerError.{Asn1DerError}
@@ -112,9 +112,9 @@ sees_next {near} {until_end} {count} {size} e f h = record {
 
 -- no value was read, so no member was
 pub member_refused : {V : Type 0} {meaning : V → Tree} {s : Shape} {rule : Rule} {a c : State} {e : Asn1DerError}
-    (o p : Next) → a.implicit_tag ≡ None → Refuses meaning s a c e → RefusesBy rule a c e
-    → RefusesMember meaning s rule (in_order a o) (in_order c p) e
-member_refused {rule = rule} o p whole r by = member_unread (refuses_in r) (refused_in rule by) (λ w. whole)
+    (o : Next) → a.implicit_tag ≡ None → Refuses meaning s a c e → RefusesBy rule a c e
+    → RefusesMember meaning s rule (in_order a o) c e
+member_refused {rule = rule} o whole r by = member_unread (refuses_in r) (refused_in rule by) (λ w. whole)
 
 -- a value was read, and may come next
 pub member_reads : {s : Shape} {a c : State} {t : Tree} (o p : Next) (seen : List ℕ) → a.implicit_tag ≡ None
@@ -145,16 +145,16 @@ member_follows {a = a} {c = c} d o p whole r seen kept follows = record {
 }
 
 pub member_failed : {V : Type 0} {meaning : V → Tree} {s : Shape} {rule : Rule} {a c : State} (d : State)
-    {e : Asn1DerError} (o p : Next) (v : V) → a.implicit_tag ≡ None → Reads s a c (meaning v) → c.seen ≡ a.seen
-    → c.kept ≡ a.kept → RefusesTest (der (meaning v)) (in_order c o) (in_order d p) e
-    → RefusesMember meaning s rule (in_order a o) (in_order d p) e
-member_failed {a = a} {c = c} d o p v whole r seen kept t =
+    {e : Asn1DerError} (o : Next) (v : V) → a.implicit_tag ≡ None → Reads s a c (meaning v) → c.seen ≡ a.seen
+    → c.kept ≡ a.kept → RefusesTest (der (meaning v)) (in_order c o) d e
+    → RefusesMember meaning s rule (in_order a o) d e
+member_failed {a = a} {c = c} d o v whole r seen kept t =
     member_untested v (reads_in (still_last a c o seen kept) r) t (λ w. whole)
 
 -- it is less than the last one
 pub order_failed : {member : List ℕ} {c d : State} {e : Asn1DerError} (o : Next) → Fails c d e → e ≡ InvalidData
     → d ≡ failed_with c e → is_out_of_order (in_order c o).last member ≡ true
-    → RefusesTest member (in_order c o) (in_order d o) e
+    → RefusesTest member (in_order c o) d e
 order_failed {c = c} {e = e} o f is same less = out_of_order (record {
   fails = fails_in f;
   less = less;
@@ -164,7 +164,7 @@ order_failed {c = c} {e = e} o f is same less = out_of_order (record {
 
 -- an allocation failed
 pub memory_failed : {member : List ℕ} {c d : State} {e : Asn1DerError} (o : Next) → (in_order c o).last ≢ None
-    → Fails c d e → e ≡ OutOfMemory → d ≡ failed_with c e → RefusesTest member (in_order c o) (in_order d o) e
+    → Fails c d e → e ≡ OutOfMemory → d ≡ failed_with c e → RefusesTest member (in_order c o) d e
 memory_failed {c = c} {e = e} o some f is same = without_memory some (fails_in f) is (failed_in c e o same)
 
 -- a list whose order isn't tested
@@ -180,9 +180,9 @@ unordered_reads meaning s a c o (Err e) none whole r = tt
 
 pub unordered_refused : {A V : Type 0} (meaning : V → Tree) (s : Shape) (rule : Rule) (a c : State) (o : Next)
     (r : Result A Asn1DerError) → a.implicit_tag ≡ None → IfErr r (Refuses meaning s a c)
-    → IfErr r (RefusesBy rule a c) → IfErr r (RefusesMember meaning s rule (in_order a o) (in_order c o))
+    → IfErr r (RefusesBy rule a c) → IfErr r (RefusesMember meaning s rule (in_order a o) c)
 unordered_refused meaning s rule a c o (Ok v) whole r by = tt
-unordered_refused meaning s rule a c o (Err e) whole r by = member_refused o o whole r by
+unordered_refused meaning s rule a c o (Err e) whole r by = member_refused o whole r by
 
 -- ---- the last member
 
@@ -309,6 +309,11 @@ identified_in (Some awaited) a c tag o h p = subst (λ z. IsCompared z o) (sym p
 pub identified_compared : {a c : State} {tag : ℕ} (o : Next) → IsCompared a o → Identifies a c tag → IsCompared c o
 identified_compared {a} {c} {tag} o h i = identified_in a.implicit_tag a c tag o h i.is
 
+pub identifier_compared : (a c : State) (o : Next) (r : Result ℕ Asn1DerError) → IsCompared a o
+    → IfOk r (Identifies a c) → IfErr r (RefusesIdentifier a c) → IsCompared c o
+identifier_compared a c o (Ok tag) h i f = identified_compared o h i
+identifier_compared a c o (Err e) h i f = failed_uncompared o f.refuses.fails
+
 -- the next member of a set, which was shown whole and in order
 module _ {a c d : State} {near member : List ℕ} {until_end count : ℕ} {s : Shape} {t : Tree} (o : Next)
     (front : IfSome a.input (λ bytes. StartsWith bytes near)) (none : IfNone a.input (near ≡ []))
@@ -335,10 +340,10 @@ module _ {a c d : State} {near member : List ℕ} {until_end count : ℕ} {s : S
       next_compared front none sees whole r d o end (is ∙ ap (λ x. record c { seen = x }) same_member)
 
 -- no member is next after an end that was closed
-pub closed_compared : {A : Type 0} {outer : EnclosingEnd} (a c : State) (o : Next) (r : Result A Asn1DerError)
+pub closed_compared : {A : Type 0} (outer : EnclosingEnd) (a c : State) (o : Next) (r : Result A Asn1DerError)
     → OnOk r (Closes outer a c) → IfErr r (RefusesClose a c) → IsCompared c o
-closed_compared a c o (Ok v) k h = first_compared c o (ap (λ (s : State). s.seen) k.same)
-closed_compared a c o (Err e) k h = failed_uncompared o h.fails
+closed_compared outer a c o (Ok v) k h = first_compared c o (ap (λ (s : State). s.seen) k.same)
+closed_compared outer a c o (Err e) k h = failed_uncompared o h.fails
 
 -- ---- sets whose members are out of order, as they are refused
 

@@ -7,7 +7,7 @@ use Rattle.picky_der_core.specs.Refusal.{Refusal, header_refusal}
 use Rattle.picky_der_de.specs.declared.end.End.{End}
 use Rattle.picky_der_de.specs.declared.end.End.TheVariants.{Soft}
 use Rattle.picky_der_de.specs.State.{State}
-use Rattle.picky_der_de.specs.Steps.{Fails, UsesNoMemory, failed_with, error_at_end, is_hard}
+use Rattle.picky_der_de.specs.Steps.{Fails, UsesNoMemory, failed_with, HasFailedWith, error_at_end, is_hard}
 use Rattle.picky_der_de.specs.Order.{order_of}
 use Rattle.picky_der_de.specs.Reading.{AreNotRefused}
 use Rattle.picky_der_de.specs.Headers.{BeginsContent, RefusesBegin}
@@ -42,11 +42,10 @@ pub record Closes (outer : EnclosingEnd) (old new : State) : Type 0 where
   pub had_not_failed : old.failed ≡ None
   pub same : new ≡ with_outer_end outer old
 
--- bytes are left before the end, and none of them was consumed; of the last member of a set nothing is said then
+-- bytes are left before the end, and none of them was consumed
 pub record RefusesClose (old new : State) (e : Asn1DerError) : Type 0 where
   pub fails : Fails old new e
-  pub left : old.failed ≡ None → (0 < old.until_end) × (e ≡ InvalidData)
-      × (new ≡ record (failed_with old e) { last = new.last })
+  pub left : old.failed ≡ None → (0 < old.until_end) × (e ≡ InvalidData) × HasFailedWith old e new
 
 -- ---- sequences and sets
 

@@ -10,7 +10,7 @@ use Rattle.picky_der_core.specs.Shape.{Shape, Layout, IsFirst, AreMembersOf, Are
 use Rattle.picky_der_de.specs.State.{State}
 use Rattle.picky_der_de.specs.Steps.{Consumed, Fails}
 use Rattle.picky_der_de.specs.Order.{AreInOrder, without_order}
-use Rattle.picky_der_de.specs.Refusing.{FailsAs}
+use Rattle.picky_der_de.specs.Refusing.{FailsAlone}
 use Rattle.picky_der_de.specs.LookAhead.{Peeks, Identifies, RefusesIdentifier}
 use Rattle.picky_der_de.specs.RefusesBy.{Rule}
 use Rattle.picky_der_de.specs.Members.{ReadsMember, RefusesMember, HasNoMore, members_encoding, AreUpToEnd, RefusesRest}
@@ -36,7 +36,7 @@ pub data RefusesDefault {V : Type 0} (meaning : V → Tree) (left_out : V → Bo
     (old new : State) (e : Asn1DerError) : Type 0 where
   as_optional : RefusesOptional meaning s rule old new e → RefusesDefault meaning left_out s rule old new e
   written_out : (mid : State) (v : V) → IsTrue (left_out v) → ReadsMember s old mid (meaning v)
-      → FailsAs InvalidData mid e new → Fails mid new e → RefusesDefault meaning left_out s rule old new e
+      → FailsAlone InvalidData mid e new → Fails mid new e → RefusesDefault meaning left_out s rule old new e
 
 -- ---- one member, always there or not
 

@@ -51,7 +51,12 @@ pub record RefusesPeek (refusal : State → List ℕ → Option Refusal) (old ne
   pub fails : Fails old new e
   pub just : AreJustRefused (refusal old) old new e
   pub memory : UsesNoMemory old new e
-  pub same : new ≡ record old { input = new.input; failed = Some (failure_of e); faults = new.faults }
+  pub same : new ≡ record old {
+    input = new.input;
+    last = new.last;
+    failed = Some (failure_of e);
+    faults = new.faults;
+  }
 
 -- ---- identifiers
 

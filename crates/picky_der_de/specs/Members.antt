@@ -10,7 +10,7 @@ use Rattle.picky_der_core.specs.Readable.{AreReadable}
 use Rattle.picky_der_core.specs.Shape.{Shape, Layout, IsOf, AreMembersOf, EachIs}
 use Rattle.picky_der_de.specs.declared.end.End.TheVariants.{Soft}
 use Rattle.picky_der_de.specs.State.{State}
-use Rattle.picky_der_de.specs.Steps.{Consumed, Fails, IsJudged, failed_with}
+use Rattle.picky_der_de.specs.Steps.{Consumed, Fails, IsJudged, HasFailedWith}
 use Rattle.picky_der_de.specs.Headers.{header_bytes}
 use Rattle.picky_der_de.specs.Order.{AreInOrder, without_order, Follows, RefusesTest}
 use Rattle.picky_der_de.specs.Reading.{Reads, Refuses, Concerns}
@@ -112,7 +112,7 @@ pub record RefusesConsumed (old new : State) (e : Asn1DerError) (bytes : List �
   pub mid : State
   pub consumes : Consumed (without_order old) (without_order mid) bytes
   pub error : e ≡ InvalidData
-  pub same : new ≡ failed_with mid e
+  pub same : HasFailedWith mid e new
 
 -- No values are there as members up to the end, however many there may be. If one breaks the order of the earlier ones,
 -- it was refused for that as soon as it was read.

@@ -5,7 +5,7 @@ use Rattle.picky_der_core.specs.declared.error.Asn1DerError.{Asn1DerError}
 use Rattle.picky_der_core.specs.declared.error.Asn1DerError.TheVariants.{InvalidData, OutOfMemory}
 use Rattle.picky_der_core.specs.Order.{is_less, IsAscending}
 use Rattle.picky_der_de.specs.State.{State}
-use Rattle.picky_der_de.specs.Steps.{Fails, failed_with}
+use Rattle.picky_der_de.specs.Steps.{Fails, HasFailedWith}
 
 -- before the first member of a list with this tag: of a set no bytes, than which nothing is less
 abbrev pub order_of : ℕ → Option (List ℕ)
@@ -46,10 +46,10 @@ pub record RefusesOrder (member : List ℕ) (old new : State) (e : Asn1DerError)
   pub fails : Fails old new e
   pub less : is_out_of_order old.last member ≡ true
   pub error : e ≡ InvalidData
-  pub same : new ≡ failed_with old e
+  pub same : HasFailedWith old e new
 
 -- why it doesn't come next: it is less than the last one, or the allocation for that test failed
 pub data RefusesTest (member : List ℕ) (old new : State) (e : Asn1DerError) : Type 0 where
   out_of_order : RefusesOrder member old new e → RefusesTest member old new e
-  without_memory : old.last ≢ None → Fails old new e → e ≡ OutOfMemory → new ≡ failed_with old e
+  without_memory : old.last ≢ None → Fails old new e → e ≡ OutOfMemory → HasFailedWith old e new
       → RefusesTest member old new e

@@ -13,6 +13,10 @@ module _ {R : Type 0} {g : reader.Ghosts R} {h : read.Ghosts R} where
   abbrev pub state_of : Sequence R g h → State
   state_of sequence = in_order sequence.de.now sequence.next
 
+  -- the state of the deserializer alone, as it is left after an error
+  abbrev pub deserializer_of : Sequence R g h → State
+  deserializer_of sequence = sequence.de.now
+
   -- which deserializer it is
   abbrev pub borrowed_by : Sequence R g h → GName
   borrowed_by sequence = sequence.de.ghost_name

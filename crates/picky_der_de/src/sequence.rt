@@ -40,10 +40,10 @@ pub struct Sequence<'a, R: ReadExt> {
 }
 
 impl<'a, R: ReadExt> Sequence<'a, R> {
-    ghost use Rattle.picky_der_de.specs.SequenceState.{borrowed_by, outer_of, state_of};
+    ghost use Rattle.picky_der_de.specs.SequenceState.{borrowed_by, outer_of, state_of, deserializer_of};
     ghost use Rattle.std.specs.Prelude.{◌≡◌, ◌≢◌, ◌+◌, ◌<◌, ◌≤◌, None, Err, IfNone, IfSome, IfOk, IfErr, OnOk};
-    ghost use Rattle.picky_der_de.specs.Steps.{Fails, IsOther, failed_with};
-    ghost use Rattle.picky_der_de.specs.Refusing.{FailsAs};
+    ghost use Rattle.picky_der_de.specs.Steps.{Fails, IsOther, HasFailedWith};
+    ghost use Rattle.picky_der_de.specs.Refusing.{FailsAlone};
     ghost use Rattle.picky_der_de.specs.Ends.{OpensLazily, Closes, RefusesClose};
     ghost use Rattle.picky_der_de.specs.LookAhead.{Identifies, RefusesIdentifier};
     ghost use Rattle.picky_der_de.specs.Members.{ReadsMember, RefusesMember, HasNoMore, ReadsAll, RefusesAll};
@@ -82,7 +82,7 @@ impl<'a, R: ReadExt> Sequence<'a, R> {
         ensures none { IfOk result (λ next. IfNone next
             (HasNoMore (state_of self.old) (state_of self.new))) }
         ensures err { IfErr result (RefusesMember T.meaning T.shape T.facts.rule (state_of self.old)
-            (state_of self.new)) }
+            (deserializer_of self.new)) }
         ensures ahead { IfErr result (λ e. (state_of self.old).failed ≡ None
             → 0 < (state_of self.old).until_end) }
     {
@@ -100,10 +100,10 @@ impl<'a, R: ReadExt> Sequence<'a, R> {
         ensures ok { IfOk result (λ value. ReadsMember T.shape (state_of self.old)
             (state_of self.new) (T.meaning value)) }
         ensures err { IfErr result (RefusesMember T.meaning T.shape (field_rule T.facts.rule)
-            (state_of self.old) (state_of self.new)) }
+            (state_of self.old) (deserializer_of self.new)) }
         ensures at_end { (state_of self.old).failed ≡ None → (state_of self.old).until_end ≡ 0
             → (result ≡ Err Asn1DerError.TruncatedData)
-            × ((state_of self.new) ≡ failed_with (state_of self.old) Asn1DerError.TruncatedData) }
+            × HasFailedWith (state_of self.old) Asn1DerError.TruncatedData (deserializer_of self.new) }
     {
         if self.de.is_at_end()? {
             return Err(self.de.fail(Asn1DerError::TruncatedData));
@@ -120,7 +120,7 @@ impl<'a, R: ReadExt> Sequence<'a, R> {
         ensures ok { IfOk result (λ value. ReadsMember T.shape (state_of self.old)
             (state_of self.new) (T.meaning value)) }
         ensures err { IfErr result (RefusesMember T.meaning T.shape T.facts.rule (state_of self.old)
-            (state_of self.new)) }
+            (deserializer_of self.new)) }
     {
         if is_tested(self.next) {
             return read_in_set(self.de, &mut self.next);
@@ -138,7 +138,7 @@ impl<'a, R: ReadExt> Sequence<'a, R> {
             (Identifies (state_of self.old) (state_of self.new))) }
         ensures none { IfOk result (λ next. IfNone next
             (HasNoMore (state_of self.old) (state_of self.new))) }
-        ensures err { IfErr result (RefusesIdentifier (state_of self.old) (state_of self.new)) }
+        ensures err { IfErr result (RefusesIdentifier (state_of self.old) (deserializer_of self.new)) }
         ensures ahead { IfErr result (λ e. (state_of self.old).failed ≡ None
             → 0 < (state_of self.old).until_end) }
     {
@@ -164,7 +164,7 @@ impl<'a, R: ReadExt> Sequence<'a, R> {
         ensures none { IfOk result (λ next. IfNone next
             (Lacks T.shape (state_of self.old) (state_of self.new))) }
         ensures err { IfErr result (RefusesOptional T.meaning T.shape (field_rule T.facts.rule)
-            (state_of self.old) (state_of self.new)) }
+            (state_of self.old) (deserializer_of self.new)) }
     {
         match self.next_tag() {
             Ok(Some(tag)) => {
@@ -191,7 +191,7 @@ impl<'a, R: ReadExt> Sequence<'a, R> {
         ensures none { IfOk result (λ value. IfNone (unless_default D.left_out value)
             (Lacks T.shape (state_of self.old) (state_of self.new))) }
         ensures err { IfErr result (RefusesDefault T.meaning D.left_out T.shape (field_rule T.facts.rule)
-            (state_of self.old) (state_of self.new)) }
+            (state_of self.old) (deserializer_of self.new)) }
     {
         match self.next_optional::<T>()? {
             Some(value) => {
@@ -213,9 +213,9 @@ impl<'a, R: ReadExt> Sequence<'a, R> {
         ensures ok { IfOk result (λ values. ReadsAll T.meaning T.shape (state_of self.old)
             (state_of self.new) values.items) }
         ensures err { IfErr result (RefusesAll T.meaning T.shape (state_of self.old)
-            (state_of self.new)) }
+            (deserializer_of self.new)) }
         ensures refused_by { IfErr result (RefusesEachBy T.meaning T.shape T.facts.rule
-            (state_of self.old) (state_of self.new)) }
+            (state_of self.old) (deserializer_of self.new)) }
     {
         let mut values = Vec::new(self.de.alloc());
         while !self.de.is_at_end()? {
@@ -236,8 +236,8 @@ impl<'a, R: ReadExt> Sequence<'a, R> {
         requires lasting { kind ≢ Asn1DerError.TruncatedData }
         ensures same_reference { borrowed_by self.new ≡ borrowed_by self.old }
         ensures outer { outer_of self.new ≡ outer_of self.old }
-        ensures is { FailsAs kind (state_of self.old) result (state_of self.new) }
-        ensures fails { Fails (state_of self.old) (state_of self.new) result }
+        ensures is { FailsAlone kind (state_of self.old) result (deserializer_of self.new) }
+        ensures fails { Fails (state_of self.old) (deserializer_of self.new) result }
     {
         self.de.refuse(kind)
     }

@@ -128,7 +128,7 @@ pub(super) fn read_in_set<T: Deserialize, R: ReadExt>(
     ensures ok { IfOk result (λ value. ReadsMember T.shape (in_order de.old next.old)
         (in_order de.new next.new) (T.meaning value)) }
     ensures err { IfErr result (RefusesMember T.meaning T.shape T.facts.rule
-        (in_order de.old next.old) (in_order de.new next.new)) }
+        (in_order de.old next.old) de.new) }
     ensures compared { IsCompared de.new next.new }
 {
     let Next::InOrder = *next else {
@@ -159,7 +159,7 @@ fn read_unseen<T: Deserialize, R: ReadExt>(de: &mut Deserializer<R>, next: &mut 
     ensures ok { IfOk result (λ value. ReadsMember T.shape (in_order de.old next.old)
         (in_order de.new next.new) (T.meaning value)) }
     ensures err { IfErr result (RefusesMember T.meaning T.shape T.facts.rule
-        (in_order de.old next.old) (in_order de.new next.new)) }
+        (in_order de.old next.old) de.new) }
     ensures compared { IsCompared de.new next.new }
 {
     let value = match read_beside(de) {
@@ -186,7 +186,7 @@ fn test_order<T: Serialize, R: ReadExt>(
     ensures ok { OnOk result (Follows (der (T.meaning value.now))
         (record (in_order de.old next.old) { kept = de.new.kept }) (in_order de.new next.new)) }
     ensures err { IfErr result (RefusesTest (der (T.meaning value.now)) (in_order de.old next.old)
-        (in_order de.new next.new)) }
+        de.new) }
     ensures compared { IsCompared de.new next.new }
 {
     let Ok(member) = to_vec(de.alloc(), value) else {

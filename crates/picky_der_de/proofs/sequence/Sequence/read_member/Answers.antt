@@ -6,13 +6,13 @@ returns-clause-ok g c =
     let s = c.args.self.now in
     unordered_reads g.T.Serialize.meaning g.T.Deserialize.shape s.de.now c.deserialize.new.de s.next
     c.deserialize.result (c.is_tested.ensures.no c.if-is_tested.false)
-    (c.args.self.now.whole c.requires) c.deserialize.ensures.ok
+    (c.args.self.now.whole c.requires.had_not_failed) c.deserialize.ensures.ok
 
 pub returns-clause-err : goal.returns-clause-err
 returns-clause-err g c =
     let s = c.args.self.now in
     unordered_refused g.T.Serialize.meaning g.T.Deserialize.shape g.T.Deserialize.facts.rule s.de.now
-    c.deserialize.new.de s.next c.deserialize.result (c.args.self.now.whole c.requires)
+    c.deserialize.new.de s.next c.deserialize.result (c.args.self.now.whole c.requires.had_not_failed)
     c.deserialize.ensures.err c.deserialize.ensures.refused_by
 
 pub read_in_set-requires-clause-in_set : goal.read_in_set-requires-clause-in_set

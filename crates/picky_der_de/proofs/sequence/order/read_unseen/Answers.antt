@@ -21,13 +21,13 @@ returns-in-Ok-test_order-clause-ok g c =
 
 pub returns-in-Err-test_order-clause-err : goal.returns-in-Err-test_order-clause-err
 returns-in-Err-test_order-clause-err g c =
-    member_failed c.test_order.new.de c.args.next.now _ c.in-Ok.value c.requires.whole c.in-Ok.ensures.ok
+    member_failed c.test_order.new.de c.args.next.now c.in-Ok.value c.requires.whole c.in-Ok.ensures.ok
     c.read_beside.ensures.seen c.read_beside.ensures.kept
     c.in-Err-test_order.ensures.err
 
 pub returns-in-Err-clause-err : goal.returns-in-Err-clause-err
 returns-in-Err-clause-err g c =
-    member_refused c.args.next.now c.args.next.now c.requires.whole c.in-Err.ensures.err c.in-Err.ensures.refused_by
+    member_refused c.args.next.now c.requires.whole c.in-Err.ensures.err c.in-Err.ensures.refused_by
 
 pub returns-in-Err-clause-compared : goal.returns-in-Err-clause-compared
 returns-in-Err-clause-compared g c = failed_uncompared c.args.next.now c.in-Err.ensures.err.fails
