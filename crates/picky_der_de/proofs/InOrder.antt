@@ -6,7 +6,8 @@ use Rattle.picky_der_core.specs.Shape.{Shape}
 use Rattle.picky_der_core.specs.Tree.{Tree}
 use Rattle.picky_der_de.specs.declared.sequence.order.Next.{Next}
 use Rattle.picky_der_de.specs.State.{State}
-use Rattle.picky_der_de.specs.Steps.{Consumed, Fails, IsJudged, IsMissing, end_is_here, input_ended, failed_with, HasFailedWith}
+use Rattle.picky_der_de.specs.Steps.{Consumed, Fails, IsJudged, IsMissing, end_is_here, input_ended}
+use Rattle.picky_der_de.specs.Steps.{failed_with, HasFailedWith}
 use Rattle.picky_der_de.proofs.Steps.{failed_but_last}
 use Rattle.picky_der_de.specs.Refusing.{FailsAs, FailsAlone}
 use Rattle.picky_der_de.specs.Ends.{RefusesClose}
