@@ -1,5 +1,5 @@
 -- Ends, opened and closed.
-use Rattle.std.proofs.Common.{◌≡◌, ◌==◌, ℕ, ◌+◌, ◌<◌, ◌≤◌, ◌^◌, Bool, true, false, if◌then◌else◌, List, [], ◌∷◌, ◌++◌}
+use Rattle.std.proofs.Common.{◌≡◌, ◌==◌, ℕ, ◌+◌, ◌-◌, ◌<◌, ◌≤◌, ◌^◌, Bool, true, false, if◌then◌else◌, List, [], ◌∷◌, ◌++◌}
 use Rattle.std.proofs.Common.{length, take, Option, Some, None, refl, sym, ◌∙◌, ap, subst, arith}
 use Rattle.picky_der_core.specs.declared.error.Asn1DerError.{Asn1DerError}
 use Rattle.picky_der_core.specs.Tag.{number_of, IsTagNumber}
@@ -111,6 +111,15 @@ pub fails_without_inner_end : {b c : State} {e : Asn1DerError} {n : ℕ} {kind :
     → Fails (with_inner_end b n kind) c e → Fails b c e
 fails_without_inner_end l f = fails_beside l f
 
+-- the end around is the innermost one
+abbrev pub around : EnclosingEnd → State → State
+around outer s = record s { until_end = outer.position - s.consumed; end = outer.kind; last = outer.last }
+
+-- and no member was seen before it
+pub consumes_around : {a : State} {x : List ℕ} (outer : EnclosingEnd) (c : State) → Consumed a (around outer c) x
+    → Consumed a (with_outer_end outer c) x
+consumes_around outer c t = consumes_in t.last t
+
 -- what was consumed up to an end that is closed was consumed before the one around it
 pub closes_after : {b c d : State} {n : ℕ} {kind : End} {outer : EnclosingEnd} {bytes : List ℕ} → n ≤ b.until_end
     → outer ≡ innermost b → Consumed (with_inner_end b n kind) c bytes → Closes outer c d
@@ -119,6 +128,6 @@ closes_after {b} {c} {d} {n} {kind} {outer} {bytes} l back t k =
     let size : length bytes ≡ n = omega (arith, t.until_end, k.reached) in
     let position : outer.position ≡ b.consumed + b.until_end = ap (λ (o : EnclosingEnd). o.position) back in
     let consumes : Consumed b (with_outer_end outer c) bytes =
-    consumes_beside (omega (arith, t.consumed, t.until_end, position, l)) (ap (λ (o : EnclosingEnd). o.kind) back)
-    (ap (λ (o : EnclosingEnd). o.last) back) t in
+    consumes_around outer c (consumes_beside (omega (arith, t.consumed, t.until_end, position, l))
+    (ap (λ (o : EnclosingEnd). o.kind) back) (ap (λ (o : EnclosingEnd). o.last) back) t) in
     (subst (λ z. Consumed b z bytes) (sym k.same) consumes, size)

@@ -7,9 +7,9 @@ use Rattle.picky_der_core.specs.Tree.{Tree}
 use Rattle.picky_der_de.specs.declared.sequence.order.Next.{Next}
 use Rattle.picky_der_de.specs.State.{State}
 use Rattle.picky_der_de.specs.Steps.{Consumed, Fails, IsJudged, IsMissing, end_is_here, input_ended}
-use Rattle.picky_der_de.specs.Steps.{failed_with, HasFailedWith}
-use Rattle.picky_der_de.proofs.Steps.{failed_but_last}
-use Rattle.picky_der_de.specs.Refusing.{FailsAs, FailsAlone}
+use Rattle.picky_der_de.specs.Steps.{failed_with}
+use Rattle.picky_der_de.specs.Order.{HasFailedWith, FailsAlone}
+use Rattle.picky_der_de.specs.Refusing.{FailsAs}
 use Rattle.picky_der_de.specs.Ends.{RefusesClose}
 use Rattle.picky_der_de.specs.RefusesBy.{Rule, RefusesBy}
 use Rattle.picky_der_de.specs.Reading.{Concerns, now, ever, Reads, Refuses}
@@ -116,6 +116,9 @@ module _ {A : Type 0} (a c : State) {b d : State} (r : Result A Asn1DerError) {x
       aside (Err e) k = refused_in rule k
 
 -- ---- failures, after which the last member isn't said
+
+failed_but_last : (a : State) {c : State} (e : Asn1DerError) → c ≡ failed_with a e → HasFailedWith a e c
+failed_but_last a {c} e is = ap (λ (z : State). record z { last = c.last }) is
 
 pub failed_in : (a : State) {c : State} (e : Asn1DerError) (o : Next) → c ≡ failed_with a e
     → HasFailedWith (in_order a o) e c

@@ -12,12 +12,12 @@ use Rattle.picky_der_core.specs.Shape.{Shape, IsOf, IsFirst}
 use Rattle.picky_der_core.specs.Reading.{Place, written_at, IsAtFront}
 use Rattle.picky_der_de.specs.declared.end.End.TheVariants.{Soft}
 use Rattle.picky_der_de.specs.State.{State}
-use Rattle.picky_der_de.specs.Steps.{Consumed, Fails, IsJudged, HasFailedWith, place_in, place_of, fetched_count}
+use Rattle.picky_der_de.specs.Steps.{Consumed, Fails, IsJudged, place_in, place_of, fetched_count}
 use Rattle.picky_der_de.specs.RefusesBy.{Rule, RefusesBy}
 use Rattle.picky_der_de.proofs.PlainRuled.{same_left}
 use Rattle.picky_der_de.specs.Rules.{field_rule, missing, refused}
 use Rattle.picky_der_de.specs.Order.{order_of, is_out_of_order, with_last, AreInOrder, without_order}
-use Rattle.picky_der_de.specs.Order.{RefusesTest, out_of_order, without_memory}
+use Rattle.picky_der_de.specs.Order.{HasFailedWith, RefusesTest, out_of_order, without_memory}
 use Rattle.picky_der_de.specs.Reading.{Concerns, now, ever, Reads, Refuses}
 use Rattle.picky_der_de.specs.Ends.{EnclosingEnd, with_inner_end, Closes, OpensList, RefusesList}
 use Rattle.picky_der_de.specs.Members.{ReadsMember, RefusesNext, no_value, after_value, RefusesMember, HasNoMore}

@@ -10,7 +10,7 @@ use Rattle.picky_der_core.specs.Reader.{ReportsFault}
 use Rattle.picky_der_de.specs.declared.end.End.{End}
 use Rattle.picky_der_de.specs.State.{State}
 use Rattle.picky_der_de.specs.Steps.{Consumed, ConsumesSome, Fails, IsWithin, IsUnmoved, HasFetched, IsJudged}
-use Rattle.picky_der_de.specs.Steps.{fetched_count, failed_with, HasFailedWith}
+use Rattle.picky_der_de.specs.Steps.{fetched_count}
 
 pub consumes_then : {a b c : State} {x y : List ℕ} → Consumed a b x → Consumed b c y → Consumed a c (x ++ y)
 consumes_then {a} {b} {c} {x} {y} h k = record {
@@ -51,8 +51,8 @@ beside s n kind last tag = record s { until_end = n; end = kind; last = last; im
 
 -- what was consumed before one end was consumed before another
 pub consumes_beside : {a c : State} {x : List ℕ} {n m : ℕ} {i j : End} {s u : Option (List ℕ)} {d g : Option ℕ}
-    {seen : List ℕ} → a.until_end ≡ length x + m → j ≡ a.end → u ≡ a.last → Consumed (beside a n i s d) c x
-    → Consumed a (record (beside c m j u g) { seen = seen }) x
+    → a.until_end ≡ length x + m → j ≡ a.end → u ≡ a.last → Consumed (beside a n i s d) c x
+    → Consumed a (beside c m j u g) x
 consumes_beside ends kind same t = record {
   input = t.input;
   consumed = t.consumed;
@@ -159,7 +159,3 @@ fails_again a {e} h = record {
   there = λ w. absurd (let q : None ≡ Some (failure_of e) = sym w ∙ h in cc);
   references = refl;
 }
-
--- it has failed, and of the last member nothing is said
-pub failed_but_last : (a : State) {c : State} (e : Asn1DerError) → c ≡ failed_with a e → HasFailedWith a e c
-failed_but_last a {c} e is = ap (λ (z : State). record z { last = c.last }) is

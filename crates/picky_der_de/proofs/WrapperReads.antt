@@ -39,7 +39,7 @@ use Rattle.picky_der_de.proofs.Refusals.{front_consumed, concerns_after, failed_
 use Rattle.picky_der_de.proofs.Refusals.{at_end_of, end_below}
 use Rattle.picky_der_de.proofs.KnownBytes.{front_of, just_consumed, just_unconsumed, kept_known, peeked_kept}
 use Rattle.picky_der_de.proofs.PlainReads.{just_map}
-use Rattle.picky_der_de.proofs.Ends.{judged_with_inner_end, fails_without_inner_end}
+use Rattle.picky_der_de.proofs.Ends.{judged_with_inner_end, fails_without_inner_end, consumes_around}
 use Rattle.picky_der_core.specs.ElementLaws.{same_front}
 use Rattle.picky_der_core.specs.ShapeLaws.{is_plain_shape, plain_by_shape}
 
@@ -356,8 +356,8 @@ opens_wrapper {w} {a} {b} {c} {d} {outer} h consumed is =
     ap (λ (o : EnclosingEnd). o.position) h.outer_end in
     let new : State = record c { implicit_tag = implicit_tag_of w } in
     let after : Consumed h.mid (with_outer_end outer new) (wrapper_front w) =
-    consumes_beside (omega (arith, t.consumed, t.until_end, position, h.fits))
-    (ap (λ (o : EnclosingEnd). o.kind) h.outer_end) (ap (λ (o : EnclosingEnd). o.last) h.outer_end) t in
+    consumes_around outer new (consumes_beside (omega (arith, t.consumed, t.until_end, position, h.fits))
+    (ap (λ (o : EnclosingEnd). o.kind) h.outer_end) (ap (λ (o : EnclosingEnd). o.last) h.outer_end) t) in
     subst (λ z. OpensWrapper w a z outer) (sym is) (record {
       size = h.size;
       number = h.number;

@@ -7,8 +7,8 @@ use Rattle.picky_der_core.specs.Refusal.{Refusal, header_refusal}
 use Rattle.picky_der_de.specs.declared.end.End.{End}
 use Rattle.picky_der_de.specs.declared.end.End.TheVariants.{Soft}
 use Rattle.picky_der_de.specs.State.{State}
-use Rattle.picky_der_de.specs.Steps.{Fails, UsesNoMemory, failed_with, HasFailedWith, error_at_end, is_hard}
-use Rattle.picky_der_de.specs.Order.{order_of}
+use Rattle.picky_der_de.specs.Steps.{Fails, UsesNoMemory, failed_with, error_at_end, is_hard}
+use Rattle.picky_der_de.specs.Order.{order_of, HasFailedWith}
 use Rattle.picky_der_de.specs.Reading.{AreNotRefused}
 use Rattle.picky_der_de.specs.Headers.{BeginsContent, RefusesBegin}
 

@@ -9,8 +9,7 @@ use Rattle.picky_der_core.specs.FirstLaws.{BeginsIn}
 use Rattle.picky_der_core.specs.Shape.{Shape, Layout, IsFirst, AreMembersOf, AreMembersDistinct}
 use Rattle.picky_der_de.specs.State.{State}
 use Rattle.picky_der_de.specs.Steps.{Consumed, Fails}
-use Rattle.picky_der_de.specs.Order.{AreInOrder, without_order}
-use Rattle.picky_der_de.specs.Refusing.{FailsAlone}
+use Rattle.picky_der_de.specs.Order.{AreInOrder, without_order, FailsAlone}
 use Rattle.picky_der_de.specs.LookAhead.{Peeks, Identifies, RefusesIdentifier}
 use Rattle.picky_der_de.specs.RefusesBy.{Rule}
 use Rattle.picky_der_de.specs.Members.{ReadsMember, RefusesMember, HasNoMore, members_encoding, AreUpToEnd, RefusesRest}

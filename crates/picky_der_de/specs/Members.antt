@@ -10,9 +10,9 @@ use Rattle.picky_der_core.specs.Readable.{AreReadable}
 use Rattle.picky_der_core.specs.Shape.{Shape, Layout, IsOf, AreMembersOf, EachIs}
 use Rattle.picky_der_de.specs.declared.end.End.TheVariants.{Soft}
 use Rattle.picky_der_de.specs.State.{State}
-use Rattle.picky_der_de.specs.Steps.{Consumed, Fails, IsJudged, HasFailedWith}
+use Rattle.picky_der_de.specs.Steps.{Consumed, Fails, IsJudged}
 use Rattle.picky_der_de.specs.Headers.{header_bytes}
-use Rattle.picky_der_de.specs.Order.{AreInOrder, without_order, Follows, RefusesTest}
+use Rattle.picky_der_de.specs.Order.{AreInOrder, without_order, HasFailedWith, Follows, RefusesTest}
 use Rattle.picky_der_de.specs.Reading.{Reads, Refuses, Concerns}
 use Rattle.picky_der_de.specs.RefusesBy.{Rule, RefusesBy}
 

@@ -3,9 +3,10 @@ use Rattle.std.specs.Prelude.{◌≡◌, ◌≢◌, ℕ, Bool, true, false, List
 use Rattle.std.specs.Prelude.{Option, None, Some, option_map, ⊤, if◌then◌else◌}
 use Rattle.picky_der_core.specs.declared.error.Asn1DerError.{Asn1DerError}
 use Rattle.picky_der_core.specs.declared.error.Asn1DerError.TheVariants.{InvalidData, OutOfMemory}
+use Rattle.picky_der_core.specs.Failure.{IsAnswer}
 use Rattle.picky_der_core.specs.Order.{is_less, IsAscending}
 use Rattle.picky_der_de.specs.State.{State}
-use Rattle.picky_der_de.specs.Steps.{Fails, HasFailedWith}
+use Rattle.picky_der_de.specs.Steps.{Fails, failed_with}
 
 -- before the first member of a list with this tag: of a set no bytes, than which nothing is less
 abbrev pub order_of : ℕ → Option (List ℕ)
@@ -40,6 +41,14 @@ without_order s = record s { last = None }
 pub record Follows (member : List ℕ) (old new : State) : Type 0 where
   pub in_order : is_out_of_order old.last member ≡ false
   pub same : new ≡ record old { last = with_last old.last member }
+
+-- it has failed with this error, and nothing else changed; of the last member nothing is said then
+abbrev pub HasFailedWith : State → Asn1DerError → State → Type 0
+HasFailedWith old e new = new ≡ record (failed_with old e) { last = new.last }
+
+-- it has failed with this error, or had failed before; of the last member nothing is said then
+abbrev pub FailsAlone : Asn1DerError → State → Asn1DerError → State → Type 0
+FailsAlone kind old e new = IsAnswer old.failed kind e × HasFailedWith old e new
 
 -- it is less than the last one, and the deserializer has failed
 pub record RefusesOrder (member : List ℕ) (old new : State) (e : Asn1DerError) : Type 0 where

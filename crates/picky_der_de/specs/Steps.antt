@@ -141,10 +141,6 @@ pub data IsMissing (s : State) (e : Asn1DerError) : Type 0 where
 abbrev pub failed_with : State → Asn1DerError → State
 failed_with s e = record s { failed = Some (failure_of e) }
 
--- the same; of the last member of a set nothing is said then
-abbrev pub HasFailedWith : State → Asn1DerError → State → Type 0
-HasFailedWith old e new = new ≡ record (failed_with old e) { last = new.last }
-
 -- no byte came, and what was to be read is as it was
 pub record IsCut (old new : State) (n : ℕ) (e : Asn1DerError) : Type 0 where
   pub mid : State

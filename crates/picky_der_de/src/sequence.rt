@@ -42,8 +42,8 @@ pub struct Sequence<'a, R: ReadExt> {
 impl<'a, R: ReadExt> Sequence<'a, R> {
     ghost use Rattle.picky_der_de.specs.SequenceState.{borrowed_by, outer_of, state_of, deserializer_of};
     ghost use Rattle.std.specs.Prelude.{◌≡◌, ◌≢◌, ◌+◌, ◌<◌, ◌≤◌, None, Err, IfNone, IfSome, IfOk, IfErr, OnOk};
-    ghost use Rattle.picky_der_de.specs.Steps.{Fails, IsOther, HasFailedWith};
-    ghost use Rattle.picky_der_de.specs.Refusing.{FailsAlone};
+    ghost use Rattle.picky_der_de.specs.Steps.{Fails, IsOther};
+    ghost use Rattle.picky_der_de.specs.Order.{HasFailedWith, FailsAlone};
     ghost use Rattle.picky_der_de.specs.Ends.{OpensLazily, Closes, RefusesClose};
     ghost use Rattle.picky_der_de.specs.LookAhead.{Identifies, RefusesIdentifier};
     ghost use Rattle.picky_der_de.specs.Members.{ReadsMember, RefusesMember, HasNoMore, ReadsAll, RefusesAll};
