@@ -1,4 +1,4 @@
-use Rattle.std.proofs.Common.{◌≡◌, None, refl, sym, subst}
+use Rattle.std.proofs.Common.{◌≡◌, None, refl, subst}
 use Rattle.picky_der_de.specs.State.{State}
 use Rattle.picky_der_de.specs.Ends.{OpensLazily}
 use Rattle.picky_der_de.proofs.sequence.Sequence.deserialize_lazy.Goals as goal
