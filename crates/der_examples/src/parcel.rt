@@ -14,8 +14,8 @@ pub struct Parcel {
     pub fragile: bool,
     /// What is written on it.
     pub note: Option<String>,
-    /// The members of later versions, in order. The type lists the optional members directly before them as
-    /// alternatives of a choice, and `NoneOf` alone if there is none. The first element may not have the tag of one of
-    /// these alternatives, whether it is primitive or constructed.
+    /// The members of later versions, in order. The parameter has the types of the optional members directly before
+    /// this one, here the note, and then `NoneOf`. The first later member can't have the tag of one of these, be it
+    /// primitive or constructed.
     pub later: LaterMembers<OneOf<String, NoneOf>>,
 }

@@ -21,7 +21,7 @@ impl Serialize for Untouched {
     }
 }
 
-/// Writes 7, then begins a sequence that it leaves open with a member in it, and then writes nothing.
+/// Writes 7, and then begins a sequence that it leaves open with a member in it.
 #[derive(Drop)]
 pub(crate) struct Littering;
 
@@ -33,12 +33,11 @@ impl Serialize for Littering {
     fn serialize<W: WriteExt>(&self, serializer: &mut Serializer<W>) -> Result<usize> {
         let count = serializer.serialize_u8(7)?;
         ser::Sequence::serialize_lazy(serializer, Tag::SEQUENCE).serialize_element(&1u8)?;
-        serializer.serialize_none()?;
         Ok(count)
     }
 }
 
-/// Writes nothing, then begins a sequence that it leaves open with a member in it, and then writes nothing again.
+/// Writes nothing, and then begins a sequence that it leaves open with a member in it.
 #[derive(Drop)]
 pub(crate) struct Discarding;
 
@@ -50,7 +49,6 @@ impl Serialize for Discarding {
     fn serialize<W: WriteExt>(&self, serializer: &mut Serializer<W>) -> Result<usize> {
         let count = serializer.serialize_none()?;
         ser::Sequence::serialize_lazy(serializer, Tag::SEQUENCE).serialize_element(&1u8)?;
-        serializer.serialize_none()?;
         Ok(count)
     }
 }

@@ -35,7 +35,10 @@ impl<A: PartialEq, B: PartialEq> OneOf<A, B> {
 pub type NoneOf = Infallible;
 
 /// The alternatives of a choice, in order: `NoneOf` has none, and `OneOf<A, B>` has `A` and then the alternatives `B`.
-pub trait Alternatives: Sized {
+///
+/// The bound `Drop` is there for the checker: without it an `impl Choice` whose alternatives are all structs and enums
+/// without parameters isn't proved.
+pub trait Alternatives: Drop + Sized {
     // A shape for each alternative.
     ghost shapes: { Shapes };
 

@@ -1,7 +1,9 @@
 -- The encoding of a content under its header, in the wrapper around it.
-use Rattle.std.proofs.Common.{◌≡◌, ℕ, ◌+◌, Bool, true, false, List, [], ◌∷◌, ◌++◌, length, Option, None, Some}
+use Rattle.std.proofs.Common.{◌≡◌, ℕ, ◌+◌, ◌/◌, ◌%◌, Bool, true, false, List, [], ◌∷◌, ◌++◌, length, Option, None, Some}
 use Rattle.std.proofs.Common.{refl, ◌∙◌, ap, append_assoc, length-append, ◌≤◌, ◌<◌, arith, zero-add, ap₂}
-use Rattle.picky_der_core.specs.ElementLaws.{length_octets-short}
+use Rattle.std.proofs.Math.Nat.{div-eq_of_lt, mod-eq_of_lt}
+use Rattle.picky_der_core.specs.BigEndianLaws.{big_endian-step, big_endian-zero}
+use Rattle.picky_der_core.specs.ElementLaws.{length_octets-short, length_octets-long}
 use mir.Val.{bool_byte}
 use Rattle.picky_der_core.specs.Primitive.{Primitive}
 use Rattle.picky_der_core.specs.OpenWrappers.{under}
@@ -9,7 +11,7 @@ use Rattle.picky_der_core.specs.OpenWrapperLaws.{present-under}
 use Rattle.picky_der_core.specs.declared.asn1.wrapper.Wrapper.{Wrapper}
 use Rattle.picky_der_core.specs.declared.asn1.wrapper.Wrapper.TheVariants as wrapper
 use Rattle.picky_der_core.specs.Wrapper.{wrapper_tag, wrapper_front, keeps_header}
-use Rattle.picky_der_core.specs.Element.{length_octets, tlv}
+use Rattle.picky_der_core.specs.Element.{big_endian, length_octets, tlv}
 use Rattle.picky_der_core.specs.Tree.{Tree, is_absent}
 use Rattle.picky_der_core.specs.Encoding.{der, implicit_content, with_header}
 use Rattle.picky_der_core.specs.EncodingLaws.{der-primitive, der-wrapped, der-raw, implicit_content-plain}
@@ -35,9 +37,41 @@ pub length-opened : (tag : ℕ) (c : List ℕ) → length (tlv tag c) ≡ 1 + (l
 unfolding tlv
 length-opened tag c = omega (arith, length-append (length_octets (length c)) c)
 
+-- the bytes of a number below 256, and of one below 65,536
+one_octet : (n : ℕ) → 0 < n → n < 256 → big_endian n ≡ n ∷ []
+one_octet n more less =
+    let high : n / 256 ≡ 0 = div-eq_of_lt less in
+    let low : n % 256 ≡ n = mod-eq_of_lt less in
+    big_endian-step n more ∙ ap₂ (λ q r. big_endian q ++ (r ∷ [])) high low
+    ∙ ap (λ bs. bs ++ (n ∷ [])) big_endian-zero
+
+two_octets : (n : ℕ) → 256 ≤ n → n < 65536 → big_endian n ≡ n / 256 ∷ n % 256 ∷ []
+two_octets n more less =
+    let some : 0 < n / 256 = omega (arith, more) in
+    let few : n / 256 < 256 = omega (arith, less) in
+    big_endian-step n (omega (arith, more)) ∙ ap (λ bs. bs ++ (n % 256 ∷ [])) (one_octet (n / 256) some few)
+
 pub tlv-short : (tag : ℕ) (c : List ℕ) → length c < 0x80 → tlv tag c ≡ tag ∷ length c ∷ c
 unfolding tlv
 tlv-short tag c h = ap (λ l. tag ∷ (l ++ c)) (length_octets-short (length c) h)
+
+-- the same with one byte and with two bytes that follow the first of the length
+pub tlv-one : (tag : ℕ) (c : List ℕ) → 0x80 ≤ length c → length c < 0x100 → tlv tag c ≡ tag ∷ 0x81 ∷ length c ∷ c
+unfolding tlv
+tlv-one tag c more less =
+    let n = length c in
+    let octets : length_octets n ≡ 0x81 ∷ n ∷ [] = length_octets-long n more
+    ∙ ap (λ bs. (0x80 + length bs) ∷ bs) (one_octet n (omega (arith, more)) less) in
+    ap (λ l. tag ∷ (l ++ c)) octets
+
+pub tlv-two : (tag : ℕ) (c : List ℕ) → 0x100 ≤ length c → length c < 0x10000
+    → tlv tag c ≡ tag ∷ 0x82 ∷ length c / 256 ∷ length c % 256 ∷ c
+unfolding tlv
+tlv-two tag c more less =
+    let n = length c in
+    let octets : length_octets n ≡ 0x82 ∷ n / 256 ∷ n % 256 ∷ [] = length_octets-long n (omega (arith, more))
+    ∙ ap (λ bs. (0x80 + length bs) ∷ bs) (two_octets n more less) in
+    ap (λ l. tag ∷ (l ++ c)) octets
 
 -- ---- all of them
 

@@ -86,6 +86,20 @@ fn opening(tag: Tag, has_front: bool, len: usize) -> Opening
     bytes
 }
 
+// Adds a header before a content of `len` bytes.
+#[inline(always)]
+fn push_header(out: &mut Vec<u8>, tag: Tag, has_front: bool, len: usize) -> Result<(), AllocError>
+    requires { len + 1 < 2 ^ 64 }
+    ensures ok { OnOk result ((c : List ℕ) → length c ≡ len
+        → out.new.items ++ c ≡ out.old.items ++ tlv tag (front has_front ++ c)) }
+    ensures grows { vec_len out.old ≤ vec_len out.new }
+{
+    if !has_front && len < 0x80 {
+        return out.extend_from_slice(&[tag.inner(), len as u8]);
+    }
+    out.extend_from_slice(&opening(tag, has_front, len))
+}
+
 // Adds all headers before a content of `len` bytes.
 pub(crate) fn push_headers(
     out: &mut Vec<u8>,
@@ -106,14 +120,15 @@ pub(crate) fn push_headers(
         } else {
             0
         };
-        out.extend_from_slice(&opening(
+        push_header(
+            out,
             wrapper.tag(),
             wrapper.counts_unused_bits(),
             own_len + len,
-        ))?;
+        )?;
     }
     if let Some(tag) = own {
-        out.extend_from_slice(&opening(tag, false, len))?;
+        push_header(out, tag, false, len)?;
     }
     Ok(())
 }
@@ -154,6 +169,19 @@ fn fit_room(out: &mut Vec<u8>, at: usize, start: usize, size: usize) -> Result<(
     Ok(())
 }
 
+// Puts these bytes before the content from `start` on, in place of those from `at` to `start`.
+#[inline(always)]
+fn put_before(out: &mut Vec<u8>, at: usize, start: usize, bytes: &[u8]) -> Result<(), AllocError>
+    requires room { at ≤ start }
+    requires within { start ≤ vec_len out.old }
+    requires size { length bytes.now ≤ 11 }
+    ensures { OnOk result (out.new.items ≡ take at out.old.items ++ (bytes.now ++ drop start out.old.items)) }
+{
+    fit_room(out, at, start, bytes.len())?;
+    out[at..at + bytes.len()].copy_from_slice(bytes);
+    Ok(())
+}
+
 // Puts a header before the content from `start` on, in place of the bytes from `at` to `start`.
 fn put_header(
     out: &mut Vec<u8>,
@@ -168,14 +196,24 @@ fn put_header(
         ++ tlv tag (front has_front ++ drop start out.old.items)) }
 {
     let len = out.len() - start;
-    if !has_front && len < 0x80 && start - at == 2 {
-        out[at..start].copy_from_slice(&[tag.inner(), len as u8]);
-        return Ok(());
+    let identifier = tag.inner();
+    if !has_front {
+        if len < 0x80 {
+            return put_before(out, at, start, &[identifier, len as u8]);
+        }
+        if len < 0x100 {
+            return put_before(out, at, start, &[identifier, 0x81, len as u8]);
+        }
+        if len < 0x10000 {
+            return put_before(
+                out,
+                at,
+                start,
+                &[identifier, 0x82, (len / 0x100) as u8, (len % 0x100) as u8],
+            );
+        }
     }
-    let header = opening(tag, has_front, len);
-    fit_room(out, at, start, header.len())?;
-    out[at..at + header.len()].copy_from_slice(&header);
-    Ok(())
+    put_before(out, at, start, &opening(tag, has_front, len))
 }
 
 // Puts all headers before the content from `start` on, in place of the bytes from `at` to `start`.

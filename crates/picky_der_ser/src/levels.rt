@@ -198,46 +198,23 @@ impl Levels {
         }
     }
 
-    // Opens a level in the open wrapper. It replaces one that was opened and hasn't ended.
+    // Opens a level in another level and in no wrapper, where there is room for a short header. Else nothing is done.
     #[inline(always)]
-    pub(crate) fn open(&mut self, header: Header) -> Mark
+    pub(crate) fn open_short(&mut self, header: Header) -> Option<Mark>
         requires { HasNumber header }
-        ensures { Opens header self.old result self.new }
+        ensures some { IfSome result (λ m. Opens header self.old m self.new) }
+        ensures none { IfNone result (self.new ≡ self.old) }
     {
-        let mut mark = Mark {
-            at: 0,
-            start: 0,
-            first_seam: 0,
-            header,
-            around: None,
-            place: Place::OpenMember,
-            is_ready: false,
-            has_tag: false,
-        };
-        if !self.open_short(&mut mark) {
-            self.open_any(&mut mark);
-        }
-        mark
-    }
-
-    // The same in another level and in no wrapper, where there is room for a short header. Else nothing is done.
-    #[inline(always)]
-    fn open_short(&mut self, mark: &mut Mark) -> bool
-        requires { HasNumber mark.old.header }
-        ensures yes { result ≡ true → Opens mark.old.header self.old mark.new self.new }
-        ensures no { result ≡ false → (self.new ≡ self.old) × (mark.new ≡ mark.old) }
-    {
-        let header = mark.header;
         let own = own_tag(None, header);
         let Some(tag) = own else {
-            return false;
+            return None;
         };
         let Place::Member = self.place else {
-            return false;
+            return None;
         };
         let at = self.bytes.len();
         if self.bytes.capacity() - at < 2 {
-            return false;
+            return None;
         }
         let first_seam = self.seams.len();
         // There is room, so this doesn't fail.
@@ -245,7 +222,7 @@ impl Levels {
         self.place = Place::OpenMember;
         self.kept = at;
         self.kept_seams = first_seam;
-        *mark = Mark {
+        Some(Mark {
             at,
             start: self.bytes.len(),
             first_seam,
@@ -254,18 +231,16 @@ impl Levels {
             place: Place::OpenMember,
             is_ready: has_room && !header.is_set(),
             has_tag: has_room,
-        };
-        true
+        })
     }
 
-    // The same in any place.
+    // Opens a level in the open wrapper, in any place. It replaces one that was opened and hasn't ended.
     #[inline(never)]
-    fn open_any(&mut self, mark: &mut Mark)
-        requires { HasNumber mark.old.header }
-        ensures { Opens mark.old.header self.old mark.new self.new }
+    pub(crate) fn open_any(&mut self, header: Header) -> Mark
+        requires { HasNumber header }
+        ensures { Opens header self.old result self.new }
     {
         self.give_up();
-        let header = mark.header;
         let around = self.around();
         let at = self.bytes.len();
         let first_seam = self.seams.len();
@@ -283,7 +258,7 @@ impl Levels {
         self.place = place;
         self.kept = at;
         self.kept_seams = first_seam;
-        *mark = Mark {
+        Mark {
             at,
             start: self.bytes.len(),
             first_seam,
@@ -292,7 +267,7 @@ impl Levels {
             place,
             is_ready: has_room && !header.is_set(),
             has_tag: false,
-        };
+        }
     }
 
     // From here on a member of the level that was opened last is written. Returns the level's mark.

@@ -1,5 +1,5 @@
 //! Sequences and sets that are being written (X.690, 8.9 to 8.12).
-ghost use Rattle.std.specs.Prelude.{◌≡◌, IfErr, OnOk};
+ghost use Rattle.std.specs.Prelude.{◌≡◌, [], IfErr, OnOk};
 ghost use Rattle.picky_der_ser.specs.Calls.{OpensLevel, AddsMember, RefusesToAdd, EndsLevel};
 ghost use Rattle.picky_der_ser.specs.Sequences.{IsListTag, HasOpenLevel};
 ghost use Rattle.picky_der_ser.specs.MarkProps.{HasOpenLevel-prop};
@@ -24,7 +24,7 @@ pub struct Sequence<'a, W: WriteExt> {
 }
 
 impl<'a, W: WriteExt> Sequence<'a, W> {
-    ghost use Rattle.picky_der_ser.specs.SequenceState.{borrowed_by, state_of};
+    ghost use Rattle.picky_der_ser.specs.SequenceState.{borrowed_by, open_around, state_of};
 
     /// Begins a sequence or set, in the open wrappers, which become its own. The tag is `SEQUENCE` or `SET`. Nothing is
     /// allocated before the first member.
@@ -33,8 +33,17 @@ impl<'a, W: WriteExt> Sequence<'a, W> {
         requires { IsListTag tag }
         ensures same_reference { borrowed_by result ≡ ser.entry.ghost_name }
         ensures opened { OpensLevel W.WriteExt.own (Header.Tagged tag) ser.old (state_of result) }
+        ensures bare { open_around result ≡ [] }
     {
-        let mark = ser.open(Header::Tagged(tag));
+        // Each way makes the mark in its final place.
+        if let Some(mark) = ser.open_short(Header::Tagged(tag)) {
+            return Sequence {
+                ser,
+                mark,
+                header: PhantomData,
+            };
+        }
+        let mark = ser.open_any(Header::Tagged(tag));
         Sequence {
             ser,
             mark,
@@ -51,6 +60,7 @@ impl<'a, W: WriteExt> Sequence<'a, W> {
         ensures same_reference { borrowed_by self.new ≡ borrowed_by self.old }
         ensures added { OnOk result (AddsMember W.WriteExt.own (T.meaning value.now)
             (state_of self.old) (state_of self.new)) }
+        ensures bare { OnOk result (open_around self.new ≡ []) }
         ensures err { IfErr result (λ e. RefusesToAdd W.WriteExt.own (T.meaning value.now)
             (state_of self.old) e (state_of self.new)) }
     {
@@ -62,6 +72,7 @@ impl<'a, W: WriteExt> Sequence<'a, W> {
         ensures same_reference { borrowed_by self.new ≡ borrowed_by self.old }
         ensures added { OnOk result (AddsMember W.WriteExt.own (T.meaning value.now)
             (state_of self.old) (state_of self.new)) }
+        ensures bare { OnOk result (open_around self.new ≡ []) }
         ensures err { IfErr result (λ e. RefusesToAdd W.WriteExt.own (T.meaning value.now)
             (state_of self.old) e (state_of self.new)) }
     {

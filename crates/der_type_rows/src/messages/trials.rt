@@ -1,7 +1,7 @@
 //! Messages that are read and written back, cut short, and changed at one place.
 
 use picky_der_core::Asn1DerError;
-use picky_der_de::{Deserialize, from_der};
+use picky_der_de::{DecodeError, Deserialize, from_der};
 use picky_der_ser::{Serialize, to_vec};
 use std::alloc::{AllocError, Global};
 
@@ -31,10 +31,16 @@ pub(crate) fn result_as<T: Deserialize + Clone>(
     }
 }
 
+// What `from_der` returns. It is compiled once for each type, and not again at each call.
+#[inline(never)]
+fn decoded<T: Deserialize>(alloc: Global, bytes: &[u8]) -> Result<T, DecodeError> {
+    from_der(alloc, bytes)
+}
+
 // Reads a value and checks that it is written as the same bytes, and a copy, too. For a refusal it says how many bytes
 // were consumed.
 fn read<T: Deserialize + Clone>(alloc: Global, bytes: &[u8]) -> Result<String, AllocError> {
-    match from_der::<T>(alloc, bytes) {
+    match decoded::<T>(alloc, bytes) {
         Ok(value) if is_written_as(alloc, &value, bytes) => {
             let copy = value.clone()?;
             if copy == value && is_written_as(alloc, &copy, bytes) {
@@ -48,7 +54,8 @@ fn read<T: Deserialize + Clone>(alloc: Global, bytes: &[u8]) -> Result<String, A
     }
 }
 
-// Whether a value is written as these bytes.
+// Whether a value is written as these bytes. It is compiled once for each type, too.
+#[inline(never)]
 fn is_written_as<T: Serialize>(alloc: Global, value: &T, bytes: &[u8]) -> bool {
     match to_vec(alloc, value) {
         Ok(written) => written.as_slice() == bytes,
@@ -89,7 +96,7 @@ fn tried<T: Deserialize + Clone>(alloc: Global, bytes: &[u8]) -> Result<String, 
 // Each prefix is refused as cut short.
 fn try_fronts<T: Deserialize>(alloc: Global, bytes: &[u8]) -> Result<(), Wrong> {
     for len in 0..bytes.len() {
-        match from_der::<T>(alloc, &bytes[..len]) {
+        match decoded::<T>(alloc, &bytes[..len]) {
             Err(refusal) if refusal.error == Asn1DerError::TruncatedData => {}
             _ => return Err(Wrong::Front(len)),
         }
@@ -126,7 +133,7 @@ fn try_bits<T: Deserialize>(
         if let Some(changing) = changed.get_mut(place) {
             *changing = byte;
         }
-        if let Ok(value) = from_der::<T>(alloc, &changed) {
+        if let Ok(value) = decoded::<T>(alloc, &changed) {
             if !is_written_as(alloc, &value, &changed) {
                 return Err(Wrong::Change(place, byte));
             }

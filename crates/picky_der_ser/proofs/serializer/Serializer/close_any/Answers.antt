@@ -1,6 +1,6 @@
 use Rattle.std.proofs.Common.{◌≡◌, ◌<◌, ◌^◌, length, drop, None, ap, subst, sym, ◌∙◌, arith, rules}
 use Rattle.std.specs.Prelude.{IfSome}
-use Rattle.picky_der_ser.specs.State.{State, Stack}
+use Rattle.picky_der_ser.specs.State.{Stack}
 use Rattle.picky_der_ser.specs.Marks.{IsOpen, IsMark}
 use Rattle.picky_der_ser.proofs.LevelWrites.{open_if, open_held, enclosed_rest, ended_outside}
 use Rattle.picky_der_ser.proofs.LevelMarks.{state_with}

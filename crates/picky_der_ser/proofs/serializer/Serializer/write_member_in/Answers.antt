@@ -1,6 +1,6 @@
 use Rattle.std.proofs.Common.{◌≡◌, None, refl, ap, ◌∙◌, subst, rules}
 use Rattle.picky_der_ser.specs.Headers.{wrappers}
-use Rattle.picky_der_ser.specs.State.{State, Stack}
+use Rattle.picky_der_ser.specs.State.{Stack}
 use Rattle.picky_der_ser.specs.Calls.{Writes}
 use Rattle.picky_der_ser.proofs.LevelMarks.{state_with, bare_state, member_added, member_open, member_bare}
 use Rattle.picky_der_ser.proofs.LevelWrites.{open_unless}
