@@ -25,7 +25,7 @@ pub struct TaggedSlice<'a, const TAG: u8>(pub &'a [u8]);
 pub struct RawSlice<'a>(pub &'a [u8]);
 
 /// A container whose values borrow, as `Lent<Vec<Bytes<'a>>>`. A `Vec` alone is read if its values own.
-#[derive(PartialEq, Drop)]
+#[derive(Drop, PartialEq)]
 pub struct Lent<C>(pub C);
 
 impl<'a> DeserializeFrom<&'a [u8]> for Bytes<'a> {
