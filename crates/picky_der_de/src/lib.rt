@@ -47,7 +47,7 @@ pub use integer::UnsignedInteger;
 pub use lent::{Lent, RawSlice, TaggedSlice};
 pub use members::{DeserializeMember, DeserializeMembers, Struct, deserialize_struct_as};
 pub use members_from::{
-    DeserializeMemberFrom, DeserializeMembersFrom, StructFrom, deserialize_struct_from,
+    DeserializeMemberFrom, DeserializeMembersFrom, LentMember, StructFrom, deserialize_struct_from,
 };
 pub use null::Null;
 pub use picky_der_core::{Int, UInt};

@@ -1,12 +1,12 @@
 //! The members of a SEQUENCE, as they are read from readers of one kind.
 ghost use Rattle.std.specs.Prelude.{◌≡◌, Bool, false, Option, Some, IfOk, IfErr, IfSome, IfNone, true, None};
 ghost use Rattle.picky_der_core.specs.Shape.{Shape, Layout};
-ghost use Rattle.picky_der_core.specs.Tree.{ListKind, Tree};
+ghost use Rattle.picky_der_core.specs.Tree.{ListKind, Tree, Trees};
 ghost use Rattle.picky_der_de.specs.Members.{ReadsMember};
 ghost use Rattle.picky_der_de.specs.Layouts.{Presence, always, Lacks, RefusesLayoutMember, ReadsLayout};
 ghost use Rattle.picky_der_de.specs.Layouts.{RefusesLayout, layout_with};
 ghost use Rattle.picky_der_de.specs.LayoutLaws.{IsLeftOut, none_left_out};
-ghost use Rattle.picky_der_de.specs.MembersFacts.{MemberFacts, ProvedMember, always_facts, member_facts, members_facts};
+ghost use Rattle.picky_der_de.specs.MembersFacts.{MemberFacts, ProvedMember, element_facts, member_facts, members_facts};
 ghost use Rattle.picky_der_de.specs.MembersFacts.{MembersFacts, ProvedMembers};
 ghost use Rattle.picky_der_de.specs.MembersFacts.{none_facts, sequence_of, sequence_shape};
 ghost use Rattle.picky_der_de.specs.Reading.{Reads, Refuses};
@@ -14,11 +14,11 @@ ghost use Rattle.picky_der_de.specs.RefusesBy.{RefusesBy};
 ghost use Rattle.picky_der_de.specs.Rules.{field_rule, fields_rule, LeadsTo, RefusesBefore};
 ghost use Rattle.picky_der_de.specs.FirstTests.{are_members_distinct};
 
-use crate::{DeserializeFrom, Deserializer, Sequence};
+use crate::{DeserializeFrom, DeserializeMember, Deserializer, Sequence};
 use picky_der_core::Result;
 use picky_der_core::asn1::Tag;
-use picky_der_core::misc::ReadExt;
-use picky_der_ser::{SerializeMember, SerializeMembers};
+use picky_der_core::misc::{ReadExt, WriteExt};
+use picky_der_ser::{Serialize, SerializeMember, SerializeMembers};
 
 /// A member of a struct that can be read from readers of this kind, as `DeserializeMember` is from each.
 pub trait DeserializeMemberFrom<R: ReadExt>: SerializeMember + PartialEq + Drop + Sized {
@@ -67,7 +67,45 @@ pub trait DeserializeMemberFrom<R: ReadExt>: SerializeMember + PartialEq + Drop 
     ghost proved: { ProvedMember facts Self.prepend };
 }
 
-impl<R: ReadExt, T: DeserializeFrom<R>> DeserializeMemberFrom<R> for T {
+impl<R: ReadExt, M: DeserializeMember> DeserializeMemberFrom<R> for M {
+    type Item = M::Item;
+
+    ghost shape = { M.shape };
+
+    ghost item_meaning = { M.item_meaning };
+
+    ghost item_eq = { M.item_eq };
+
+    ghost presence = { M.presence };
+
+    ghost item = { M.item };
+
+    ghost left_out = { M.left_out };
+
+    ghost facts = { M.facts };
+
+    fn deserialize_member_from(sequence: &mut Sequence<'_, R>) -> Result<M> {
+        M::deserialize_member(sequence)
+    }
+
+    ghost distinguished = { M.distinguished };
+
+    ghost proved = { M.proved };
+}
+
+/// A member that is always there, of a type that may borrow.
+#[derive(Drop, PartialEq)]
+pub struct LentMember<T>(pub T);
+
+impl<T: Serialize> SerializeMember for LentMember<T> {
+    ghost prepend = { λ member. Trees.more (T.meaning member.0) };
+
+    fn serialize_member<W: WriteExt>(&self, sequence: &mut picky_der_ser::Sequence<'_, W>) -> Result<()> {
+        sequence.serialize_element(&self.0)
+    }
+}
+
+impl<R: ReadExt, T: DeserializeFrom<R>> DeserializeMemberFrom<R> for LentMember<T> {
     type Item = T;
 
     ghost shape = { T.shape };
@@ -78,17 +116,18 @@ impl<R: ReadExt, T: DeserializeFrom<R>> DeserializeMemberFrom<R> for T {
 
     ghost presence = { always };
 
-    ghost item = { λ value. Some value };
+    ghost item = { λ member. Some member.0 };
 
     ghost left_out = { λ _. false };
 
-    ghost facts = { always_facts T.facts T.meaning T.eq };
+    ghost facts = { element_facts T.facts T.meaning T.eq (λ member. member.0) };
 
-    fn deserialize_member_from(sequence: &mut Sequence<'_, R>) -> Result<T> {
-        sequence.next_field::<T>()
+    fn deserialize_member_from(sequence: &mut Sequence<'_, R>) -> Result<LentMember<T>> {
+        let value = sequence.next_field::<T>()?;
+        Ok(LentMember(value))
     }
 
-    ghost distinguished = { none_left_out (λ value. Some value) };
+    ghost distinguished = { none_left_out (λ member. Some member.0) };
 
     ghost proved = { Prim.assumption };
 }
