@@ -100,7 +100,10 @@ pub struct LentMember<T>(pub T);
 impl<T: Serialize> SerializeMember for LentMember<T> {
     ghost prepend = { λ member. Trees.more (T.meaning member.0) };
 
-    fn serialize_member<W: WriteExt>(&self, sequence: &mut picky_der_ser::Sequence<'_, W>) -> Result<()> {
+    fn serialize_member<W: WriteExt>(
+        &self,
+        sequence: &mut picky_der_ser::Sequence<'_, W>,
+    ) -> Result<()> {
         sequence.serialize_element(&self.0)
     }
 }
@@ -173,7 +176,9 @@ impl<R: ReadExt> DeserializeMembersFrom<R> for () {
     ghost proved = { Prim.assumption };
 }
 
-impl<R: ReadExt, A: DeserializeMemberFrom<R>, Z: DeserializeMembersFrom<R>> DeserializeMembersFrom<R> for (A, Z) {
+impl<R: ReadExt, A: DeserializeMemberFrom<R>, Z: DeserializeMembersFrom<R>> DeserializeMembersFrom<
+    R,
+> for (A, Z) {
     ghost layout = { layout_with A.presence A.shape Z.layout };
 
     ghost facts = { member_facts (λ it. it.0) A.facts A.left_out A.prepend (members_facts (λ it. it.1) Z.facts Z.members) };
