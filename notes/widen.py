@@ -13,7 +13,6 @@ PROOFS = [
     "deserializer/Deserializer/next_member", "deserializer/Deserializer/read_seen",
     "deserializer/Deserializer/read_unseen", "deserializer/Deserializer/read_list",
     "sequence/Sequence/next_element", "sequence/Sequence/next_field", "sequence/Sequence/remaining",
-    "entry/from_bytes", "whole_input/from_der",
 ]
 
 
@@ -35,23 +34,6 @@ def widened(text, names):
         .replace("use crate::{Begins, Deserialize, Deserializer};", "use crate::{Begins, DeserializeFrom, Deserializer};")
 
 
-def entry(text, name):
-    """A function that reads from a slice."""
-    head = f"pub fn {name}<T: Deserialize>(alloc: Global, bytes: &[u8])"
-    assert head in text, name
-    start = text.index(head)
-    end = text.index("\n}\n", start)
-    body = text[start:end].replace(head, f"pub fn {name}<'a, T: DeserializeFrom<&'a [u8]>>(alloc: Global, bytes: &'a [u8])")
-    return (text[:start] + body.replace("T::deserialize(", "T::deserialize_from(") + text[end:]) \
-        .replace("use crate::{Deserialize, Deserializer};", IMPORTS[name])
-
-
-IMPORTS = {
-    "from_bytes": "use crate::{Deserialize, DeserializeFrom, Deserializer};",
-    "from_der": "use crate::{DeserializeFrom, Deserializer};",
-}
-write(CRATE / "src/entry.rt", lambda text: entry(text, "from_bytes"))
-write(CRATE / "src/whole_input.rt", lambda text: entry(text, "from_der"))
 for path, names in FUNCTIONS.items():
     write(CRATE / path, lambda text: widened(text, names))
 for folder in PROOFS:
