@@ -61,7 +61,8 @@ abbrev pub CompletesEach : List Node → ℕ → List ℕ → List ℕ → List 
 CompletesEach nodes i bytes rest made =
     (others : List ℕ) → AreEach nodes i rest others → AreEach nodes i bytes (made ++ others)
 
-pub each-none : (nodes : List Node) (i : ℕ) (bytes old : List ℕ) → IsAppended (CompletesEach nodes i bytes bytes) old old
+pub each-none : (nodes : List Node) (i : ℕ) (bytes old : List ℕ)
+    → IsAppended (CompletesEach nodes i bytes bytes) old old
 each-none nodes i bytes old = appended-none (CompletesEach nodes i bytes bytes) old (λ others are. are)
 
 -- one more of several elements
@@ -122,7 +123,7 @@ member-more nodes all ms m bytes rest after old mid new made (IsMemberPushed.abs
     record {
       in_der = made.in_der;
       is = λ others are. made.is others (AreMembers.absent m ms rest others free none
-      (subst (λ l. AreMembers nodes ms l others) same are));
+          (subst (λ l. AreMembers nodes ms l others) same are));
       appended = nothing ∙ made.appended;
     }
 

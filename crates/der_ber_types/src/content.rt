@@ -178,9 +178,9 @@ fn push_content(
     ensures none { IfErr result (IsRefusal (HasNoContent nodes.now inside content.now)) }
 {
     match inside {
-        Inside::Same | Inside::Number | Inside::Octets | Inside::Bits => Ok(
-            der.extend_from_slice(content)?,
-        ),
+        Inside::Same | Inside::Number | Inside::Octets | Inside::Bits => Ok(der.extend_from_slice(
+            content,
+        )?),
         Inside::Boolean => push_truth(content, der),
         Inside::Parts => push_joined(content, der),
         Inside::BitParts => {

@@ -43,12 +43,7 @@ fn fit_room(bytes: &mut Vec<u8>, at: usize, start: usize, size: usize) -> Result
 }
 
 // Puts these bytes before the content from `start` on, in place of those from `at` to `start`.
-fn put_before(
-    bytes: &mut Vec<u8>,
-    at: usize,
-    start: usize,
-    length: &[u8],
-) -> Result<(), AllocError>
+fn put_before(bytes: &mut Vec<u8>, at: usize, start: usize, length: &[u8]) -> Result<(), AllocError>
     requires room { at ≤ start }
     requires within { start ≤ vec_len bytes.old }
     requires size { length length.now ≤ 9 }

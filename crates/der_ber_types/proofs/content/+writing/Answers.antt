@@ -51,7 +51,8 @@ push_content-returns-in-Boolean-clause-none t c =
 pub push_content-returns-in-Members-clause-ok : goal.push_content-returns-in-Members-clause-ok
 push_content-returns-in-Members-clause-ok t c =
     content-of c.args.nodes.now c.args.inside _ c.args.content.now c.args.der.now.items c.push_members.new.der.items
-    c.push_members.result _ c.in-Members.is (IsContent.members c.in-Members.members c.args.content.now) c.push_members.ensures.ok
+    c.push_members.result _ c.in-Members.is (IsContent.members c.in-Members.members c.args.content.now)
+    c.push_members.ensures.ok
 
 pub push_content-returns-in-Members-clause-none : goal.push_content-returns-in-Members-clause-none
 push_content-returns-in-Members-clause-none t c =
@@ -118,7 +119,8 @@ push_content-put_in_order-requires-in-Set t c = ?
 
 pub push_content-returns-in_ok-push_each-in-Set-clause-ok : goal.push_content-returns-in_ok-push_each-in-Set-clause-ok
 push_content-returns-in_ok-push_each-in-Set-clause-ok t c =
-    let size : c.len-place.result ≡ length c.args.der.now.items = omega (arith, c.len-place.ensures, c.args.der.now.ok.0) in
+    let size : c.len-place.result ≡ length c.args.der.now.items =
+    omega (arith, c.len-place.ensures, c.args.der.now.ok.0) in
     content-sorted c.args.nodes.now c.args.inside c.in-Set.index c.args.content.now c.args.der.now.items
     c.push_each-in-Set.new.der.items c.put_in_order.new.der.items c.len-place.result c.put_in_order.result c.in-Set.is
     size c.in_ok-push_each-in-Set.ensures.ok c.put_in_order.ensures.ok
@@ -281,7 +283,8 @@ push_element-end_element-requires t c =
 pub push_element-returns : goal.push_element-returns
 push_element-returns t c =
     let element = c.in-Some.element in
-    let size : c.len-place.result ≡ length c.args.der.now.items = omega (arith, c.len-place.ensures, c.args.der.now.ok.0) in
+    let size : c.len-place.result ≡ length c.args.der.now.items =
+    omega (arith, c.len-place.ensures, c.args.der.now.ok.0) in
     record {
       ok = pushed c.args.nodes.now c.args.index element.tag c.in-Some-inside_of.inside element.content.now
           c.args.bytes.now element.after.now c.args.der.now.items c.push_header.new.bytes.items
