@@ -43,15 +43,15 @@ fn fit_room(bytes: &mut Vec<u8>, at: usize, start: usize, size: usize) -> Result
 }
 
 // Puts these bytes before the content from `start` on, in place of those from `at` to `start`.
-fn put_before(bytes: &mut Vec<u8>, at: usize, start: usize, length: &[u8]) -> Result<(), AllocError>
+fn put_before(bytes: &mut Vec<u8>, at: usize, start: usize, octets: &[u8]) -> Result<(), AllocError>
     requires room { at ≤ start }
     requires within { start ≤ vec_len bytes.old }
-    requires size { length length.now ≤ 9 }
+    requires size { length octets.now ≤ 9 }
     ensures { OnOk result (bytes.new.items
-        ≡ take at bytes.old.items ++ (length.now ++ drop start bytes.old.items)) }
+        ≡ take at bytes.old.items ++ (octets.now ++ drop start bytes.old.items)) }
 {
-    fit_room(bytes, at, start, length.len())?;
-    bytes[at..at + length.len()].copy_from_slice(length);
+    fit_room(bytes, at, start, octets.len())?;
+    bytes[at..at + octets.len()].copy_from_slice(octets);
     Ok(())
 }
 
