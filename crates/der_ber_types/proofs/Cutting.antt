@@ -82,19 +82,19 @@ one_in_order bytes element = record {
 }
 
 -- the one from a place on stays
-pub one_stays : (bytes elements : List ℕ) (place : ℕ) → elements ≡ drop place bytes → IsElement elements
+pub one_from : (bytes elements : List ℕ) (place : ℕ) → elements ≡ drop place bytes → IsElement elements
     → IsAppended (AreInOrder (drop place bytes)) (take place bytes) bytes
-one_stays bytes elements place is element = record {
+one_from bytes elements place is element = record {
   in_der = drop place bytes;
   is = one_in_order (drop place bytes) (subst IsElement is element);
   appended = sym (take-append-drop place bytes);
 }
 
 -- those from a place on were put in order
-pub put_in_order : (bytes elements cut ordered new : List ℕ) (place : ℕ) → elements ≡ drop place bytes
+pub ordered_from : (bytes elements cut ordered new : List ℕ) (place : ℕ) → elements ≡ drop place bytes
     → AreInOrder elements ordered → cut ≡ take place bytes → new ≡ cut ++ ordered
     → IsAppended (AreInOrder (drop place bytes)) (take place bytes) new
-put_in_order bytes elements cut ordered new place is order front appended = record {
+ordered_from bytes elements cut ordered new place is order front appended = record {
   in_der = ordered;
   is = subst (λ s. AreInOrder s ordered) is order;
   appended = appended ∙ ap (λ s. s ++ ordered) front;
