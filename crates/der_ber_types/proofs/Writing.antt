@@ -54,6 +54,11 @@ pub appended-only : (P : List ℕ → Type 0) (old new : List ℕ) → old ≡ [
 appended-only P old new empty a =
     subst P (sym (a.appended ∙ ap (λ s. s ++ a.in_der) empty)) a.is
 
+-- it is what is past the old ones
+pub appended-is : (P : List ℕ → Type 0) (old new : List ℕ) (place : ℕ) → (a : IsAppended P old new)
+    → place ≡ length old → drop place new ≡ a.in_der
+appended-is P old new place a size = rw (size, a.appended) (drop-append_seam old a.in_der)
+
 -- ---- any number of elements
 
 -- with what is made of the rest, this is the DER of all
@@ -234,7 +239,7 @@ pub content-sorted : {A : Type 0} (nodes : List Node) (x : Inside) (i : ℕ) (by
     → OnOk r (IsAppended (AreInOrder (drop place mid)) (take place mid) new)
     → OnOk r (IsAppended (IsContent nodes x bytes) old new)
 content-sorted nodes x i bytes old mid new place (Ok v) e size made a =
-    let elements : drop place mid ≡ made.in_der = rw (size, made.appended) (drop-append_seam old made.in_der) in
+    let elements = appended-is (AreEach nodes i bytes) old mid place made size in
     let front : take place mid ≡ old = rw (size, made.appended) (take-append_seam old made.in_der) in
     let ordered : AreInOrder made.in_der a.in_der = subst (λ s. AreInOrder s a.in_der) elements a.is in
     record {

@@ -1,9 +1,11 @@
-use Rattle.std.proofs.Common.{◌≡◌, sym, ap, ◌∙◌, subst, refl, arith, length, length-append, drop}
+use Rattle.std.proofs.Common.{◌≡◌, ◌++◌, sym, ap, ◌∙◌, subst, refl, arith, length, length-append, drop}
 use Rattle.std.proofs.Common.{slice_range}
-use Rattle.der_ber_types.specs.Content.{IsContent, AreMembers}
+use Rattle.der_ber_types.specs.Content.{IsContent, AreEach, AreMembers}
+use Rattle.der_ber_types.specs.Contents.{AreJoinedBits}
 use Rattle.der_ber_types.proofs.Writing.{pushed-shorter, each-none, each-more, each-end}
 use Rattle.der_ber_types.proofs.Writing.{member-fewer, members-none, member-next, members-end}
-use Rattle.der_ber_types.proofs.Writing.{nothing_left, something_left, content-copied, content-of, content-sorted}
+use Rattle.der_ber_types.proofs.Writing.{nothing_left, something_left, appended-is, content-copied, content-of}
+use Rattle.der_ber_types.proofs.Writing.{content-appended, content-sorted}
 use Rattle.der_ber_types.proofs.Writing.{pushed, pushed-only, not_ahead-tag}
 use Rattle.der_ber_types.proofs.Writing.{member-kept, member-cut, member-same, range-end}
 use Rattle.std.proofs.lemmas.Bool.{false≢true}
@@ -12,6 +14,7 @@ use Rattle.der_ber_types.proofs.content.+writing.Goals.{push_member-then-is_defa
 use Rattle.der_ber_types.proofs.SetLemmas.{reordered-length}
 use Rattle.der_ber_types.proofs.Cutting.{smaller_content}
 use Rattle.der_ber_types.specs.Pushed.{IsPushed, IsNonePushed}
+use Rattle.der_ber_types.specs.Refusals.{AreNoBits, AreNotInOrder}
 use Rattle.std.proofs.lemmas.Result.{err_from_is_err_and}
 use Rattle.der_ber_types.proofs.Refusals.{no_each-front, no_each-tag, no_members-at, no_members-past, no_one-front}
 use Rattle.der_ber_types.proofs.Refusals.{no_one-tag, no_one-more, no_front, no_member-front, no_member-tag}
@@ -79,15 +82,31 @@ push_content-returns-in-One-clause-none t c =
     content-refused c.args.nodes.now c.args.inside _ c.args.content.now c.push_one.result _ c.in-One.is
     (no_content-one c.args.nodes.now c.in-One.index c.args.content.now) c.push_one.ensures.none
 
-pub push_content-returns-in_ok-bits-in-BitParts-clause-ok : goal.push_content-returns-in_ok-bits-in-BitParts-clause-ok
-push_content-returns-in_ok-bits-in-BitParts-clause-ok t c = ?
+pub push_content-returns-in_ok-extend_from_slice-in-BitParts-clause-ok
+    : goal.push_content-returns-in_ok-extend_from_slice-in-BitParts-clause-ok
+push_content-returns-in_ok-extend_from_slice-in-BitParts-clause-ok t c =
+    let bits = c.in_ok-bits-in-BitParts in
+    let old = c.args.der.now.items in
+    let new = c.extend_from_slice-in-BitParts.new.self.items in
+    let appended : new ≡ old ++ bits.bits.items =
+    c.in_ok-extend_from_slice-in-BitParts.ensures.items ∙ ap (λ s. old ++ s) c.deref.ensures.value in
+    content-appended c.args.nodes.now c.args.inside _ c.args.content.now old new (AreJoinedBits c.args.content.now)
+    c.in-BitParts.is (IsContent.bit_parts c.args.content.now)
+    (record { in_der = bits.bits.items; is = bits.ensures.ok; appended = appended })
+
+pub push_content-returns-in_err-bits-in-BitParts-clause-none
+    : goal.push_content-returns-in_err-bits-in-BitParts-clause-none
+push_content-returns-in_err-bits-in-BitParts-clause-none t c =
+    content-refused c.args.nodes.now c.args.inside _ c.args.content.now c.from_residual.result
+    (AreNoBits c.args.content.now) c.in-BitParts.is (no_content-bits c.args.nodes.now c.args.content.now)
+    ?
 
 pub push_content-push_members-requires-in-AnyOrder : goal.push_content-push_members-requires-in-AnyOrder
 push_content-push_members-requires-in-AnyOrder t c =
     let nodes = c.args.nodes.now in
     let same = reordered-length nodes c.in-AnyOrder.members.now c.args.content.now
     c.in_ok-ordered-in-AnyOrder.ordered.items c.in_ok-ordered-in-AnyOrder.ensures in
-    (omega (arith, c.decreases, same, ap length c.deref.ensures.value), tt)
+    (omega (arith, c.decreases, same, ap length c.deref-in-AnyOrder.ensures.value), tt)
 
 pub push_content-returns-in_ok-ordered-in-AnyOrder-clause-ok
     : goal.push_content-returns-in_ok-ordered-in-AnyOrder-clause-ok
@@ -95,9 +114,9 @@ push_content-returns-in_ok-ordered-in-AnyOrder-clause-ok t c =
     let nodes = c.args.nodes.now in
     let content = c.args.content.now in
     let members = c.in-AnyOrder.members in
-    let ordered = c.deref.result.now in
+    let ordered = c.deref-in-AnyOrder.result.now in
     let order : AreReordered nodes members.now content ordered =
-    subst (AreReordered nodes members.now content) (sym c.deref.ensures.value) c.in_ok-ordered-in-AnyOrder.ensures in
+    subst (AreReordered nodes members.now content) (sym c.deref-in-AnyOrder.ensures.value) c.in_ok-ordered-in-AnyOrder.ensures in
     content-of nodes c.args.inside _ content c.args.der.now.items c.push_members-in-AnyOrder.new.der.items
     c.push_members-in-AnyOrder.result (AreMembers nodes members.now ordered) c.in-AnyOrder.is
     (λ der. IsContent.any_order members content ordered der order) c.push_members-in-AnyOrder.ensures.ok
@@ -108,14 +127,23 @@ push_content-returns-in_ok-ordered-in-AnyOrder-clause-none t c =
     let nodes = c.args.nodes.now in
     let content = c.args.content.now in
     let members = c.in-AnyOrder.members in
-    let ordered = c.deref.result.now in
+    let ordered = c.deref-in-AnyOrder.result.now in
     let order : AreReordered nodes members.now content ordered =
-    subst (AreReordered nodes members.now content) (sym c.deref.ensures.value) c.in_ok-ordered-in-AnyOrder.ensures in
+    subst (AreReordered nodes members.now content) (sym c.deref-in-AnyOrder.ensures.value) c.in_ok-ordered-in-AnyOrder.ensures in
     content-refused nodes c.args.inside _ content c.push_members-in-AnyOrder.result _ c.in-AnyOrder.is
     (no_content-order nodes members content ordered order) c.push_members-in-AnyOrder.ensures.none
 
-pub push_content-put_in_order-requires-in-Set : goal.push_content-put_in_order-requires-in-Set
-push_content-put_in_order-requires-in-Set t c = ?
+pub push_content-put_in_order-requires : goal.push_content-put_in_order-requires
+push_content-put_in_order-requires t c =
+    let old = c.args.der.now in
+    let made = c.in_ok-push_each-in-Set.ensures.ok in
+    omega (
+      arith,
+      c.len-place.ensures,
+      old.ok.0,
+      ap length made.appended ∙ length-append old.items made.in_der,
+      c.push_each-in-Set.new.der.ok.0,
+    )
 
 pub push_content-returns-in_ok-push_each-in-Set-clause-ok : goal.push_content-returns-in_ok-push_each-in-Set-clause-ok
 push_content-returns-in_ok-push_each-in-Set-clause-ok t c =
@@ -127,7 +155,19 @@ push_content-returns-in_ok-push_each-in-Set-clause-ok t c =
 
 pub push_content-returns-in_ok-push_each-in-Set-clause-none
     : goal.push_content-returns-in_ok-push_each-in-Set-clause-none
-push_content-returns-in_ok-push_each-in-Set-clause-none t c = ?
+push_content-returns-in_ok-push_each-in-Set-clause-none t c =
+    let nodes = c.args.nodes.now in
+    let content = c.args.content.now in
+    let i = c.in-Set.index in
+    let old = c.args.der.now.items in
+    let mid = c.push_each-in-Set.new.der.items in
+    let place = c.len-place.result in
+    let size : place ≡ length old = omega (arith, c.len-place.ensures, c.args.der.now.ok.0) in
+    let made = c.in_ok-push_each-in-Set.ensures.ok in
+    let elements = appended-is (AreEach nodes i content) old mid place made size in
+    content-refused nodes c.args.inside _ content c.put_in_order.result (AreNotInOrder (drop place mid)) c.in-Set.is
+    (λ none. no_content-sorted nodes i content made.in_der made.is (subst (λ s. AreNotInOrder s) elements none))
+    c.put_in_order.ensures.none
 
 -- ---- push_each
 
@@ -288,7 +328,7 @@ push_element-returns t c =
     record {
       ok = pushed c.args.nodes.now c.args.index element.tag c.in-Some-inside_of.inside element.content.now
           c.args.bytes.now element.after.now c.args.der.now.items c.push_header.new.bytes.items
-          c.push_content.new.der.items c.end_element.new.bytes.items c.tag_in_der.result c.len-content_len.result
+          c.push_content.new.der.items c.end_element.new.bytes.items c.tag_in_der.result (length element.content.now)
           c.in-Some.ensures c.in-Some-inside_of.ensures.some c.tag_in_der.ensures c.in_ok-push_header.ensures
           c.in_ok-push_content.ensures.ok
           (λ front content tag len. c.in_ok-end_element.ensures front content tag (len ∙ sym size));
@@ -356,7 +396,7 @@ push_one-returns-else-is_empty-clause-none t c =
 
 pub push_element-returns-in_err-push_content-clause-none : goal.push_element-returns-in_err-push_content-clause-none
 push_element-returns-in_err-push_content-clause-none t c =
-    let p = err_from_is_err_and c.from_residual.result c.from_residual.ensures.1 in
+    let p = err_from_is_err_and c.from_residual-in_err-push_content.result c.from_residual-in_err-push_content.ensures.1 in
     let element = c.in-Some.element in
     rw (p.1, p.2) (λ some. no_front c.args.nodes.now c.args.index element.tag c.in-Some-inside_of.inside
     c.args.bytes.now element.content.now element.after.now c.in-Some.ensures c.in-Some-inside_of.ensures.some
