@@ -116,7 +116,8 @@ push_content-returns-in_ok-ordered-in-AnyOrder-clause-ok t c =
     let members = c.in-AnyOrder.members in
     let ordered = c.deref-in-AnyOrder.result.now in
     let order : AreReordered nodes members.now content ordered =
-    subst (AreReordered nodes members.now content) (sym c.deref-in-AnyOrder.ensures.value) c.in_ok-ordered-in-AnyOrder.ensures in
+    subst (AreReordered nodes members.now content) (sym c.deref-in-AnyOrder.ensures.value)
+    c.in_ok-ordered-in-AnyOrder.ensures in
     content-of nodes c.args.inside _ content c.args.der.now.items c.push_members-in-AnyOrder.new.der.items
     c.push_members-in-AnyOrder.result (AreMembers nodes members.now ordered) c.in-AnyOrder.is
     (λ der. IsContent.any_order members content ordered der order) c.push_members-in-AnyOrder.ensures.ok
@@ -129,7 +130,8 @@ push_content-returns-in_ok-ordered-in-AnyOrder-clause-none t c =
     let members = c.in-AnyOrder.members in
     let ordered = c.deref-in-AnyOrder.result.now in
     let order : AreReordered nodes members.now content ordered =
-    subst (AreReordered nodes members.now content) (sym c.deref-in-AnyOrder.ensures.value) c.in_ok-ordered-in-AnyOrder.ensures in
+    subst (AreReordered nodes members.now content) (sym c.deref-in-AnyOrder.ensures.value)
+    c.in_ok-ordered-in-AnyOrder.ensures in
     content-refused nodes c.args.inside _ content c.push_members-in-AnyOrder.result _ c.in-AnyOrder.is
     (no_content-order nodes members content ordered order) c.push_members-in-AnyOrder.ensures.none
 
@@ -396,7 +398,8 @@ push_one-returns-else-is_empty-clause-none t c =
 
 pub push_element-returns-in_err-push_content-clause-none : goal.push_element-returns-in_err-push_content-clause-none
 push_element-returns-in_err-push_content-clause-none t c =
-    let p = err_from_is_err_and c.from_residual-in_err-push_content.result c.from_residual-in_err-push_content.ensures.1 in
+    let p = err_from_is_err_and c.from_residual-in_err-push_content.result
+    c.from_residual-in_err-push_content.ensures.1 in
     let element = c.in-Some.element in
     rw (p.1, p.2) (λ some. no_front c.args.nodes.now c.args.index element.tag c.in-Some-inside_of.inside
     c.args.bytes.now element.content.now element.after.now c.in-Some.ensures c.in-Some-inside_of.ensures.some
