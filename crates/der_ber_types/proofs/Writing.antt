@@ -54,6 +54,12 @@ pub appended-only : (P : List ℕ → Type 0) (old new : List ℕ) → old ≡ [
 appended-only P old new empty a =
     subst P (sym (a.appended ∙ ap (λ s. s ++ a.in_der) empty)) a.is
 
+-- these bytes
+pub appended-slice : (P : List ℕ → Type 0) (old new slice made : List ℕ) → P made → new ≡ old ++ slice → slice ≡ made
+    → IsAppended P old new
+appended-slice P old new slice made is e same =
+    record { in_der = made; is = is; appended = e ∙ ap (λ s. old ++ s) same }
+
 -- it is what is past the old ones
 pub appended-is : (P : List ℕ → Type 0) (old new : List ℕ) (place : ℕ) → (a : IsAppended P old new)
     → place ≡ length old → drop place new ≡ a.in_der

@@ -1,11 +1,11 @@
-use Rattle.std.proofs.Common.{◌≡◌, ◌++◌, sym, ap, ◌∙◌, subst, refl, arith, length, length-append, drop}
+use Rattle.std.proofs.Common.{◌≡◌, sym, ap, ◌∙◌, subst, refl, arith, length, length-append, drop}
 use Rattle.std.proofs.Common.{slice_range}
 use Rattle.der_ber_types.specs.Content.{IsContent, AreEach, AreMembers}
 use Rattle.der_ber_types.specs.Contents.{AreJoinedBits}
 use Rattle.der_ber_types.proofs.Writing.{pushed-shorter, each-none, each-more, each-end}
 use Rattle.der_ber_types.proofs.Writing.{member-fewer, members-none, member-next, members-end}
 use Rattle.der_ber_types.proofs.Writing.{nothing_left, something_left, appended-is, content-copied, content-of}
-use Rattle.der_ber_types.proofs.Writing.{content-appended, content-sorted}
+use Rattle.der_ber_types.proofs.Writing.{appended-slice, content-appended, content-sorted}
 use Rattle.der_ber_types.proofs.Writing.{pushed, pushed-only, not_ahead-tag}
 use Rattle.der_ber_types.proofs.Writing.{member-kept, member-cut, member-same, range-end}
 use Rattle.std.proofs.lemmas.Bool.{false≢true}
@@ -14,7 +14,7 @@ use Rattle.der_ber_types.proofs.content.+writing.Goals.{push_member-then-is_defa
 use Rattle.der_ber_types.proofs.SetLemmas.{reordered-length}
 use Rattle.der_ber_types.proofs.Cutting.{smaller_content}
 use Rattle.der_ber_types.specs.Pushed.{IsPushed, IsNonePushed}
-use Rattle.der_ber_types.specs.Refusals.{AreNoBits, AreNotInOrder}
+use Rattle.der_ber_types.specs.Refusals.{AreNotInOrder}
 use Rattle.std.proofs.lemmas.Result.{err_from_is_err_and}
 use Rattle.der_ber_types.proofs.Refusals.{no_each-front, no_each-tag, no_members-at, no_members-past, no_one-front}
 use Rattle.der_ber_types.proofs.Refusals.{no_one-tag, no_one-more, no_front, no_member-front, no_member-tag}
@@ -85,21 +85,24 @@ push_content-returns-in-One-clause-none t c =
 pub push_content-returns-in_ok-extend_from_slice-in-BitParts-clause-ok
     : goal.push_content-returns-in_ok-extend_from_slice-in-BitParts-clause-ok
 push_content-returns-in_ok-extend_from_slice-in-BitParts-clause-ok t c =
+    let content = c.args.content.now in
     let bits = c.in_ok-bits-in-BitParts in
     let old = c.args.der.now.items in
     let new = c.extend_from_slice-in-BitParts.new.self.items in
-    let appended : new ≡ old ++ bits.bits.items =
-    c.in_ok-extend_from_slice-in-BitParts.ensures.items ∙ ap (λ s. old ++ s) c.deref.ensures.value in
-    content-appended c.args.nodes.now c.args.inside _ c.args.content.now old new (AreJoinedBits c.args.content.now)
-    c.in-BitParts.is (IsContent.bit_parts c.args.content.now)
-    (record { in_der = bits.bits.items; is = bits.ensures.ok; appended = appended })
+    content-appended c.args.nodes.now c.args.inside _ content old new (AreJoinedBits content) c.in-BitParts.is
+    (IsContent.bit_parts content)
+    (appended-slice (AreJoinedBits content) old new c.deref.result.now bits.bits.items bits.ensures.ok
+    c.in_ok-extend_from_slice-in-BitParts.ensures.items c.deref.ensures.value)
 
 pub push_content-returns-in_err-bits-in-BitParts-clause-none
     : goal.push_content-returns-in_err-bits-in-BitParts-clause-none
 push_content-returns-in_err-bits-in-BitParts-clause-none t c =
-    content-refused c.args.nodes.now c.args.inside _ c.args.content.now c.from_residual.result
-    (AreNoBits c.args.content.now) c.in-BitParts.is (no_content-bits c.args.nodes.now c.args.content.now)
-    ?
+    let residual = c.from_residual-in_err-bits-in-BitParts in
+    let p = err_from_is_err_and residual.result residual.ensures.1 in
+    let nodes = c.args.nodes.now in
+    let content = c.args.content.now in
+    rw (p.1, p.2) (λ some der is. no_content-bits nodes content (c.in_err-bits-in-BitParts.ensures.none some) der
+    (subst (λ x. IsContent nodes x content der) c.in-BitParts.is is))
 
 pub push_content-push_members-requires-in-AnyOrder : goal.push_content-push_members-requires-in-AnyOrder
 push_content-push_members-requires-in-AnyOrder t c =
