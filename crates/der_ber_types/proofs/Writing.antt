@@ -41,7 +41,7 @@ pushed-shorter nodes i bytes after old new p =
 
 -- ---- what is appended
 
-appended-then : (old mid new first second : List ℕ) → mid ≡ old ++ first → new ≡ mid ++ second
+pub appended-then : (old mid new first second : List ℕ) → mid ≡ old ++ first → new ≡ mid ++ second
     → new ≡ old ++ (first ++ second)
 appended-then old mid new first second e f = f ∙ ap (λ s. s ++ second) e ∙ append_assoc old first second
 

@@ -41,7 +41,7 @@ pub(crate) fn one_in_der(
 
 // Appends it.
 #[cycle(writing)]
-fn push_one(
+pub(crate) fn push_one(
     alloc: Global,
     nodes: &[Node],
     index: u16,
