@@ -1,0 +1,2 @@
+pub mod FirstTags
+pub mod Nodes
