@@ -1,2 +1,3 @@
 pub mod FirstTags
 pub mod Nodes
+pub mod TagSets
