@@ -1,6 +1,6 @@
 -- With which tag a value begins, by its JSON: one of its type's, so that alternatives and members are distinguished.
-use Rattle.std.proofs.Common.{◌≡◌, ℕ, zero, suc, ◌+◌, Bool, true, false, ◌||◌, List, [], ◌∷◌, ◌++◌, map, Option, Some, None}
-use Rattle.std.proofs.Common.{refl, sym, ap, ◌∙◌, subst}
+use Rattle.std.proofs.Common.{◌≡◌, ℕ, zero, suc, ◌+◌, Bool, true, false, ◌||◌, List, [], ◌∷◌, ◌++◌, map}
+use Rattle.std.proofs.Common.{Option, Some, None, refl, sym, ap, ◌∙◌, subst}
 use Rattle.std.proofs.lemmas.Bool.{false≢true, eq-eqb}
 use Rattle.std.specs.List.{list_all}
 use Rattle.std.specs.Prelude.{◌==◌, if◌then◌else◌, option_map, slice_get}
@@ -25,8 +25,8 @@ use Rattle.der_schema.specs.Tags.{tags_of_kind, tags_of_node, tags_of_own}
 use Rattle.der_schema.proofs.TagSets.{has-left, has-right, kind-alternatives, kind-any, kind-own, kind-same_type}
 use Rattle.der_schema.proofs.TagSets.{none-both, of_alternative, or-first}
 use Rattle.der_json.specs.Contents.{plain_tag}
-use Rattle.der_json.specs.Json.{AreMembers, IsJson, IsOfKind, alternatives_in, can_be_absent, is_any, list_of, members_in}
-use Rattle.der_json.specs.Json.{same_as}
+use Rattle.der_json.specs.Json.{AreMembers, IsJson, IsOfKind, alternatives_in, can_be_absent, is_any, list_of}
+use Rattle.der_json.specs.Json.{members_in, same_as}
 use Rattle.der_json.specs.Laws.{has_short_tag}
 
 -- the element at the front of a value with its header, whose tag is one of the type's
@@ -55,8 +55,8 @@ sequence_own (kind.Sequence members) ms e = refl
 sequence_own _ ms e = cc
 
 list_own : (k : Kind) (tag j : ℕ) → list_of k ≡ Some (tag, j) → own_tag k ≡ Some tag
-list_own (kind.SequenceOf i) tag j e = cc
-list_own (kind.SetOf i) tag j e = cc
+list_own (kind.SequenceOf i) tag j e = ap (option_map (λ (p : ℕ × ℕ). p.0)) e
+list_own (kind.SetOf i) tag j e = ap (option_map (λ (p : ℕ × ℕ). p.0)) e
 list_own _ tag j e = cc
 
 pub choice_alternatives : (k : Kind) (cs : List Alternative) → alternatives_in k ≡ Some cs → alternatives_of k ≡ cs
@@ -82,7 +82,8 @@ of_node (Some node) k e tags tag h =
     subst (λ (l : Kind). has_tag (tags_of_kind tags l) tag ≡ true) (sym same) h
 
 at_node : (nodes : List Node) (i : ℕ) (k : Kind) → IsOfKind nodes i k → (tag : ℕ)
-    → ((n : ℕ) → has_tag (tags_of_kind (tags_at nodes n) k) tag ≡ true) → (n : ℕ) → has_tag (tags_at nodes n i) tag ≡ true
+    → ((n : ℕ) → has_tag (tags_of_kind (tags_at nodes n) k) tag ≡ true) → (n : ℕ)
+    → has_tag (tags_at nodes n i) tag ≡ true
 at_node nodes i k of tag each zero = refl
 at_node nodes i k of tag each (suc n) = of_node (slice_get nodes i) k of (tags_at nodes n) tag (each n)
 
@@ -124,7 +125,7 @@ front nodes i header s d (IsJson.list _ _ j tag _ k content _ ds of is encoded x
 front nodes i header s d (IsJson.choice _ _ place _ k cs a _ v of is there x) h short =
     let f : IsFront nodes a.node s = front nodes a.node header s v x h short in
     let at : slice_get (alternatives_of k) place ≡ Some a =
-    ap (λ l. slice_get l place) (choice_alternatives k cs is) ∙ there in
+    ap (λ (l : List Alternative). slice_get l place) (choice_alternatives k cs is) ∙ there in
     record {
       tag = f.tag;
       content = f.content;
@@ -134,7 +135,7 @@ front nodes i header s d (IsJson.choice _ _ place _ k cs a _ v of is there x) h 
     }
 front nodes i header s d (IsJson.wrapped _ _ j _ w content _ v of encoded x) h short =
     own_front nodes i (kind.Wrapped w j) of (wrapper_tag w) (wrapper_front w ++ content) s
-    (ap (λ b. if b then Some (wrapper_tag w) else None) (short i (kind.Wrapped w j) of)) encoded
+    (ap (λ (b : Bool). if b then Some (wrapper_tag w) else None) (short i (kind.Wrapped w j) of)) encoded
 front nodes i header s d (IsJson.content-under _ _ j tag _ content _ _ of encoded x) h short =
     own_front nodes i (kind.ContentUnder tag j) of tag content s refl (with_header header tag content s h encoded)
 front nodes i header s d (IsJson.any _ _ _ k _ _ of is x) h short = record {
@@ -161,7 +162,8 @@ apart_at tags i (c ∷ cs) zero b e is =
     (both (are_apart (tags i) (tags c.node)) (list_all (λ j. are_apart (tags i) (tags j)) (map (λ a. a.node) cs)) e).0
 apart_at tags i (c ∷ cs) (suc n) b e is =
     apart_at tags i cs n b
-    (both (are_apart (tags i) (tags c.node)) (list_all (λ j. are_apart (tags i) (tags j)) (map (λ a. a.node) cs)) e).1 is
+    (both (are_apart (tags i) (tags c.node)) (list_all (λ j. are_apart (tags i) (tags j)) (map (λ a. a.node) cs)) e).1
+    is
 
 -- only one alternative has the tag
 pub one_alternative : (tags : ℕ → Option (List ℕ)) (tag : ℕ) (cs : List Alternative) (m n : ℕ) (a b : Alternative)
@@ -204,12 +206,12 @@ next nodes ms s before d (AreMembers.end-of-members _ _) short n tag content res
     absurd (not_empty tag content rest e)
 next nodes ms s before d (AreMembers.there _ m others first more v _ _ x xs) short n tag content rest e =
     let f : IsFront nodes m.node first = front nodes m.node true first v x refl short in
-    let same = tlv_prefix f.tag tag f.content content more rest (ap (λ l. l ++ more) (sym f.is) ∙ e) in
-    has-left (tags_at nodes n m.node) (if is_required m.presence then Some [] else next_tags (tags_at nodes n) others) tag
-    (subst (λ t. has_tag (tags_at nodes n m.node) t ≡ true) same.0 (f.has n))
+    let same = tlv_prefix f.tag tag f.content content more rest (ap (λ (l : List ℕ). l ++ more) (sym f.is) ∙ e) in
+    has-left (tags_at nodes n m.node) (if is_required m.presence then Some [] else next_tags (tags_at nodes n) others)
+    tag (subst (λ (t : ℕ). has_tag (tags_at nodes n m.node) t ≡ true) same.0 (f.has n))
 next nodes ms s before d (AreMembers.absent _ m others _ _ _ free xs) short n tag content rest e =
-    has-right (tags_at nodes n m.node) (if is_required m.presence then Some [] else next_tags (tags_at nodes n) others) tag
-    (subst (λ b. has_tag (if b then Some [] else next_tags (tags_at nodes n) others) tag ≡ true)
+    has-right (tags_at nodes n m.node) (if is_required m.presence then Some [] else next_tags (tags_at nodes n) others)
+    tag (subst (λ (b : Bool). has_tag (if b then Some [] else next_tags (tags_at nodes n) others) tag ≡ true)
     (sym (not_required m.presence free)) (next nodes others s before d xs short n tag content rest e))
 
 -- a member isn't absent whose tag the front has
@@ -223,6 +225,7 @@ not_absent nodes n m others first rest t v earlier e short apart same x free ys 
     let parts = both (is_required m.presence || are_apart (tags_at nodes n m.node) tags)
     (are_members_apart (tags_at nodes n) others) apart in
     let here : are_apart (tags_at nodes n m.node) tags ≡ true =
-    subst (λ b. (b || are_apart (tags_at nodes n m.node) tags) ≡ true) (not_required m.presence free) parts.0 in
+    subst (λ (b : Bool). (b || are_apart (tags_at nodes n m.node) tags) ≡ true) (not_required m.presence free)
+    parts.0 in
     none-both (tags_at nodes n m.node) tags f.tag here (f.has n)
-    (next nodes others t earlier e ys short n f.tag f.content rest (sym same ∙ ap (λ l. l ++ rest) f.is))
+    (next nodes others t earlier e ys short n f.tag f.content rest (sym same ∙ ap (λ (l : List ℕ). l ++ rest) f.is))

@@ -1,5 +1,5 @@
 -- A message has one JSON only.
-use Rattle.std.proofs.Common.{◌≡◌, ℕ, zero, suc, Bool, true, false, not, ◌&&◌, ◌||◌, ◌⊎◌, inl, inr, List, [], ◌∷◌, ◌++◌}
+use Rattle.std.proofs.Common.{◌≡◌, ℕ, zero, suc, Bool, true, false, not, ◌&&◌, ◌||◌, ◌⊎◌, inl, inr, List, ◌∷◌, ◌++◌}
 use Rattle.std.proofs.Common.{length, map, Option, Some, None, refl, sym, ap, ap₂, ◌∙◌, subst}
 use Rattle.std.proofs.lemmas.Bool.{false≢true}
 use Rattle.std.specs.List.{list_all}
@@ -18,12 +18,12 @@ use Rattle.der_schema.specs.declared.node.Kind.TheVariants as kind
 use Rattle.der_schema.specs.declared.node.Member.{Member}
 use Rattle.der_schema.specs.declared.node.Node.{Node}
 use Rattle.der_schema.specs.Rules.{are_all_apart, are_members_apart, index_holds, in_set, is_in_tag, is_required}
-use Rattle.der_schema.specs.Rules.{keeps_default, keeps_rules, keeps_rules_at, keeps_set, keeps_tag, members_of, next_tags}
-use Rattle.der_schema.specs.Rules.{node_holds}
+use Rattle.der_schema.specs.Rules.{keeps_default, keeps_rules, keeps_rules_at, keeps_set, keeps_tag, members_of}
+use Rattle.der_schema.specs.Rules.{next_tags, node_holds}
 use Rattle.der_schema.specs.Tags.{alternatives_of, are_apart, has_tag, tags_at}
 use Rattle.der_json.specs.Contents.{IsContentJson, IsPlain}
-use Rattle.der_json.specs.Json.{AreItems, AreMembers, IsAlternative, IsAny, IsJson, IsOfKind, alternatives_in, members_in}
-use Rattle.der_json.specs.Json.{same_as, wrapped_data}
+use Rattle.der_json.specs.Json.{AreItems, AreMembers, IsAlternative, IsAny, IsJson, IsOfKind, alternatives_in}
+use Rattle.der_json.specs.Json.{members_in, same_as, wrapped_data}
 use Rattle.der_json.specs.Laws.{OneJson, content_only, has_one_form, has_one_form_at, has_short_tag, has_two_forms}
 use Rattle.der_json.specs.Laws.{is_choice, is_choice_kind, unless_header}
 use Rattle.der_json.proofs.Forms.{Form, IsListed, IsSequence, IsUnder, IsWrapped, any_form, as_formed, choice_form}
@@ -47,30 +47,37 @@ is_false : (b : Bool) → not b ≡ true → b ≡ false
 is_false true e = absurd (false≢true e)
 is_false false e = refl
 
-sound : (nodes : List Node) → keeps_rules nodes ≡ true → has_one_form nodes ≡ true → IsSound nodes (length nodes)
-sound nodes rules forms =
+kept : (nodes : List Node) → keeps_rules nodes ≡ true → (i : ℕ) (k : Kind) → IsOfKind nodes i k
+    → (are_all_apart (tags_at nodes (length nodes)) (map (λ a. a.node) (alternatives_of k)) ≡ true)
+    × (are_members_apart (tags_at nodes (length nodes)) (members_of k) ≡ true)
+kept nodes rules i k of =
     let n : ℕ = length nodes in
-    let kept = λ (i : ℕ) (k : Kind) (of : IsOfKind nodes i k).
-    both (are_all_apart (tags_at nodes n) (map (λ a. a.node) (alternatives_of k)))
-    (are_members_apart (tags_at nodes n) (members_of k)
-    && (list_all (λ m. keeps_default nodes n m.node m.presence) (members_of k)
-    && (keeps_tag (is_in_tag nodes n) k && keeps_set (tags_at nodes n) nodes (in_set k))))
-    (kind_holds (keeps_rules_at nodes n) nodes i k rules of) in
-    let formed = λ (i : ℕ) (k : Kind) (of : IsOfKind nodes i k).
-    both (not (has_two_forms k)) (has_short_tag k && not (index_holds (is_choice nodes n) (content_only k)))
+    let tags = keeps_tag (is_in_tag nodes n) k && keeps_set (tags_at nodes n) nodes (in_set k) in
+    let defaults = list_all (λ m. keeps_default nodes n m.node m.presence) (members_of k) in
+    let apart = are_members_apart (tags_at nodes n) (members_of k) in
+    let parts = both (are_all_apart (tags_at nodes n) (map (λ a. a.node) (alternatives_of k)))
+    (apart && (defaults && tags)) (kind_holds (keeps_rules_at nodes n) nodes i k rules of) in
+    (parts.0, (both apart (defaults && tags) parts.1).0)
+
+one_form : (nodes : List Node) → has_one_form nodes ≡ true → (i : ℕ) (k : Kind) → IsOfKind nodes i k
+    → (has_two_forms k ≡ false) × ((has_short_tag k ≡ true)
+    × (index_holds (is_choice nodes (length nodes)) (content_only k) ≡ false))
+one_form nodes forms i k of =
+    let n : ℕ = length nodes in
+    let choice = index_holds (is_choice nodes n) (content_only k) in
+    let parts = both (not (has_two_forms k)) (has_short_tag k && not choice)
     (kind_holds (has_one_form_at nodes n) nodes i k forms of) in
-    let others = λ (i : ℕ) (k : Kind) (of : IsOfKind nodes i k).
-    both (has_short_tag k) (not (index_holds (is_choice nodes n) (content_only k))) (formed i k of).1 in
-    record {
-      alternatives = λ i k of. (kept i k of).0;
-      members = λ i k of. (both (are_members_apart (tags_at nodes n) (members_of k))
-          (list_all (λ m. keeps_default nodes n m.node m.presence) (members_of k)
-          && (keeps_tag (is_in_tag nodes n) k && keeps_set (tags_at nodes n) nodes (in_set k)))
-          (kept i k of).1).0;
-      form = λ i k of. is_false (has_two_forms k) (formed i k of).0;
-      short = λ i k of. (others i k of).0;
-      contents = λ i k of. is_false (index_holds (is_choice nodes n) (content_only k)) (others i k of).1;
-    }
+    let others = both (has_short_tag k) (not choice) parts.1 in
+    (is_false (has_two_forms k) parts.0, (others.0, is_false choice others.1))
+
+sound : (nodes : List Node) → keeps_rules nodes ≡ true → has_one_form nodes ≡ true → IsSound nodes (length nodes)
+sound nodes rules forms = record {
+  alternatives = λ i k of. (kept nodes rules i k of).0;
+  members = λ i k of. (kept nodes rules i k of).1;
+  form = λ i k of. (one_form nodes forms i k of).0;
+  short = λ i k of. (one_form nodes forms i k of).1.0;
+  contents = λ i k of. (one_form nodes forms i k of).1.1;
+}
 
 -- ---- a CHOICE has its header
 
@@ -93,23 +100,31 @@ no_choice nodes n i k of e =
     either (is_choice_kind k) (index_holds (is_choice nodes n) (same_as k))
     (sym (test_of (λ l. is_choice_kind l || index_holds (is_choice nodes n) (same_as l)) (slice_get nodes i) k of) ∙ e)
 
+not_of_choice : (nodes : List Node) (i j : ℕ) (k : Kind) → IsOfKind nodes i k → same_as k ≡ Some j → (n : ℕ)
+    → is_choice nodes n i ≡ false → (m : ℕ) × (is_choice nodes m j ≡ false)
+not_of_choice nodes i j k of is zero e = absurd (false≢true (sym e))
+not_of_choice nodes i j k of is (suc n) e =
+    (n, ap (index_holds (is_choice nodes n)) (sym is) ∙ (no_choice nodes n i k of e).1)
+
 free_same : (nodes : List Node) (header : Bool) (i j : ℕ) (k : Kind) → IsOfKind nodes i k → same_as k ≡ Some j
     → IsFree nodes header i → IsFree nodes header j
 free_same nodes header i j k of is (inl h) = inl h
-free_same nodes header i j k of is (inr (zero, e)) = absurd (false≢true (sym e))
-free_same nodes header i j k of is (inr (suc n, e)) =
-    inr (n, ap (index_holds (is_choice nodes n)) (sym is) ∙ (no_choice nodes n i k of e).1)
+free_same nodes header i j k of is (inr w) = inr (not_of_choice nodes i j k of is w.0 w.1)
 
 is_choice_of : (k : Kind) (cs : List Alternative) → alternatives_in k ≡ Some cs → is_choice_kind k ≡ true
 is_choice_of (kind.Choice alternatives) cs e = refl
 is_choice_of _ cs e = cc
 
+is_no_choice : (nodes : List Node) (i : ℕ) (k : Kind) (cs : List Alternative) → IsOfKind nodes i k
+    → alternatives_in k ≡ Some cs → (n : ℕ) → is_choice nodes n i ≡ false → ⊥
+is_no_choice nodes i k cs of is zero e = false≢true (sym e)
+is_no_choice nodes i k cs of is (suc n) e =
+    false≢true (sym (no_choice nodes n i k of e).0 ∙ is_choice_of k cs is)
+
 free_choice : (nodes : List Node) (header : Bool) (i : ℕ) (k : Kind) (cs : List Alternative) → IsOfKind nodes i k
     → alternatives_in k ≡ Some cs → IsFree nodes header i → header ≡ true
 free_choice nodes header i k cs of is (inl h) = h
-free_choice nodes header i k cs of is (inr (zero, e)) = absurd (false≢true (sym e))
-free_choice nodes header i k cs of is (inr (suc n, e)) =
-    absurd (false≢true (sym (no_choice nodes n i k of e).0 ∙ is_choice_of k cs is))
+free_choice nodes header i k cs of is (inr w) = absurd (is_no_choice nodes i k cs of is w.0 w.1)
 
 free_wrapped : (nodes : List Node) (n j : ℕ) (header : Bool)
     → index_holds (is_choice nodes n) (unless_header header j) ≡ false → IsFree nodes header j
@@ -124,16 +139,16 @@ unfolding plain_encoding
 same_content true tag other c d s t same e f = (tlv-same tag other c d (sym e ∙ same ∙ f)).1
 same_content false tag other c d s t same e f = sym e ∙ same ∙ f
 
-same_inside : (tag : ℕ) (front c d s t : List ℕ) → s ≡ t → s ≡ tlv tag (front ++ c) → t ≡ tlv tag (front ++ d) → c ≡ d
-same_inside tag front c d s t same e f =
-    (same_front front front c d refl (tlv-same tag tag (front ++ c) (front ++ d) (sym e ∙ same ∙ f)).1).1
+same_inside : (tag : ℕ) (xs c d s t : List ℕ) → s ≡ t → s ≡ tlv tag (xs ++ c) → t ≡ tlv tag (xs ++ d) → c ≡ d
+same_inside tag xs c d s t same e f =
+    (same_front xs xs c d refl (tlv-same tag tag (xs ++ c) (xs ++ d) (sym e ∙ same ∙ f)).1).1
 
 -- what is at the front of both, and what follows
 same_parts : (nodes : List Node) (i : ℕ) (first second rest more : List ℕ) → IsFront nodes i first
     → IsFront nodes i second → first ++ rest ≡ second ++ more → (first ≡ second) × (rest ≡ more)
 same_parts nodes i first second rest more f g e =
     let parts = tlv_prefix f.tag g.tag f.content g.content rest more
-    (ap (λ l. l ++ rest) (sym f.is) ∙ e ∙ ap (λ l. l ++ more) g.is) in
+    (ap (λ (l : List ℕ). l ++ rest) (sym f.is) ∙ e ∙ ap (λ (l : List ℕ). l ++ more) g.is) in
     (f.is ∙ ap₂ tlv parts.0 parts.1 ∙ sym g.is, parts.2)
 
 sequence_members : (k : Kind) (ms : List Member) → members_in k ≡ Some ms → members_of k ≡ ms
@@ -157,7 +172,7 @@ mutual
       let contents : x.content ≡ z.content =
       same_content header x.tag z.tag x.content z.content s t same x.encoded z.encoded in
       one_json_of_content k x.content d e (ok.form i k of) x.json
-      (subst (λ c. IsContentJson k c e) (sym contents) z.json)
+      (subst (λ (c : List ℕ). IsContentJson k c e) (sym contents) z.json)
   of_value nodes n i header s d (IsJson.same _ _ j _ k _ _ of is x) ok free t e same y =
       let z : IsJson nodes j header t e =
       as_formed nodes k (Form.same j) header t e (same_form k j is) (formed nodes i header t e y k of) in
@@ -166,7 +181,8 @@ mutual
       let z : IsSequence nodes ms header t e =
       as_formed nodes k (Form.sequence ms) header t e (sequence_form k ms is) (formed nodes i header t e y k of) in
       let apart : are_members_apart (tags_at nodes n) ms ≡ true =
-      subst (λ l. are_members_apart (tags_at nodes n) l ≡ true) (sequence_members k ms is) (ok.members i k of) in
+      subst (λ (l : List Member). are_members_apart (tags_at nodes n) l ≡ true) (sequence_members k ms is)
+      (ok.members i k of) in
       of_members nodes n ms content no_members d x ok apart z.content no_members e
       (same_content header 0x30 0x30 content z.content s t same encoded z.encoded) refl z.members
   of_value nodes n i header s d (IsJson.list _ _ j tag _ k content _ ds of is encoded x) ok free t e same y =
@@ -175,7 +191,7 @@ mutual
       let items : ds ≡ z.inside.items =
       of_items nodes n j content ds x ok z.content z.inside.items
       (same_content header tag tag content z.content s t same encoded z.encoded) z.inside.each in
-      ap (λ l. array (items_of l)) items ∙ sym z.inside.is
+      ap (λ (l : List Data). array (items_of l)) items ∙ sym z.inside.is
   of_value nodes n i header s d (IsJson.choice _ _ place _ k cs a _ v of is there x) ok free t e same y =
       let z : IsAlternative nodes cs header t e =
       as_formed nodes k (Form.choice cs) header t e (choice_form k cs is) (formed nodes i header t e y k of) in
@@ -184,16 +200,17 @@ mutual
       let g : IsFront nodes z.alternative.node t =
       front nodes z.alternative.node header t z.inside z.json h ok.short in
       let apart : are_all_apart (tags_at nodes n) (map (λ a. a.node) cs) ≡ true =
-      subst (λ l. are_all_apart (tags_at nodes n) (map (λ a. a.node) l) ≡ true) (choice_alternatives k cs is)
-      (ok.alternatives i k of) in
+      subst (λ (l : List Alternative). are_all_apart (tags_at nodes n) (map (λ a. a.node) l) ≡ true)
+      (choice_alternatives k cs is) (ok.alternatives i k of) in
       let tags = tlv-same g.tag f.tag g.content f.content (sym g.is ∙ sym same ∙ f.is) in
       let one : a ≡ z.alternative =
       one_alternative (tags_at nodes n) f.tag cs place z.place a z.alternative apart there z.there (f.has n)
-      (subst (λ l. has_tag (tags_at nodes n z.alternative.node) l ≡ true) tags.0 (g.has n)) in
+      (subst (λ (l : ℕ). has_tag (tags_at nodes n z.alternative.node) l ≡ true) tags.0 (g.has n)) in
       let inner : v ≡ z.inside =
       of_value nodes n a.node header s v x ok (inl h) t z.inside same
       (subst (λ (c : Alternative). IsJson nodes c.node header t z.inside) (sym one) z.json) in
-      ap₂ (λ name w. object (member name w no_members)) (ap (λ (c : Alternative). c.name.now) one) inner ∙ sym z.is
+      let name : a.name.now ≡ z.alternative.name.now = ap (λ (c : Alternative). c.name.now) one in
+      ap₂ (λ (x : List ℕ) (w : Data). object (member x w no_members)) name inner ∙ sym z.is
   of_value nodes n i header s d (IsJson.wrapped _ _ j _ w content _ v of encoded x) ok free t e same y =
       let z : IsWrapped nodes w j t e = formed nodes i header t e y (kind.Wrapped w j) of in
       let inner : v ≡ z.inside =
@@ -208,7 +225,7 @@ mutual
   of_value nodes n i header s d (IsJson.any _ _ _ k _ _ of is x) ok free t e same y =
       let z : IsAny t e =
       as_formed nodes k Form.any header t e (any_form k is) (formed nodes i header t e y k of) in
-      x.is ∙ ap (λ l. string (encode_upper l)) same ∙ sym z.is
+      x.is ∙ ap (λ (l : List ℕ). string (encode_upper l)) same ∙ sym z.is
 
   of_members : (nodes : List Node) (n : ℕ) (ms : List Member) (s : List ℕ) (before : Members) (d : Data)
       → AreMembers nodes ms s before d → IsSound nodes n → are_members_apart (tags_at nodes n) ms ≡ true → (t : List ℕ)
@@ -238,15 +255,15 @@ mutual
   of_items nodes n i s ds (AreItems.end-of-items _ _) ok t es same (AreItems.end-of-items _ _) = refl
   of_items nodes n i s ds (AreItems.end-of-items _ _) ok t es same (AreItems.item _ _ second more e others y ys) =
       let g : IsFront nodes i second = front nodes i true second e y refl ok.short in
-      absurd (not_empty g.tag g.content more (same ∙ ap (λ l. l ++ more) g.is))
+      absurd (not_empty g.tag g.content more (same ∙ ap (λ (l : List ℕ). l ++ more) g.is))
   of_items nodes n i s ds (AreItems.item _ _ first rest d later x xs) ok t es same (AreItems.end-of-items _ _) =
       let f : IsFront nodes i first = front nodes i true first d x refl ok.short in
-      absurd (not_empty f.tag f.content rest (sym same ∙ ap (λ l. l ++ rest) f.is))
+      absurd (not_empty f.tag f.content rest (sym same ∙ ap (λ (l : List ℕ). l ++ rest) f.is))
   of_items nodes n i s ds (AreItems.item _ _ first rest d later x xs) ok t es same
       (AreItems.item _ _ second more e others y ys) =
       let parts = same_parts nodes i first second rest more (front nodes i true first d x refl ok.short)
       (front nodes i true second e y refl ok.short) same in
-      ap₂ (λ v vs. v ∷ vs) (of_value nodes n i true first d x ok (inl refl) second e parts.0 y)
+      ap₂ (λ (v : Data) (vs : List Data). v ∷ vs) (of_value nodes n i true first d x ok (inl refl) second e parts.0 y)
       (of_items nodes n i rest later xs ok more others parts.1 ys)
 
 pub one_json : OneJson
