@@ -19,6 +19,7 @@ use Rattle.der_schema.specs.declared.node.Member.{Member}
 use Rattle.der_schema.specs.declared.node.Node.{Node}
 use Rattle.der_schema.specs.declared.node.Presence.{Presence}
 use Rattle.der_schema.specs.declared.node.Presence.TheVariants as presence
+use Rattle.der_schema.specs.OneForm.{has_short_tag}
 use Rattle.der_schema.specs.Rules.{are_all_apart, are_members_apart, is_required, next_tags}
 use Rattle.der_schema.specs.Tags.{alternatives_of, are_apart, has_tag, own_tag, same_type, tags_at, tags_of_any}
 use Rattle.der_schema.specs.Tags.{tags_of_kind, tags_of_node, tags_of_own}
@@ -27,7 +28,6 @@ use Rattle.der_schema.proofs.TagSets.{none-both, of_alternative, or-first}
 use Rattle.der_json.specs.Contents.{plain_tag}
 use Rattle.der_json.specs.Json.{AreMembers, IsJson, IsOfKind, alternatives_in, can_be_absent, is_any, list_of}
 use Rattle.der_json.specs.Json.{members_in, same_as}
-use Rattle.der_json.specs.Laws.{has_short_tag}
 
 -- the element at the front of a value with its header, whose tag is one of the type's
 pub record IsFront (nodes : List Node) (i : ℕ) (s : List ℕ) : Type 0 where
@@ -46,7 +46,7 @@ plain_own : (k : Kind) (tag : ℕ) → plain_tag k ≡ Some tag → own_tag k �
 plain_own kind.Boolean tag e = e
 plain_own _ tag e = cc
 
-same_types : (k : Kind) (j : ℕ) → same_as k ≡ Some j → same_type k ≡ Some j
+pub same_types : (k : Kind) (j : ℕ) → same_as k ≡ Some j → same_type k ≡ Some j
 same_types (kind.Reference i) j e = e
 same_types _ j e = cc
 

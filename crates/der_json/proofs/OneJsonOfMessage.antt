@@ -17,19 +17,20 @@ use Rattle.der_schema.specs.declared.node.Kind.{Kind}
 use Rattle.der_schema.specs.declared.node.Kind.TheVariants as kind
 use Rattle.der_schema.specs.declared.node.Member.{Member}
 use Rattle.der_schema.specs.declared.node.Node.{Node}
+use Rattle.der_schema.specs.OneForm.{content_only, has_one_form, has_one_form_at, has_short_tag, has_two_forms}
+use Rattle.der_schema.specs.OneForm.{is_choice, is_choice_kind, unless_header}
 use Rattle.der_schema.specs.Rules.{are_all_apart, are_members_apart, index_holds, in_set, is_in_tag, is_required}
 use Rattle.der_schema.specs.Rules.{keeps_default, keeps_rules, keeps_rules_at, keeps_set, keeps_tag, members_of}
 use Rattle.der_schema.specs.Rules.{next_tags, node_holds}
-use Rattle.der_schema.specs.Tags.{alternatives_of, are_apart, has_tag, tags_at}
+use Rattle.der_schema.specs.Tags.{alternatives_of, are_apart, has_tag, same_type, tags_at}
 use Rattle.der_json.specs.Contents.{IsContentJson, IsPlain}
 use Rattle.der_json.specs.Json.{AreItems, AreMembers, IsAlternative, IsAny, IsJson, IsOfKind, alternatives_in}
 use Rattle.der_json.specs.Json.{members_in, same_as, wrapped_data}
-use Rattle.der_json.specs.Laws.{OneJson, content_only, has_one_form, has_one_form_at, has_short_tag, has_two_forms}
-use Rattle.der_json.specs.Laws.{is_choice, is_choice_kind, unless_header}
+use Rattle.der_json.specs.Laws.{OneJson}
 use Rattle.der_json.proofs.Forms.{Form, IsListed, IsSequence, IsUnder, IsWrapped, any_form, as_formed, choice_form}
 use Rattle.der_json.proofs.Forms.{formed, list_form, plain_form, same_form, sequence_form}
 use Rattle.der_json.proofs.Fronts.{HasShortTags, IsFront, choice_alternatives, front, not_absent, not_empty}
-use Rattle.der_json.proofs.Fronts.{one_alternative}
+use Rattle.der_json.proofs.Fronts.{one_alternative, same_types}
 use Rattle.der_json.proofs.NameLemmas.{kind_holds}
 use Rattle.der_json.proofs.OneJson.{one_json_of_content}
 
@@ -95,16 +96,17 @@ test_of p (Some node) k e = let same : node.kind ≡ k = cc in ap p same
 
 -- neither the type nor the one that it is of is a CHOICE
 no_choice : (nodes : List Node) (n i : ℕ) (k : Kind) → IsOfKind nodes i k → is_choice nodes (suc n) i ≡ false
-    → (is_choice_kind k ≡ false) × (index_holds (is_choice nodes n) (same_as k) ≡ false)
+    → (is_choice_kind k ≡ false) × (index_holds (is_choice nodes n) (same_type k) ≡ false)
 no_choice nodes n i k of e =
-    either (is_choice_kind k) (index_holds (is_choice nodes n) (same_as k))
-    (sym (test_of (λ l. is_choice_kind l || index_holds (is_choice nodes n) (same_as l)) (slice_get nodes i) k of) ∙ e)
+    either (is_choice_kind k) (index_holds (is_choice nodes n) (same_type k))
+    (sym (test_of (λ l. is_choice_kind l || index_holds (is_choice nodes n) (same_type l)) (slice_get nodes i) k of)
+    ∙ e)
 
 not_of_choice : (nodes : List Node) (i j : ℕ) (k : Kind) → IsOfKind nodes i k → same_as k ≡ Some j → (n : ℕ)
     → is_choice nodes n i ≡ false → (m : ℕ) × (is_choice nodes m j ≡ false)
 not_of_choice nodes i j k of is zero e = absurd (false≢true (sym e))
 not_of_choice nodes i j k of is (suc n) e =
-    (n, ap (index_holds (is_choice nodes n)) (sym is) ∙ (no_choice nodes n i k of e).1)
+    (n, ap (index_holds (is_choice nodes n)) (sym (same_types k j is)) ∙ (no_choice nodes n i k of e).1)
 
 free_same : (nodes : List Node) (header : Bool) (i j : ℕ) (k : Kind) → IsOfKind nodes i k → same_as k ≡ Some j
     → IsFree nodes header i → IsFree nodes header j
