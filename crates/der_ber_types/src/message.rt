@@ -16,8 +16,9 @@ ghost use Rattle.der_ber_types.specs.Refusals.{IsRefusal};
 
 use crate::ToDerError;
 use crate::content::one_in_der;
-use crate::contents::{copied, push_header};
+use crate::contents::copied;
 use crate::error::TypeError;
+use crate::header::push_header;
 use der_ber::with_whole_strings;
 use der_path::first_element;
 use der_schema::Schema;
