@@ -86,9 +86,8 @@ SHOWN = {
 }
 
 # What is done before the commands of a page: the files that it names are made.
-PAIR = "Pair ::= SEQUENCE { one Certificate, two Certificate }"
 BEFORE = {
-    "docs/ASN1.md": file_with("Mine.asn1", "Mine DEFINITIONS ::= BEGIN IMPORTS Certificate FROM PKIX1Explicit88;", PAIR, "END"),
+    "docs/ASN1.md": file_with("Mine.asn1", "Mine DEFINITIONS ::= BEGIN IMPORTS Name FROM PKIX1Explicit88;", "Pair ::= SEQUENCE { one Name, two Name }", "END"),
     "docs/LANGUAGES.md": f"cp {CERTIFICATE} certificate.der",
     "docs/TOOL.md": f"cp {CERTIFICATE} message.der",
 }
