@@ -16,7 +16,7 @@ COSTLY = {
     r"^\./run-tests|^rt ci": "proves everything, in hours",
     r"^tools/wrong-bodies (?!--apply)|^rt plant": "checks a crate for each wrong body",
     r"^\./run-der(?!.*--unproved)|run-der-tool|\bder (show|read|cms|certificate|write) ": "proves a program",
-    r"\brt (check|run)|^tools/build-archive|--built|^tools/show-rows crates": "proves crates, or needs their programs",
+    r"\brt (check|run|tidy)|^tools/build-archive|--built|^tools/show-rows crates": "proves crates, or needs their programs",
     r"^tools/(ber-readers|ber-reports|named-paths|der-cases|progress|signatures|requests)": "needs programs that are proved",
     r"^make|tools/(bindings|page)\b|\$\(pkg-config|\bcargo |^go ": "needs the library that is proved",
     r"^bench/(?!table)": "proves or builds programs, and measures them for minutes",
