@@ -66,7 +66,8 @@ def compiled(*lines: str) -> str:
 
 
 # The lines that a page shows without a command, by their beginning, and what prints them. The status isn't looked at.
-PRICE = "//! A price.", "mod derived;", "", "/// It.", "#[derive(Drop)]", "pub struct Price {", "    /// 1.", "    pub amount: Option<u8>,", "    /// 2."
+DERIVES = "#[derive(Debug, Drop, PartialEq, Eq)]"
+PRICE = "//! A price.", "mod derived;", "", "/// It.", DERIVES, "pub struct Price {", "    /// 1.", "    pub amount: Option<u8>,", "    /// 2."
 TICKET = "612b3029a003020105a1031b0141a20e300ca003020101a10530031b016ba30d300ba003020112a204040201ff"
 SHOWN = {
     ("docs/ASN1.md", "m.asn1:2:8"): compiled("T ::= [A] NULL"),
