@@ -233,6 +233,8 @@ def schemas(options: argparse.Namespace, modules: list[tree.Module], imported: l
     except OSError as error:
         sys.exit(f"{error.filename}: {error.strerror}")
     meanings, found = declared(Program(modules, problems, imported), listed(options.type), others, how)
+    causes = meanings.causes(meanings.declarations.by_name[it] for it in found)
+    refuse(problems, causes, Allowed(options.allow_raw), Allowed(options.allow_wider))
     if said(problems):
         return 1
     try:

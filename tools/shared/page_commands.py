@@ -28,12 +28,14 @@ COSTLY = {
 CERTIFICATE = "data/pkix/certificate-one.der"
 VALUE = "python3 -c 'import json; print(json.dumps(json.load(open(\"read.json\"))[\"value\"]))' > value.json"
 READ = f"./run-der --unproved read --json certificate {CERTIFICATE} > read.json"
+TABLE = "tools/der_asn1/der_asn1 --schemas crates/tables/src/mine.rt --crate Mine=mine Mine.asn1"
 AS_RUN = {
     ("README.md", "./run-der --unproved read --json certificate FILE"):
         f"set -e; {READ}; {VALUE}; ./run-der --unproved write certificate value.json | cmp - {CERTIFICATE}",
     ("CONTRIBUTING.md", "rt check --only MODULE::FUNCTION"): "rt check --only path::path_at",
     ("CONTRIBUTING.md", "rt plant --only FUNCTION"): "rt plant --only path_at",
     ("CONTRIBUTING.md", "tools/wrong-bodies MODULE.FUNCTION"): "tools/wrong-bodies der_path path.path_at",
+    ("docs/ASN1.md", TABLE): f"sed -i 's/IMPORTS.*//; s/Name/NULL/g' Mine.asn1; tools/der_asn1/der_asn1 --out crates/mine Mine.asn1; {TABLE}",
     ("docs/GATE.md", "tools/wrong-bodies [--functions] [CRATE..] [MODULE.FUNCTION..]"): "tools/wrong-bodies --functions der_path path.path_at",
     ("docs/GATE.md", "tools/x509-inputs"): "tools/x509-inputs --built",
     ("docs/GATE.md", "tools/show-rows"): "tools/show-rows crates/der/out/der show",
