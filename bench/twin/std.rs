@@ -186,6 +186,10 @@ mod vector {
             self.0.pop()
         }
 
+        pub fn split_off(&mut self, at: usize) -> Result<Vec<T>, AllocError> {
+            Ok(Vec(self.0.split_off(at)))
+        }
+
         #[inline(always)]
         pub fn truncate(&mut self, len: usize) {
             self.0.truncate(len);
@@ -209,6 +213,16 @@ mod vector {
         #[inline(always)]
         pub fn as_mut_slice(&mut self) -> &mut [T] {
             &mut self.0
+        }
+    }
+
+    impl<'a, T> IntoIterator for &'a Vec<T> {
+        type Item = &'a T;
+        type IntoIter = std::slice::Iter<'a, T>;
+
+        #[inline(always)]
+        fn into_iter(self) -> std::slice::Iter<'a, T> {
+            self.0.iter()
         }
     }
 
