@@ -19,6 +19,21 @@ from pathlib import Path
 from shared import edits, rattle_source as source, checker
 from shared.checker import Said, judge
 from shared.edits import BadEdit
+if os.environ.get('CYC'):
+    # bodies of different functions of one cycle at once: a goal of a cycle has its function's name in front
+    real_cycles, real_refused = edits.cycles_of, Said.refused_at
+    edits.cycles_of = lambda function, text: []
+    def refused_at(self, label):
+        goals, named = real_refused(self, label)
+        name = label.rsplit('::', 1)[1]
+        mates = cycle_of.get(name, ())
+        if not mates: return goals, named
+        is_mate = lambda goal: any(goal.startswith(f'{it}-') for it in mates if it != name)
+        mine = [g for g in goals if g.startswith(f'{name}-') or not is_mate(g)]
+        # what a proof file names is said with its goal
+        return mine, [n for n in named if (said_goal(self, n) or name).startswith(name)]
+    def said_goal(said, text): return next((f.goal for f in said.faults if f.text == text), '')
+    Said.refused_at = refused_at
 folder = Path(crate.folder)
 texts0 = edits.texts_of(folder); texts0 = texts0; functions0 = edits.all_functions(texts0)
 all_edits = edits.edits_of(folder, 'wrong-bodies') + edits.edits_of(folder, 'must-fail')
@@ -59,6 +74,13 @@ def batch_of(left):
             batch, texts, wanted, touched = [*batch, e], more, then, touched | e.touched
     return batch, texts
 fitted = {}
+cycle_of = {}
+if os.environ.get('CYC'):
+    groups = {}
+    for f, text in functions0.items():
+        for c in real_cycles(f, text): groups.setdefault(c, []).append(f[2])
+    for g in groups.values():
+        for n in g: cycle_of[n] = g
 HOLLOW = b"{ unreachable!() }"
 import types as types_
 def load(name):
