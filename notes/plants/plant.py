@@ -368,15 +368,16 @@ def main(clone, name, *words):
         copy.load_cache()
         planting.Copy.now = copy
         is_const = lambda f: b"const" in source.data[f.file][f.start : f.named[0]]
-        copy.hollow = [f for f in functions if not f.in_trait and f.has_body and not f.in_cycle and not is_const(f)]
-        for f in copy.hollow:
-            start = "::".join([crate.name, *f.module, ""])
-            own = [s for s in symbols if s.endswith(f"::{f.name}") and (not f.block or f.owner in s)]
-            for s in own or [f"{start}{f.owner + '::' if f.block else ''}{f.name}"]:
-                at = copy.proofs_of(s)
+        # (all functions, also private ones: the callees of methods too)
+        copy.hollow = [f for f in source.functions if not f.in_trait and f.has_body and f.body and not f.in_cycle and not is_const(f)]
+        gone = {(f.name, f.owner if f.block else "/".join(f.module)) for f in copy.hollow}
+        for base, _, parts in list(os.walk(f"{folder}/proofs")):
+            name_, outer = os.path.basename(base), os.path.basename(os.path.dirname(base))
+            below = os.path.relpath(os.path.dirname(base), f"{folder}/proofs")
+            if (name_, outer.split("+")[0]) in gone or (name_, below.replace(".", "") if below == "." else below) in gone:
                 for part in ("Proof.antt", "Invariants.antt", "Answers.antt"):
-                    if os.path.isfile(f"{at}/{part}"):
-                        os.remove(f"{at}/{part}")
+                    if os.path.isfile(f"{base}/{part}"):
+                        os.remove(f"{base}/{part}")
         count = iter(range(1 << 30))
         Plant, Body = planting.Plant, bodies.Body
 
