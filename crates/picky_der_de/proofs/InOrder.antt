@@ -8,7 +8,7 @@ use Rattle.picky_der_de.specs.declared.sequence.order.Next.{Next}
 use Rattle.picky_der_de.specs.State.{State}
 use Rattle.picky_der_de.specs.Steps.{Consumed, Fails, IsJudged, IsMissing, end_is_here, input_ended}
 use Rattle.picky_der_de.specs.Steps.{failed_with}
-use Rattle.picky_der_de.specs.Order.{HasFailedWith, without_order}
+use Rattle.picky_der_de.specs.Order.{HasFailedWith}
 use Rattle.picky_der_de.specs.Refusing.{FailsAs}
 use Rattle.picky_der_de.specs.Ends.{RefusesClose}
 use Rattle.picky_der_de.specs.RefusesBy.{Rule, RefusesBy}
@@ -127,10 +127,6 @@ pub fails_as_in : (a c : State) (kind e : Asn1DerError) (o : Next) → FailsAs k
 fails_as_in a c kind e o h = (h.0, ap (λ (z : State). in_order z o) h.1)
 
 -- the end wasn't reached
-pub close_failed : (a : State) {c : State} (e : Asn1DerError) → a.last ≡ None → c ≡ failed_with a e
-    → c ≡ failed_with (without_order a) e
-close_failed a e none same = same ∙ ap (λ l. record (failed_with a e) { last = l }) none
-
 pub close_refused_in : {A : Type 0} (a c : State) (o : Next) (r : Result A Asn1DerError) → IfErr r (RefusesClose a c)
     → IfErr r (RefusesClose (in_order a o) c)
 close_refused_in a c o (Ok v) k = tt

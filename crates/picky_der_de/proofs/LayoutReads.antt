@@ -521,10 +521,10 @@ module _ {W X : Type 0} {presence : Presence} {prepend : X → Trees → Trees} 
 
   pub layout_member_head : (rule : Rule) {left_out : W → Bool} → IsLeftOut meaning item left_out
       → {V : Type 0} {others : V → Trees} {l : Layout} {AreEqual : V → V → Type 0} (first : V → X)
-      → AreLayoutMembers others l AreEqual → {b d : State} {last : Option (List ℕ)} {e : Asn1DerError}
-      → b.implicit_tag ≡ None → RefusesLayoutMember presence meaning left_out s rule b d last e
+      → AreLayoutMembers others l AreEqual → {b d : State} {e : Asn1DerError}
+      (last : Option (List ℕ)) → b.implicit_tag ≡ None → RefusesLayoutMember presence meaning left_out s rule b d last e
       → RefusesLayout (λ v. prepend (first v) (others v)) (layout_with presence s l) b d e
-  layout_member_head rule {left_out} left {V} {others} {l} first cs {b} {d} {last} {e} whole h =
+  layout_member_head rule {left_out} left {V} {others} {l} first cs {b} {d} {e} last whole h =
       refuses_alike (λ v. c.prepends (first v) (others v)) (by_presence presence c.there h)
     where
       by_presence : (p : Presence) → ((x : X) → IsThere p (item x))

@@ -291,11 +291,11 @@ module _ {W : Type 0} (meaning : W → Tree) (left_out : W → Bool) (s : Shape)
 module _ {W : Type 0} (meaning : W → Tree) (left_out : W → Bool) (s : Shape) (member others : Rule) {b : State}
     (none : b.last ≡ None) (whole : b.implicit_tag ≡ None)
   where
-    pub layout_head_by : {d : State} {last : Option (List ℕ)} {e : Asn1DerError} (presence : Presence)
+    pub layout_head_by : {d : State} {e : Asn1DerError} (last : Option (List ℕ)) (presence : Presence)
         → RefusesLayoutMember presence meaning left_out s (field_rule member) b d last e
         → RefusesBy (layout_rule presence meaning left_out s member others) b d e
-    layout_head_by always h = always_head meaning left_out s member others none whole h.0
-    layout_head_by perhaps h = perhaps_head meaning left_out s member others none whole h
+    layout_head_by last always h = always_head meaning left_out s member others none whole h.0
+    layout_head_by last perhaps h = perhaps_head meaning left_out s member others none whole h
 
     pub layout_next_by : {c d : State} {e : Asn1DerError} (presence : Presence) (o : Option W) → IsThere presence o
         → IfSome o (λ w. left_out w ≡ false) → IfSome o (λ w. ReadsMember s b c (meaning w)) → IfNone o (Lacks s b c)

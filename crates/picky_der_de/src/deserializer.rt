@@ -249,7 +249,9 @@ impl<R: ReadExt> Deserializer<R> {
     #[inline(always)]
     pub(crate) fn has_no_last(&self)
         ensures { self.now.last ≡ None }
-    {}
+    {
+        let _ = &self.alloc;
+    }
 
     // The allocator of the vectors.
     pub(crate) fn alloc(&self) -> Global {
