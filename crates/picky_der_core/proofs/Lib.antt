@@ -8,3 +8,4 @@ pub mod LengthSteps
 pub mod DigitLaws
 pub mod LawProofs
 pub mod HeldLaws
+pub mod BufferedReads

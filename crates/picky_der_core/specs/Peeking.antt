@@ -35,7 +35,7 @@ fetched_byte false peeked = None
 abbrev pub left_in : {R : Type 0} → (R → Option (List ℕ)) → PeekableState R → Option (List ℕ)
 left_in remaining p = prepend (fetched_byte p.fetched p.peeked) (remaining p.reader)
 
--- how many bytes are shown: none while the peeked byte was read from the reader
+-- how many bytes are shown, or held: none while the peeked byte was read from the reader
 abbrev pub shown_by : Bool → ℕ → ℕ
 shown_by true n = 0
 shown_by false n = n
@@ -44,7 +44,7 @@ shown_by false n = n
 abbrev pub IsFirstIn : Option (List ℕ) → ℕ → Type 0
 IsFirstIn left b = IfSome left (λ bytes. take 1 bytes ≡ b ∷ [])
 
--- a peeked byte that the reader still has is the first byte of `ahead`
+-- a peeked byte that the reader still has is the first byte of `held`
 abbrev pub IsShown : Bool → Option ℕ → ℕ → Option (List ℕ) → Type 0
 IsShown true peeked n left = ⊤
 IsShown false None n left = ⊤

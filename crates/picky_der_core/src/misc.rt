@@ -1,6 +1,7 @@
 //! Readers and writers, and lengths.
 
 mod buf_sink;
+mod buffered;
 mod faults;
 mod length;
 mod peekable;
@@ -10,6 +11,7 @@ mod watched;
 mod writer;
 
 pub use buf_sink::BufSink;
+pub use buffered::Buffered;
 pub use faults::Faults;
 pub use length::Length;
 pub use peekable::PeekableReader;

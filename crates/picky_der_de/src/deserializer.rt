@@ -180,14 +180,14 @@ impl<R: ReadExt> Deserializer<R> {
         }
     }
 
-    // The bytes that the reader shows before the innermost end.
+    // The bytes that the reader shows before the innermost end, since they are known to contracts.
     #[inline(always)]
-    pub(crate) fn near(&self) -> &[u8]
+    pub(crate) fn known_near(&self) -> &[u8]
         ensures front { IfSome self.now.input (λ left. StartsWith left result.now) }
         ensures known { IfNone self.now.input (result.now ≡ []) }
         ensures fits { length result.now ≤ self.now.until_end }
     {
-        ahead::near(&self.reader, self.until_end)
+        ahead::known_near(&self.reader, self.until_end)
     }
 
     // How far ahead the innermost end is.

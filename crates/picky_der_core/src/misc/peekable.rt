@@ -34,7 +34,7 @@ impl<R: ReadExt> Model for PeekableReader<R> {
     ghost view = { λ p. record { reader = p.reader; peeked = p.peeked; fetched = p.fetched; pos = p.pos } };
 
     ghost invariant = { λ p. IsByteIfAny p.peeked × (p.pos < 2 ^ 64)
-        × IsShown p.fetched p.peeked (R.shown p.reader) (R.remaining p.reader) };
+        × IsShown p.fetched p.peeked (R.held p.reader) (R.remaining p.reader) };
 }
 
 impl<R: ReadExt> PeekableReader<R> {
@@ -50,7 +50,7 @@ impl<R: ReadExt> PeekableReader<R> {
         }
     }
 
-    /// The next byte without consuming it, or `None` at the end of the input. A byte in `ahead` of the inner reader
+    /// The next byte without consuming it, or `None` at the end of the input. A byte in `held` of the inner reader
     /// stays there. If a byte was peeked already, the inner reader isn't called. Each error is the inner reader's.
     pub fn peek_next(&mut self) -> io::Result<Option<u8>>
         ensures again { IfSome self.old.peeked
@@ -69,7 +69,7 @@ impl<R: ReadExt> PeekableReader<R> {
         ensures same_references { R.references self.new.reader ≡ R.references self.old.reader }
     {
         if self.peeked.is_none() {
-            if let [first, ..] = self.reader.ahead() {
+            if let [first, ..] = self.reader.held() {
                 self.peeked = Some(*first);
                 self.fetched = false;
             } else {
@@ -116,9 +116,9 @@ impl<R: ReadExt> PeekableReader<R> {
         self.pos
     }
 
-    /// Consumes the first `count` bytes of `ahead`, as `take_ahead` does. The position has room for them.
+    /// Consumes the first `count` bytes of `held`, as `take_ahead` does. The position has room for them.
     pub fn take_few(&mut self, count: usize)
-        requires shown { count ≤ shown_by self.old.fetched (R.shown self.old.reader) }
+        requires shown { count ≤ shown_by self.old.fetched (R.held self.old.reader) }
         requires room { self.old.pos + count < 2 ^ 64 }
         ensures consumed { ConsumesFirst (left_in R.remaining self.old)
             (left_in R.remaining self.new) count }
@@ -212,6 +212,8 @@ impl<R: ReadExt> ReadExt for PeekableReader<R> {
 
     ghost shown = { λ p. shown_by p.fetched (R.shown p.reader) };
 
+    ghost held = { λ p. shown_by p.fetched (R.held p.reader) };
+
     fn read_next(&mut self) -> io::Result<Option<u8>>
         ensures byte { GivesNext (left_in R.remaining self.old)
             (left_in R.remaining self.new) result }
@@ -284,8 +286,20 @@ impl<R: ReadExt> ReadExt for PeekableReader<R> {
         self.reader.ahead()
     }
 
+    /// The bytes in `held` of the inner reader, or none while the peeked byte was read from it.
+    fn held(&self) -> &[u8]
+        ensures front { IfSome (left_in R.remaining self.now)
+            (λ bytes. StartsWith bytes result.now) }
+        ensures size { length result.now ≡ shown_by self.now.fetched (R.held self.now.reader) }
+    {
+        if self.fetched {
+            return &[];
+        }
+        self.reader.held()
+    }
+
     fn take_ahead(&mut self, count: usize)
-        requires { count ≤ shown_by self.old.fetched (R.shown self.old.reader) }
+        requires { count ≤ shown_by self.old.fetched (R.held self.old.reader) }
         ensures consumed { ConsumesFirst (left_in R.remaining self.old)
             (left_in R.remaining self.new) count }
         ensures unpeeked { count_of_any self.old.peeked ≤ count → self.new.peeked ≡ None }

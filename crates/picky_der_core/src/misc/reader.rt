@@ -19,6 +19,9 @@ pub trait ReadExt: Read {
     // How many bytes it shows.
     ghost shown: { Self → ℕ };
 
+    // How many bytes it holds, which it also shows if they are known to contracts.
+    ghost held: { Self → ℕ };
+
     /// Consumes the next byte and returns it, or returns `None` at the end of the input. Each error is the reader's,
     /// and consumes no byte.
     fn read_next(&mut self) -> io::Result<Option<u8>>
@@ -46,9 +49,15 @@ pub trait ReadExt: Read {
         ensures size { length result.now ≡ shown self.now }
         ensures known { IfNone (Self.remaining self.now) (result.now ≡ []) };
 
-    /// Consumes the first `count` bytes of `ahead`.
+    /// The next bytes that are in memory already, known to contracts or not, so that no I/O is needed to read them. It
+    /// may be empty before the end of the input. What `ahead` returns is at its front.
+    fn held(&self) -> &[u8]
+        ensures front { IfSome (Self.remaining self.now) (λ bytes. StartsWith bytes result.now) }
+        ensures size { length result.now ≡ held self.now };
+
+    /// Consumes the first `count` bytes of `held`.
     fn take_ahead(&mut self, count: usize)
-        requires { count ≤ shown self.old }
+        requires { count ≤ held self.old }
         ensures consumed { ConsumesFirst (Self.remaining self.old) (Self.remaining self.new) count }
         ensures no_fault { faults self.new ≡ faults self.old }
         ensures same_references { references self.new ≡ references self.old };
@@ -76,6 +85,8 @@ impl ReadExt for &[u8] {
 
     ghost shown = { λ bytes. length bytes.now };
 
+    ghost held = { λ bytes. length bytes.now };
+
     fn read_next(&mut self) -> io::Result<Option<u8>> {
         let bytes = *self;
         match bytes {
@@ -95,6 +106,10 @@ impl ReadExt for &[u8] {
         *self
     }
 
+    fn held(&self) -> &[u8] {
+        *self
+    }
+
     fn take_ahead(&mut self, count: usize) {
         let bytes = *self;
         *self = &bytes[count..];
@@ -108,6 +123,8 @@ impl<R: ReadExt> ReadExt for &mut R {
 
     ghost shown = { λ r. R.shown r.now };
 
+    ghost held = { λ r. R.held r.now };
+
     fn read_next(&mut self) -> io::Result<Option<u8>> {
         ReadExt::read_next(&mut **self)
     }
@@ -118,6 +135,10 @@ impl<R: ReadExt> ReadExt for &mut R {
 
     fn ahead(&self) -> &[u8] {
         ReadExt::ahead(&**self)
+    }
+
+    fn held(&self) -> &[u8] {
+        ReadExt::held(&**self)
     }
 
     fn take_ahead(&mut self, count: usize) {

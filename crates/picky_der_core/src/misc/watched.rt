@@ -87,6 +87,8 @@ impl<T: Read> ReadExt for Watched<T> {
 
     ghost shown = { λ _. 0 };
 
+    ghost held = { λ _. 0 };
+
     fn read_next(&mut self) -> io::Result<Option<u8>> {
         let mut byte = [0];
         match self.read(&mut byte) {
@@ -101,6 +103,10 @@ impl<T: Read> ReadExt for Watched<T> {
     }
 
     fn ahead(&self) -> &[u8] {
+        &[]
+    }
+
+    fn held(&self) -> &[u8] {
         &[]
     }
 

@@ -99,11 +99,20 @@ fn copied(alloc: Global, bytes: &[u8]) -> std::result::Result<Vec<u8>, AllocErro
     Vec::from_slice(alloc, bytes)
 }
 
-// The bytes that the reader shows before the innermost end.
+// The bytes that the reader holds before the innermost end.
 pub(super) fn near<R: ReadExt>(reader: &PeekableReader<R>, until_end: usize) -> &[u8]
     ensures front { IfSome (left_in R.remaining reader.now) (λ left. StartsWith left result.now) }
+    ensures shown { length result.now ≤ shown_by reader.now.fetched (R.held reader.now.reader) }
+    ensures fits { length result.now ≤ until_end }
+{
+    let held = reader.held();
+    &held[..held.len().min(until_end)]
+}
+
+// Those that it shows, since they are known to contracts.
+pub(super) fn known_near<R: ReadExt>(reader: &PeekableReader<R>, until_end: usize) -> &[u8]
+    ensures front { IfSome (left_in R.remaining reader.now) (λ left. StartsWith left result.now) }
     ensures known { IfNone (left_in R.remaining reader.now) (result.now ≡ []) }
-    ensures shown { length result.now ≤ shown_by reader.now.fetched (R.shown reader.now.reader) }
     ensures fits { length result.now ≤ until_end }
 {
     let ahead = reader.ahead();

@@ -135,7 +135,7 @@ pub(super) fn read_in_set<T: Deserialize, R: ReadExt>(
     let Next::InOrder = *next else {
         return read_unseen(de, next);
     };
-    let Some(count) = next_at_front(de.near(), de.until_end()) else {
+    let Some(count) = next_at_front(de.known_near(), de.until_end()) else {
         return read_unseen(de, next);
     };
     let member = de.seen_ahead(count);

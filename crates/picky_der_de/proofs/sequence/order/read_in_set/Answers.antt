@@ -5,13 +5,13 @@ use Rattle.picky_der_de.proofs.sequence.order.read_in_set.Goals as goal
 
 pub returns-in-Ok-clause-ok : goal.returns-in-Ok-clause-ok
 returns-in-Ok-clause-ok g c =
-    let n = c.near.ensures in
+    let n = c.known_near.ensures in
     next_reads c.args.next.now n.front n.known c.in-Some.ensures c.requires.whole c.in-Ok.ensures.ok
     c.seen_ahead-member.ensures c.set_seen.ensures c.in-InOrder.is c.requires.had_not_failed c.requires.compared n.fits
 
 pub returns-in-Ok-clause-compared : goal.returns-in-Ok-clause-compared
 returns-in-Ok-clause-compared g c =
-    let n = c.near.ensures in
+    let n = c.known_near.ensures in
     next_still_compared c.args.next.now n.front n.known c.in-Some.ensures c.requires.whole c.in-Ok.ensures.ok
     c.seen_ahead-member.ensures c.set_seen.ensures (sym c.until_end.ensures)
 

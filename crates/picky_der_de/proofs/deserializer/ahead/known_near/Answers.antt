@@ -1,6 +1,6 @@
 use Rattle.std.proofs.Common.{◌≡◌, ℕ, List, [], Option, Some, None, IfNone, take, ap, ◌∙◌, arith}
 use Rattle.std.proofs.lemmas.Grind.{common_steps}
-use Rattle.picky_der_de.proofs.deserializer.ahead.near.Goals as goal
+use Rattle.picky_der_de.proofs.deserializer.ahead.known_near.Goals as goal
 
 take_nothing : (n : ℕ) → take {A = ℕ} n [] ≡ []
 take_nothing n = grind (arith, common_steps)
