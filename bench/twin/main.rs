@@ -1,8 +1,9 @@
 //! Writes or reads each line of hexadecimal digits of standard input many times.
 //!
-//!     twin struct|structs|list|set|certificate write|read|read-whole TIMES < ENCODINGS
+//!     twin struct|structs|list|set|certificate write|read|read-whole|read-watched|read-buffered TIMES < ENCODINGS
 //!
 //! A list and a set are of numbers. `read` is by `from_bytes`, and `read-whole` by `from_der`, whose error has a position.
+//! `read-watched` and `read-buffered` are by `from_reader`, from a buffer that isn't shown and one that is.
 //! With the configuration `paths` the program also has the table of a certificate, by which it looks for the path of an
 //! error.
 mod certificate;
@@ -12,10 +13,13 @@ mod table;
 use certificate::Certificate;
 use picky_der_core::Result;
 use picky_der_core::asn1::{Asn1SetOf, ByteBuf};
-use picky_der_core::misc::{ReadExt, WriteExt};
-use picky_der_de::{Deserialize, Deserializer, Struct, deserialize_struct_as, from_bytes, from_der};
+use picky_der_core::misc::{Buffered, ReadExt, Watched, WriteExt};
+use picky_der_de::{
+    Deserialize, Deserializer, Struct, deserialize_struct_as, from_bytes, from_der, from_reader,
+};
 use picky_der_ser::{Serialize, SerializeMembers, Serializer, to_vec};
 use rattle_std::alloc::Global;
+use rattle_std::io::BufReader;
 use rattle_std::prelude::*;
 use std::hint::black_box;
 
@@ -60,6 +64,18 @@ fn read<T: Deserialize>(bytes: &[u8]) -> T {
 }
 
 #[inline(never)]
+fn read_watched<T: Deserialize>(bytes: &[u8]) -> T {
+    let mut reader = Watched::new(BufReader::new(Global, bytes).unwrap());
+    from_reader(Global, &mut reader).unwrap()
+}
+
+#[inline(never)]
+fn read_buffered<T: Deserialize>(bytes: &[u8]) -> T {
+    let mut reader = Buffered::new(BufReader::new(Global, bytes).unwrap());
+    from_reader(Global, &mut reader).unwrap()
+}
+
+#[inline(never)]
 fn read_whole<T: Deserialize>(bytes: &[u8]) -> T {
     match from_der(Global, bytes) {
         Ok(value) => value,
@@ -97,6 +113,8 @@ fn run<T: Serialize + Deserialize>(bytes: &[u8], way: &str, times: u32) {
     for _ in 0..times {
         match way {
             "write" => drop(black_box(write(black_box(&value)))),
+            "read-watched" => drop(black_box(read_watched::<T>(black_box(bytes)))),
+            "read-buffered" => drop(black_box(read_buffered::<T>(black_box(bytes)))),
             "read-whole" => drop(black_box(read_whole::<T>(black_box(bytes)))),
             _ => drop(black_box(read::<T>(black_box(bytes)))),
         }

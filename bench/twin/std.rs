@@ -67,6 +67,48 @@ pub mod io {
         fn read(&mut self, buf: &mut [u8]) -> Result<usize>;
     }
 
+    pub trait BufRead {
+        fn consume(&mut self, amount: usize);
+    }
+
+    /// A reader with a buffer of 8 KiB.
+    pub struct BufReader<R> {
+        inner: R,
+        buf: std::vec::Vec<u8>,
+        start: usize,
+        end: usize,
+    }
+
+    impl<R: Read> BufReader<R> {
+        pub fn new(_alloc: crate::alloc::Global, inner: R) -> Result<BufReader<R>> {
+            Ok(BufReader { inner, buf: vec![0; 8192], start: 0, end: 0 })
+        }
+
+        pub fn buffer(&self) -> &[u8] {
+            &self.buf[self.start..self.end]
+        }
+    }
+
+    impl<R: Read> Read for BufReader<R> {
+        fn read(&mut self, buf: &mut [u8]) -> Result<usize> {
+            if self.start == self.end {
+                self.start = 0;
+                self.end = 0;
+                self.end = self.inner.read(&mut self.buf)?;
+            }
+            let count = buf.len().min(self.end - self.start);
+            buf[..count].copy_from_slice(&self.buf[self.start..self.start + count]);
+            self.start += count;
+            Ok(count)
+        }
+    }
+
+    impl<R: Read> BufRead for BufReader<R> {
+        fn consume(&mut self, amount: usize) {
+            self.start = self.end.min(self.start + amount);
+        }
+    }
+
     pub trait Write {
         fn write(&mut self, bytes: &[u8]) -> Result<usize>;
 

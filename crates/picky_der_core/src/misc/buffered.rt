@@ -10,8 +10,8 @@ use super::{Faults, ReadExt};
 use std::io;
 use std::io::{BufRead, BufReader, Read};
 
-/// Any reader with a buffer in front, as a file or a pipe. Elements that are in the buffer whole are read in one step. The
-/// buffer is filled by one read of the inner reader, so more bytes may have been read from that than were consumed.
+/// Any reader with a buffer in front, as a file or a pipe. Elements that are in the buffer whole are read in one step.
+/// The buffer is filled by one read of the inner reader, so that may have given more bytes than were consumed.
 ///
 /// Its bytes are known as far as the inner reader's are. Each of its I/O errors is known to contracts, with its kind.
 #[derive(Drop)]
