@@ -31,6 +31,7 @@ pub mod Reader
 pub mod ReaderLaws
 pub mod Writer
 pub mod Peeking
+pub mod PeekingLaws
 pub mod Sink
 pub mod SliceSink
 pub mod SliceSinkLaws

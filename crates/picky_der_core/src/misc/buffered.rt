@@ -1,5 +1,6 @@
 //! Readers with a buffer in front, which show what is in it.
 ghost use Rattle.std.specs.Prelude.{◌≡◌, [], ◌∷◌, length, IfErr, OnOk};
+ghost use Rattle.std.proofs.Common.{zero-le};
 ghost use Rattle.std.specs.IoError.{error_kind};
 ghost use Rattle.std.specs.Io.KnownBytes.{ReadConsumes};
 ghost use Rattle.std.specs.Io.{ReadsAtMost};
@@ -107,4 +108,6 @@ impl<R: Read> ReadExt for Buffered<R> {
     fn take_ahead(&mut self, count: usize) {
         self.inner.consume(count);
     }
+
+    ghost shown_held = { λ _. zero-le };
 }

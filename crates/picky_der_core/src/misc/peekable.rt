@@ -7,6 +7,7 @@ ghost use Rattle.std.specs.Io.{ReadsAtMost, StartsWith};
 ghost use Rattle.picky_der_core.specs.Reader.{GivesByte, GivesNext, ConsumesFirst, CountsFault, FailsOnce};
 ghost use Rattle.picky_der_core.specs.Peeking.{prepend, left_in, shown_by, IsFirstIn, IsByteIfAny, count_of_any};
 ghost use Rattle.picky_der_core.specs.Peeking.{position_after};
+ghost use Rattle.picky_der_core.specs.PeekingLaws.{shown_by-le};
 
 use super::ReadExt;
 use std::io;
@@ -337,4 +338,6 @@ impl<R: ReadExt> ReadExt for PeekableReader<R> {
             Err(error) => Err(error),
         }
     }
+
+    ghost shown_held = { λ p. shown_by-le p.fetched (R.shown_held p.reader) };
 }

@@ -1,5 +1,6 @@
 //! Readers of one byte or of a piece at a time.
 ghost use Rattle.std.specs.Prelude.{◌≡◌, ◌≤◌, ℕ, List, [], ◌∷◌, length, IfNone, IfSome, OnOk, IfErr};
+ghost use Rattle.std.proofs.Common.{le_refl};
 ghost use Rattle.std.specs.Io.KnownBytes.{ReadConsumes};
 ghost use Rattle.std.specs.Io.{ReadsAtMost, StartsWith};
 ghost use Rattle.picky_der_core.specs.Faults.{Fault};
@@ -76,6 +77,9 @@ pub trait ReadExt: Read {
             Err(error) => Err(error),
         }
     }
+
+    // What is shown is held.
+    ghost shown_held: { (reader : Self) → shown reader ≤ held reader };
 }
 
 impl ReadExt for &[u8] {
@@ -114,6 +118,8 @@ impl ReadExt for &[u8] {
         let bytes = *self;
         *self = &bytes[count..];
     }
+
+    ghost shown_held = { λ bytes. le_refl (length bytes.now) };
 }
 
 impl<R: ReadExt> ReadExt for &mut R {
@@ -144,4 +150,6 @@ impl<R: ReadExt> ReadExt for &mut R {
     fn take_ahead(&mut self, count: usize) {
         ReadExt::take_ahead(&mut **self, count)
     }
+
+    ghost shown_held = { λ r. R.shown_held r.now };
 }

@@ -4,7 +4,7 @@ ghost use Rattle.std.specs.IoError.{error_kind};
 ghost use Rattle.std.specs.declared.io.ErrorKind.TheVariants.{WriteZero};
 ghost use Rattle.std.specs.Io.KnownBytes.{Appends, WriteAppends, ReadConsumes};
 ghost use Rattle.std.specs.Io.{WritesAtMost, ReadsAtMost};
-ghost use Rattle.std.proofs.Common.{refl};
+ghost use Rattle.std.proofs.Common.{refl, zero-le};
 ghost use Rattle.picky_der_core.specs.Faults.{faults_reported};
 ghost use Rattle.picky_der_core.specs.Writer.{AppendsTooFew};
 
@@ -113,6 +113,8 @@ impl<T: Read> ReadExt for Watched<T> {
     fn take_ahead(&mut self, count: usize) {
         let _ = count;
     }
+
+    ghost shown_held = { λ _. zero-le };
 }
 
 impl<T: Write> Write for Watched<T> {
