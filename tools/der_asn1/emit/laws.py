@@ -8,7 +8,6 @@ from collections.abc import Iterable
 
 from ..meaning.declarations import AddedDeclaration, ChoiceDeclaration, Declaration, StructDeclaration, UnionDeclaration
 from .layout import STEP
-from .many import has_many
 from .private_names import PrivateNames
 from .struct import tuple_names
 
@@ -36,10 +35,10 @@ def with_named_laws(lines: list[str], declared: Declaration, names: PrivateNames
 
 def laws_of(declared: Declaration, names: PrivateNames) -> dict[str, list[str]]:
     """The fields of the record of each law, by the trait that has it. One field alone is the law itself."""
-    if isinstance(declared, UnionDeclaration) and not has_many(declared):
+    if isinstance(declared, UnionDeclaration):
         part = names.of(declared, "Parts")
         return {"Exact": [f"premise = ⟦<{part} as ExactAlternatives>⟧.exact_alternatives", *_NOTATED]}
-    if isinstance(declared, ChoiceDeclaration) and not has_many(declared):
+    if isinstance(declared, ChoiceDeclaration):
         part = names.of(declared, "Parts")
         return {
             "Deserialize": [f"premise = ⟦<{part} as Alternatives>⟧.premise", *_EQUAL],
