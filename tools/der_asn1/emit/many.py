@@ -96,7 +96,7 @@ def many_lines(types: Sequence[str], end: str) -> list[str]:
 def many_law(types: Sequence[str], end: str) -> list[str]:
     """The lines of the law of a type with these alternatives, by those of each type."""
     first, *more = _lines(types, _PROVED, "exact", f"⟦<{end} as ExactAlternatives>⟧.exact_alternatives")
-    proved = [f"{STEP}  premise = {first.strip()}", *more[:-1], f"{more[-1]};"]
+    proved = [f"{STEP}  premise = {first.strip()}", *(f"  {it}" for it in more[:-1]), f"  {more[-1]};"]
     return [f"{STEP}ghost exact = {{ record {{", *proved, f"{STEP}  notated = refl;", f"{STEP}  means = refl;", f"{STEP}}} }};"]
 
 

@@ -43,7 +43,7 @@ class ManyAlternatives(unittest.TestCase):
         text = files_of(numbered(12, ", ..."))["src/types.rt"]
         law = text.partition("impl Exact for T {")[2].partition("ghost exact = {")[2].partition("\n}")[0].split("\n")
         self.assertTrue(law[1].startswith("      premise = (four_proved ⟦<TPart1 as Exact>⟧.exact ⟦<TPart2 as Exact>⟧.exact "))
-        self.assertEqual("        ⟦<NoneOf as ExactAlternatives>⟧.exact_alternatives))));", law[-4])
+        self.assertEqual("          ⟦<NoneOf as ExactAlternatives>⟧.exact_alternatives))));", law[-4])
 
     def test_a_choice_without_later_alternatives(self):
         files = files_of(numbered(31))
