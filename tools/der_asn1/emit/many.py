@@ -95,27 +95,27 @@ def many_lines(types: Sequence[str], end: str) -> list[str]:
 
 def many_law(types: Sequence[str], end: str) -> list[str]:
     """The lines of the law of a type with these alternatives, by those of each type."""
-    first, *more = _lines(types, _PROVED, "exact", f"⟦<{end} as ExactAlternatives>⟧.exact_alternatives")
-    proved = [f"{STEP}  premise = {first.strip()}", *(f"  {it}" for it in more[:-1]), f"  {more[-1]};"]
+    first, *more = _lines(types, _PROVED, "exact", f"⟦<{end} as ExactAlternatives>⟧.exact_alternatives", f"{_INDENT}  ")
+    proved = [f"{STEP}  premise = {first.strip()}", *more[:-1], f"{more[-1]};"]
     return [f"{STEP}ghost exact = {{ record {{", *proved, f"{STEP}  notated = refl;", f"{STEP}  means = refl;", f"{STEP}}} }};"]
 
 
-def _lines(types: Sequence[str], word: str, item: str, last: str) -> list[str]:
+def _lines(types: Sequence[str], word: str, item: str, last: str, indent: str = _INDENT) -> list[str]:
     """The lines of a term of this item of each type: four at a time, and the last three one by one."""
     fours = len(types) // FOUR * FOUR
     groups = [types[at : at + FOUR] for at in range(0, fours, FOUR)] + [[it] for it in types[fours:]]
     words = [[f"⟦<{it} as Exact>⟧.{item}" for it in group] for group in groups]
-    lines = [line for it in words for line in _group_lines(f"{_FOUR if len(it) == FOUR else _NEXT}_{word}", it)]
-    return [*lines, f"{_INDENT}{last}{')' * len(groups)}"]
+    lines = [line for it in words for line in _group_lines(f"{indent}({_FOUR if len(it) == FOUR else _NEXT}_{word}", it, indent)]
+    return [*lines, f"{indent}{last}{')' * len(groups)}"]
 
 
-def _group_lines(name: str, words: Sequence[str]) -> list[str]:
-    """The lines of some alternatives, without those after them."""
-    lines, now = [], f"{_INDENT}({name}"
+def _group_lines(now: str, words: Sequence[str], indent: str) -> list[str]:
+    """The lines of some alternatives, without those after them. The first one begins so."""
+    lines = []
     for word in words:
         if len(f"{now} {word}") > GHOST_WIDTH and now.strip():
             lines.append(now)
-            now = f"{_INDENT}{word}"
+            now = f"{indent}{word}"
         else:
             now = f"{now} {word}"
     return [*lines, now]
