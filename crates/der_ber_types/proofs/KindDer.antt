@@ -24,7 +24,7 @@ use Rattle.picky_der_core.specs.WrapperLaws.{wrapper_tag_number, has_tag_number-
 use Rattle.der_types.specs.Denotes.{Denotes}
 use Rattle.der_types.specs.Notation.{Notation}
 use Rattle.der_types.specs.PrimitiveForm.{primitive_form}
-use Rattle.der_error_path.proofs.Nodes.{before, one_node, past_end}
+use Rattle.der_schema.proofs.Nodes.{before, one_node, past_end}
 use Rattle.der_schema.specs.NotationOf.{type_at, type_from, notation_of}
 use Rattle.der_schema.specs.declared.node.Alternative.{Alternative}
 use Rattle.der_schema.specs.declared.node.Kind.{Kind}

@@ -13,7 +13,7 @@ use Rattle.der_types.specs.Denotes.{Denotes, DenoteFirst, DenoteMembers, DenoteO
 use Rattle.der_types.specs.Notation.{Notation, Alternatives}
 use Rattle.der_types.specs.NotationForms.{Value, default-of}
 use Rattle.der_path.proofs.Elements.{none_of_empty}
-use Rattle.der_error_path.proofs.Nodes.{before, earlier, not_earlier}
+use Rattle.der_schema.proofs.Nodes.{before, earlier, not_earlier}
 use Rattle.der_schema.specs.NotationOf.{type_at, member_with, members_from, alternatives_from, notation_of, value_in}
 use Rattle.der_schema.specs.declared.node.Alternative.{Alternative}
 use Rattle.der_schema.specs.declared.node.Member.{Member}

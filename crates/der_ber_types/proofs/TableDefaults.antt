@@ -26,7 +26,7 @@ use Rattle.der_types.specs.Denotes.{Denotes, tree_number}
 use Rattle.der_types.specs.Notation as asn1
 use Rattle.der_types.specs.Notation.{Notation}
 use Rattle.der_types.specs.NotationForms.{Value, default, default-of}
-use Rattle.der_error_path.proofs.Nodes.{before, earlier, not_earlier, one_node}
+use Rattle.der_schema.proofs.Nodes.{before, earlier, not_earlier, one_node}
 use Rattle.der_schema.specs.NotationOf.{member_with, notation_of, type_at, type_from, value_in}
 use Rattle.der_schema.specs.Rules.{has_value, in_explicit, in_implicit, index_holds, is_integer, is_simple, is_tagged}
 use Rattle.der_schema.specs.Rules.{keeps_default, named_type, node_holds}

@@ -1,5 +1,5 @@
 //! What is in an element of a type.
-ghost use Rattle.std.specs.Prelude.{◌≡◌, slice_get, IfSome, IfNone};
+ghost use Rattle.std.specs.Prelude.{◌≡◌, IfSome, IfNone};
 ghost use Rattle.der_ber_types.specs.Kinds.{tag_in_der, in_parts};
 ghost use Rattle.der_ber_types.specs.Inside.{
   HasInside,
@@ -12,8 +12,8 @@ ghost use Rattle.der_ber_types.specs.Inside.{
   HasNoneTag,
 };
 
-use crate::kinds::{inside_here, inside_same, own_tag, same_content, same_type};
-use der_schema::{Alternative, Kind, Member, Node};
+use crate::kinds::{inside_here, inside_same, same_content, same_type};
+use der_schema::{Alternative, Kind, Member, Node, node_at};
 use picky_der_core::asn1::Tag;
 
 // What is in an element.
@@ -68,13 +68,6 @@ impl Inside {
     }
 }
 
-// The node at an index, or `None` past the end of the table.
-fn node_at(nodes: &[Node], index: u16) -> Option<Node>
-    ensures { result ≡ slice_get nodes.now index }
-{
-    nodes.get(usize::from(index)).copied()
-}
-
 // What is in an element with this tag that is of a node's type, or `None` if none of it has the tag. A node that
 // doesn't come after one that it names has no values.
 #[cycle(inside)]
@@ -97,7 +90,7 @@ pub(crate) fn inside_of(nodes: &[Node], index: u16, tag: Tag) -> Option<Inside>
                     None
                 }
             }
-            None => with_own_tag(nodes, index, own_tag(kind)?, tag),
+            None => with_own_tag(nodes, index, kind.own_tag()?, tag),
         },
     }
 }

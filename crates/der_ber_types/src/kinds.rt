@@ -1,11 +1,11 @@
 //! What a kind of types says of its elements.
 ghost use Rattle.std.specs.Prelude.{◌≡◌};
-ghost use Rattle.der_schema.specs.Tags.{same_type, same_content, own_tag, own_wrapper_tag};
+ghost use Rattle.der_schema.specs.Tags.{same_type, same_content};
 ghost use Rattle.der_ber_types.specs.Kinds.{in_any_order, inside_same, inside_here};
 
 use crate::inside::Inside;
 use der_schema::Kind;
-use picky_der_core::asn1::{Tag, Wrapper};
+use picky_der_core::asn1::Wrapper;
 
 // The node of the type whose elements a kind has: it is a name of it, or some of its values.
 pub(crate) fn same_type(kind: Kind) -> Option<u16>
@@ -94,43 +94,5 @@ pub(crate) fn inside_here(kind: Kind) -> Inside
             node,
         } => Inside::One(node),
         _ => Inside::Same,
-    }
-}
-
-// The only tag of a kind's elements (X.680, table 1). It is `None` for a CHOICE, for any element, and for a kind whose
-// values have the tags of those inside.
-pub(crate) fn own_tag(kind: Kind) -> Option<Tag>
-    ensures { result ≡ own_tag kind }
-{
-    match kind {
-        Kind::Boolean => Some(Tag::BOOLEAN),
-        Kind::Integer | Kind::NamedInteger(_) | Kind::Unsigned(_) | Kind::Signed(_) => Some(
-            Tag::INTEGER,
-        ),
-        Kind::Enumerated(_) | Kind::ExtensibleEnumerated(_) => Some(Tag::ENUMERATED),
-        Kind::BitString | Kind::NamedBits(_) => Some(Tag::BIT_STRING),
-        Kind::OctetString => Some(Tag::OCTET_STRING),
-        Kind::Null => Some(Tag::NULL),
-        Kind::ObjectIdentifier => Some(Tag::OID),
-        Kind::RelativeOid => Some(Tag::RELATIVE_OID),
-        Kind::Utf8String | Kind::Character => Some(Tag::UTF8_STRING),
-        Kind::GeneralizedTime | Kind::LaterTime => Some(Tag::GENERALIZED_TIME),
-        Kind::UtcTime => Some(Tag::UTC_TIME),
-        Kind::Sequence(_) | Kind::SequenceOf(_) => Some(Tag::SEQUENCE),
-        Kind::SetOf(_) => Some(Tag::SET),
-        Kind::RestrictedString(tag) | Kind::AnyContent(tag) | Kind::ContentUnder { tag, .. } =>
-            Some(Tag::from(tag)),
-        Kind::Wrapped { wrapper, .. } => wrapper_tag(wrapper),
-        _ => None,
-    }
-}
-
-fn wrapper_tag(wrapper: Wrapper) -> Option<Tag>
-    ensures { result ≡ own_wrapper_tag wrapper }
-{
-    if wrapper.has_tag_number() {
-        Some(wrapper.tag())
-    } else {
-        None
     }
 }

@@ -7,7 +7,7 @@ use Rattle.der_schema.specs.declared.node.Kind.{Kind}
 use Rattle.der_schema.specs.declared.node.Kind.TheVariants as kind
 use Rattle.der_schema.specs.declared.node.Node.{Node}
 use Rattle.der_error_path.specs.Contents.{can_have, content_node, kind_or_inner, type_can_have}
-use Rattle.der_error_path.proofs.Nodes.{before, one_node, earlier, not_earlier, past_end}
+use Rattle.der_schema.proofs.Nodes.{before, one_node, earlier, not_earlier, past_end}
 
 pub no_node : (nodes : List Node) (i : ℕ) (s : List ℕ) → slice_get nodes i ≡ None → can_have nodes i s ≡ true
 unfolding can_have

@@ -1,5 +1,3 @@
-pub mod FirstTags
 pub mod KindContents
-pub mod Nodes
 pub mod PassedElements
 pub mod Walks

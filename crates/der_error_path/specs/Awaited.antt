@@ -9,7 +9,7 @@ use Rattle.der_error_path.specs.declared.expected.Expected.{Expected}
 use Rattle.der_error_path.specs.declared.expected.Expected.TheVariants as expected
 use Rattle.der_error_path.specs.declared.expected.Part.{Part}
 use Rattle.der_error_path.specs.declared.expected.Part.TheVariants as part
-use Rattle.der_error_path.specs.Begins.{can_begin}
+use Rattle.der_schema.specs.Begins.{can_begin}
 
 -- what may come next
 pub data Awaited : Type 0 where

@@ -8,7 +8,7 @@ use Rattle.der_schema.specs.declared.node.Kind.{Kind}
 use Rattle.der_schema.specs.declared.node.Kind.TheVariants as kind
 use Rattle.der_schema.specs.declared.node.Node.{Node}
 use Rattle.der_error_path.specs.Awaited.{Awaited}
-use Rattle.der_error_path.specs.Begins.{can_begin}
+use Rattle.der_schema.specs.Begins.{can_begin}
 
 -- in a value of this kind, if the kind itself says it
 abbrev pub content_of : Kind → Option Awaited

@@ -1,5 +1,4 @@
 pub mod Awaited
-pub mod Begins
 pub mod Contents
 pub mod Inside
 pub mod Names

@@ -10,7 +10,7 @@ use Rattle.der_error_path.specs.declared.path.Mistake.{Mistake}
 use Rattle.der_error_path.specs.declared.path.Mistake.TheVariants as mistake
 use Rattle.der_error_path.specs.declared.steps.Step.{Step}
 use Rattle.der_error_path.specs.Awaited.{Awaited, are_sorted, part_of, default_in}
-use Rattle.der_error_path.specs.Begins.{can_begin}
+use Rattle.der_schema.specs.Begins.{can_begin}
 use Rattle.der_error_path.specs.Contents.{node_can_have}
 use Rattle.der_error_path.specs.Inside.{AwaitsInNode}
 use Rattle.der_error_path.specs.Passed.{ArePassedAs, IsMissing}

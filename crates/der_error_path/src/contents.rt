@@ -2,8 +2,7 @@
 ghost use Rattle.std.specs.Prelude.{◌≡◌};
 ghost use Rattle.der_error_path.specs.Contents.{can_have, content_node, is_truth_value, kind_can_have, node_can_have};
 
-use crate::node::node_at;
-use der_schema::{Kind, Node};
+use der_schema::{Kind, Node, node_at};
 use der_types::{is_generalized_time, is_subidentifiers, is_utc_time};
 use picky_der_core::integer::is_integer;
 

@@ -3,8 +3,7 @@ ghost use Rattle.std.specs.Prelude.{◌≡◌, option_map};
 ghost use Rattle.der_error_path.specs.Awaited.{awaited, awaited_after, part_of, default_of, required_in};
 ghost use Rattle.der_error_path.specs.Awaited.{default_in, first_required, is_required, present_from};
 
-use crate::begins::begins;
-use der_schema::{DefaultValue, Member, Node, Presence};
+use der_schema::{DefaultValue, Member, Node, Presence, begins};
 use picky_der_core::asn1::Tag;
 
 /// What an element is in the one around it.

@@ -3,10 +3,8 @@ ghost use Rattle.std.specs.Prelude.{◌≡◌, option_map};
 ghost use Rattle.der_error_path.specs.Awaited.{awaited};
 ghost use Rattle.der_error_path.specs.Inside.{Awaits, AwaitsInNode, content_of, inner_with, first_beginning};
 
-use crate::begins::begins;
 use crate::expected::Expected;
-use crate::node::node_at;
-use der_schema::{Alternative, Kind, Node};
+use der_schema::{Alternative, Kind, Node, begins, node_at};
 use picky_der_core::asn1::Tag;
 
 // What may come in the content of an element with this tag, if its type is that of the node.

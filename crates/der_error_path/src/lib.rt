@@ -3,12 +3,10 @@
 //! `path_of_error` says which byte an error names.
 #![tactic(auto)]
 
-mod begins;
 mod contents;
 mod expected;
 mod inside;
 mod mistakes;
-mod node;
 mod passed;
 mod path;
 mod steps;

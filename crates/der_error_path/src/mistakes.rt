@@ -3,13 +3,12 @@ ghost use Rattle.std.specs.Prelude.{◌≡◌, IfSome};
 ghost use Rattle.der_error_path.specs.Awaited.{are_sorted, awaited};
 ghost use Rattle.der_error_path.specs.Steps.{IsElementOf, IsMistake, mistake_of};
 
-use crate::begins::begins;
 use crate::contents::node_can_have;
 use crate::expected::{Expected, Part};
 use crate::passed::{Passed, missing_in};
 use crate::{Mistake, Step};
 use der_path::Element;
-use der_schema::{DefaultValue, Node};
+use der_schema::{DefaultValue, Node, begins};
 use picky_der_core::asn1::Tag;
 
 // What is wrong with the element of a step by its tag alone.

@@ -141,3 +141,8 @@ formed nodes i header bytes d (IsJson.content-under _ _ j tag _ content _ _ of e
     of_kind nodes i (kind.ContentUnder tag j) k (Form.under tag j) header bytes d of it refl these
 formed nodes i header bytes d (IsJson.any _ _ _ l _ _ of is x) k it =
     of_kind nodes i l k Form.any header bytes d of it (any_form l is) x
+
+-- another value of the type, of the form that the first one has
+pub as_formed : (nodes : List Node) (k : Kind) (form : Form) (header : Bool) (t : List ℕ) (e : Data) → form_of k ≡ form
+    → IsFormed nodes k (form_of k) header t e → IsFormed nodes k form header t e
+as_formed nodes k form header t e is x = subst (λ (f : Form). IsFormed nodes k f header t e) is x

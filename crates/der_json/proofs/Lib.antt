@@ -1,8 +1,10 @@
 pub mod Forms
+pub mod Fronts
 pub mod NameLemmas
 pub mod NumberLemmas
 pub mod OneContent
 pub mod OneJson
+pub mod OneJsonOfMessage
 pub mod OneMessage
 pub mod StringLemmas
 pub mod ValueLemmas

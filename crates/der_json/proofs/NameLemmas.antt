@@ -64,14 +64,16 @@ names_from names e =
     let parts = both (list_all is_small names) (are_different names) e in
     record { small = all_small names parts.0; different = all_different names parts.1 }
 
-names_at : (nodes : List Node) (i : ℕ) (k : Kind) → has_names nodes ≡ true → IsOfKind nodes i k
-    → are_names (names_in k) ≡ true
-names_at [] i k e of = cc
-names_at (node ∷ nodes) zero k e of =
+-- what is true of the kind of each node
+pub kind_holds : (p : Kind → Bool) (nodes : List Node) (i : ℕ) (k : Kind) → list_all (λ node. p node.kind) nodes ≡ true
+    → IsOfKind nodes i k → p k ≡ true
+kind_holds p [] i k e of = cc
+kind_holds p (node ∷ nodes) zero k e of =
     let same : node.kind ≡ k = cc in
-    ap (λ (l : Kind). are_names (names_in l)) (sym same) ∙ (both (are_names (names_in node.kind)) (has_names nodes) e).0
-names_at (node ∷ nodes) (suc i) k e of =
-    names_at nodes i k (both (are_names (names_in node.kind)) (has_names nodes) e).1 of
+    ap p (sym same) ∙ (both (p node.kind) (list_all (λ l. p l.kind) nodes) e).0
+kind_holds p (node ∷ nodes) (suc i) k e of =
+    kind_holds p nodes i k (both (p node.kind) (list_all (λ l. p l.kind) nodes) e).1 of
 
 pub each_has_names : (nodes : List Node) → has_names nodes ≡ true → HasNames nodes
-each_has_names nodes e i k of = names_from (names_in k) (names_at nodes i k e of)
+each_has_names nodes e i k of =
+    names_from (names_in k) (kind_holds (λ l. are_names (names_in l)) nodes i k e of)

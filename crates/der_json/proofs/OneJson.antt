@@ -5,8 +5,9 @@ use Rattle.picky_der_core.specs.Primitive.{boolean_content}
 use Rattle.der_schema.specs.declared.node.Item.{Item}
 use Rattle.der_schema.specs.declared.node.Kind.{Kind}
 use Rattle.der_schema.specs.declared.node.Kind.TheVariants as kind
+use Rattle.der_schema.specs.OneForm.{has_two_forms}
 use Rattle.der_json.specs.Contents.{IsArcsJson, IsBitsJson, IsContentJson, IsStringJson, IsTextJson}
-use Rattle.der_json.specs.Laws.{OneJsonOfContent, has_two_forms}
+use Rattle.der_json.specs.Laws.{OneJsonOfContent}
 use Rattle.der_json.specs.Numbers.{IsItemJson, IsNumberJson, item_name}
 
 -- the value of a content

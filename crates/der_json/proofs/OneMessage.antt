@@ -23,8 +23,8 @@ use Rattle.der_json.specs.Json.{AreItems, AreMembers, IsAlternative, IsAny, IsJs
 use Rattle.der_json.specs.Json.{wrapped_data}
 use Rattle.der_json.specs.Laws.{OneMessage}
 use Rattle.der_schema.specs.Names.{alternative_names, member_names, names_in}
-use Rattle.der_json.proofs.Forms.{Form, IsFormed, IsListed, IsSequence, IsUnder, IsWrapped, any_form, choice_form}
-use Rattle.der_json.proofs.Forms.{form_of, formed, list_form, plain_form, same_form, sequence_form}
+use Rattle.der_json.proofs.Forms.{Form, IsListed, IsSequence, IsUnder, IsWrapped, any_form, as_formed, choice_form}
+use Rattle.der_json.proofs.Forms.{formed, list_form, plain_form, same_form, sequence_form}
 use Rattle.der_json.proofs.NameLemmas.{AreDifferent, AreNames, HasNames, each_has_names}
 use Rattle.der_json.proofs.OneContent.{content_of, one_element}
 
@@ -127,11 +127,6 @@ one_plain k header s t d names p q x y =
     content_of k x.content y.content d names (plain_bytes header x.tag x.content s x.encoded p)
     (plain_bytes header y.tag y.content t y.encoded q) x.json y.json in
     x.encoded ∙ ap₂ (plain_encoding header) tags contents ∙ sym y.encoded
-
--- the second value, of the form that the first one has
-as_formed : (nodes : List Node) (k : Kind) (form : Form) (header : Bool) (t : List ℕ) (e : Data) → form_of k ≡ form
-    → IsFormed nodes k (form_of k) header t e → IsFormed nodes k form header t e
-as_formed nodes k form header t e is x = subst (λ (f : Form). IsFormed nodes k f header t e) is x
 
 mutual
   one_value : (nodes : List Node) (i : ℕ) (header : Bool) (s : List ℕ) (d : Data) → IsJson nodes i header s d

@@ -1,6 +1,6 @@
 //! Laws of messages and their JSON. Those of the relation are contracts of functions that do nothing.
 ghost use Rattle.std.specs.Prelude.{◌≡◌, true, IfSome};
-ghost use Rattle.der_json.specs.Laws.{OneContent, OneJsonOfContent, OneMessage};
+ghost use Rattle.der_json.specs.Laws.{OneContent, OneJson, OneJsonOfContent, OneMessage};
 ghost use Rattle.der_schema.specs.Names.{has_names};
 ghost use Rattle.picky_der_core.specs.Element.{AreBytes};
 
@@ -24,6 +24,12 @@ pub fn one_json_of_content()
 /// (20, 25, 29).
 pub fn one_message()
     ensures { OneMessage }
+{}
+
+/// A message of a type has only one JSON, if the elements in it are distinguished by their tags (25.6, 27.3, 29.3), and
+/// no type in it is such an ENUMERATED, or a CHOICE with a tag in place of those of its alternatives (31.2.7).
+pub fn one_json()
+    ensures { OneJson }
 {}
 
 /// Returns the bytes that `from_json` returns of the JSON that `to_json` returns of these, or `None` if one of them

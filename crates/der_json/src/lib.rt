@@ -3,7 +3,6 @@
 //! `specs/Json.antt` says which JSON a message has.
 #![tactic(auto)]
 
-mod begins;
 mod contents;
 mod decimal;
 mod defaults;

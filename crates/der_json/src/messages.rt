@@ -1,9 +1,10 @@
 //! Messages from JSON.
-ghost use Rattle.std.specs.Prelude.{◌≡◌, true, Some, IfOk};
+ghost use Rattle.std.specs.Prelude.{◌≡◌, true, Some, IfErr, IfOk};
 ghost use Rattle.serde_json.specs.Data.{Data};
 ghost use Rattle.serde_json.specs.Read.{read};
 ghost use Rattle.serde_json.specs.View.{view};
 ghost use Rattle.der_json.specs.Json.{IsJson};
+ghost use Rattle.der_json.specs.Refusals.{IsRefusal};
 
 use crate::refusal::{FromJsonError, JsonMistake, JsonRefusal};
 use crate::same::is_same;
@@ -20,7 +21,8 @@ use std::alloc::Global;
 /// its default, and hexadecimal digits are in upper case. It also refuses what the type doesn't have: numbers, sizes
 /// and characters past its constraints, a SET OF that isn't in order, and 0 as the last of bits with names.
 pub fn from_json(alloc: Global, schema: Schema, json: &Value) -> Result<Vec<u8>, FromJsonError>
-    ensures { IfOk result (λ bytes. IsJson schema.nodes.now schema.root true bytes.items (view json.now)) }
+    ensures ok { IfOk result (λ bytes. IsJson schema.nodes.now schema.root true bytes.items (view json.now)) }
+    ensures refused { IfErr result (IsRefusal (view json.now)) }
 {
     let nodes = schema.nodes;
     let bytes = Writer { alloc, nodes }.value(nodes.len(), schema.root, true, json)?;

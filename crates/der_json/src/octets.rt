@@ -22,7 +22,8 @@ pub(crate) fn content_octets(
     kind: Kind,
     json: &Value,
 ) -> Result<Vec<u8>, FromJsonError>
-    ensures { IfOk result (λ content. IsContentJson kind content.items (view json.now)) }
+    ensures ok { IfOk result (λ content. IsContentJson kind content.items (view json.now)) }
+    ensures refused { IfErr result (IsRefusal (view json.now)) }
 {
     let content = unchecked_octets(alloc, kind, json)?;
     let bytes = content.as_slice();
@@ -52,7 +53,9 @@ fn mistake_in(kind: Kind) -> JsonMistake
 }
 
 // The content of a value without parts.
-fn unchecked_octets(alloc: Global, kind: Kind, json: &Value) -> Result<Vec<u8>, FromJsonError> {
+fn unchecked_octets(alloc: Global, kind: Kind, json: &Value) -> Result<Vec<u8>, FromJsonError>
+    ensures { IfErr result (IsRefusal (view json.now)) }
+{
     match kind {
         Kind::Boolean => boolean_octets(alloc, json),
         Kind::Integer | Kind::NamedInteger(_) | Kind::Unsigned(_) | Kind::Signed(_) => {

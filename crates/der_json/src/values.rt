@@ -6,10 +6,9 @@ ghost use Rattle.der_json.specs.Json.{IsArray, IsAlternative, IsAny, AreMembers,
 ghost use Rattle.der_json.specs.Json.{can_be_absent, same_as, wrapped_data};
 
 use crate::JsonError;
-use crate::begins::begins;
 use crate::contents::plain_value;
 use crate::part::Part;
-use der_schema::{Alternative, Kind, Member, Node, Presence, Schema};
+use der_schema::{Alternative, Kind, Member, Node, Presence, Schema, begins};
 use hex::encode_upper;
 use picky_der_core::asn1::{Tag, Wrapper};
 use serde_json::{Map, Value, push, put};

@@ -1,5 +1,8 @@
 //! Values from JSON.
-ghost use Rattle.std.specs.Prelude.{◌<◌, OnOk};
+ghost use Rattle.std.specs.Prelude.{◌<◌, IfErr, OnOk};
+ghost use Rattle.serde_json.specs.Data.{Data};
+ghost use Rattle.serde_json.specs.View.{view};
+ghost use Rattle.der_json.specs.Refusals.{IsMistake, IsRefusal};
 
 use crate::contents::plain_tag;
 use crate::defaults::has_default;
@@ -24,7 +27,8 @@ pub(crate) struct Writer {
 impl Writer {
     // The kind of the node at this index, or `Schema` if it doesn't come before this many nodes.
     fn kind_before(self, limit: usize, index: u16) -> Result<Kind, FromJsonError>
-        ensures { OnOk result (index < limit) }
+        ensures before { OnOk result (index < limit) }
+        ensures refused { (whole : Data) → IfErr result (IsRefusal whole) }
     {
         if usize::from(index) >= limit {
             return Err(self.mistake(JsonMistake::Schema));
@@ -35,7 +39,9 @@ impl Writer {
         }
     }
 
-    fn mistake(self, mistake: JsonMistake) -> FromJsonError {
+    fn mistake(self, mistake: JsonMistake) -> FromJsonError
+        ensures { (whole : Data) → IsMistake mistake whole → IsRefusal whole result }
+    {
         FromJsonError::of(self.alloc, mistake)
     }
 
@@ -47,7 +53,9 @@ impl Writer {
         index: u16,
         has_header: bool,
         json: &Value,
-    ) -> Result<Vec<u8>, FromJsonError> {
+    ) -> Result<Vec<u8>, FromJsonError>
+        ensures { IfErr result (IsRefusal (view json.now)) }
+    {
         let kind = self.kind_before(limit, index)?;
         let before = usize::from(index);
         match kind {
@@ -89,7 +97,9 @@ impl Writer {
         kind: Kind,
         has_header: bool,
         json: &Value,
-    ) -> Result<Vec<u8>, FromJsonError> {
+    ) -> Result<Vec<u8>, FromJsonError>
+        ensures { IfErr result (IsRefusal (view json.now)) }
+    {
         let Some(tag) = plain_tag(kind) else {
             return Err(self.mistake(JsonMistake::Schema));
         };
@@ -101,7 +111,9 @@ impl Writer {
     }
 
     // An element of any type.
-    fn any(self, json: &Value) -> Result<Vec<u8>, FromJsonError> {
+    fn any(self, json: &Value) -> Result<Vec<u8>, FromJsonError>
+        ensures { IfErr result (IsRefusal (view json.now)) }
+    {
         let octets = hexadecimal_octets(self.alloc, json)?;
         let bytes = octets.as_slice();
         match (Part { bytes, place: 0 }).element() {
@@ -111,7 +123,9 @@ impl Writer {
     }
 
     // What is written of a plain value with this tag and content.
-    fn plain(self, tag: Tag, has_header: bool, content: Vec<u8>) -> Result<Vec<u8>, FromJsonError> {
+    fn plain(self, tag: Tag, has_header: bool, content: Vec<u8>) -> Result<Vec<u8>, FromJsonError>
+        ensures { (whole : Data) → IfErr result (IsRefusal whole) }
+    {
         if has_header {
             Ok(element(self.alloc, tag, &content)?)
         } else {
@@ -127,7 +141,9 @@ impl Writer {
         wrapper: Wrapper,
         node: u16,
         json: &Value,
-    ) -> Result<Vec<u8>, FromJsonError> {
+    ) -> Result<Vec<u8>, FromJsonError>
+        ensures { IfErr result (IsRefusal (view json.now)) }
+    {
         if !wrapper.has_tag_number() {
             return Err(self.mistake(JsonMistake::Schema));
         }
@@ -145,7 +161,9 @@ impl Writer {
 
     // What is written of the value that a string contains.
     #[cycle(written)]
-    fn contained(self, limit: usize, node: u16, json: &Value) -> Result<Vec<u8>, FromJsonError> {
+    fn contained(self, limit: usize, node: u16, json: &Value) -> Result<Vec<u8>, FromJsonError>
+        ensures { IfErr result (IsRefusal (view json.now)) }
+    {
         let Some(object) = json.as_object() else {
             return Err(self.mistake(JsonMistake::Form(JsonForm::Object)));
         };
@@ -168,7 +186,9 @@ impl Writer {
         limit: usize,
         members: &'static [Member],
         json: &Value,
-    ) -> Result<Vec<u8>, FromJsonError> {
+    ) -> Result<Vec<u8>, FromJsonError>
+        ensures { IfErr result (IsRefusal (view json.now)) }
+    {
         let Some(object) = json.as_object() else {
             return Err(self.mistake(JsonMistake::Form(JsonForm::Object)));
         };
@@ -184,7 +204,9 @@ impl Writer {
     }
 
     // The refusal of a member with this name, which the type doesn't have.
-    fn unknown(self, object: &Value, name: &str) -> FromJsonError {
+    fn unknown(self, object: &Value, name: &str) -> FromJsonError
+        ensures { IsRefusal (view object.now) result }
+    {
         let error = self.mistake(JsonMistake::Unknown);
         match object.get(name) {
             Some(_) => error.in_member(self.alloc, name),
@@ -199,7 +221,9 @@ impl Writer {
         limit: usize,
         member: &'static Member,
         object: &Value,
-    ) -> Result<Vec<u8>, FromJsonError> {
+    ) -> Result<Vec<u8>, FromJsonError>
+        ensures { IfErr result (IsRefusal (view object.now)) }
+    {
         let Some(value) = object.get(member.name) else {
             return match member.presence {
                 Presence::Required => Err(self.mistake(JsonMistake::Missing(member.name))),
@@ -225,7 +249,9 @@ impl Writer {
         item: u16,
         is_set: bool,
         json: &Value,
-    ) -> Result<Vec<u8>, FromJsonError> {
+    ) -> Result<Vec<u8>, FromJsonError>
+        ensures { IfErr result (IsRefusal (view json.now)) }
+    {
         let Some(array) = json.as_array() else {
             return Err(self.mistake(JsonMistake::Form(JsonForm::Array)));
         };
@@ -256,7 +282,9 @@ impl Writer {
         alternatives: &'static [Alternative],
         has_header: bool,
         json: &Value,
-    ) -> Result<Vec<u8>, FromJsonError> {
+    ) -> Result<Vec<u8>, FromJsonError>
+        ensures { IfErr result (IsRefusal (view json.now)) }
+    {
         let Some(name) = only_name(json) else {
             return Err(self.mistake(JsonMistake::Form(JsonForm::Alternative)));
         };

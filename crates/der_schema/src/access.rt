@@ -1,16 +1,25 @@
-//! What is at an index, what is inside of a type, and what the standard calls it.
+//! What is at an index, what is inside of a type, its tag, and what the standard calls it.
 ghost use Rattle.std.specs.Prelude.{◌≡◌, slice_get, option_map};
 ghost use Rattle.der_schema.specs.Kinds.{inner_of, kind_name, string_name};
+ghost use Rattle.der_schema.specs.Tags.{own_tag, own_wrapper_tag};
 
 use crate::{Kind, Node, Schema};
+use picky_der_core::asn1::{Tag, Wrapper};
 
 impl Schema {
     /// The node at an index, or `None` past the end of the table.
     pub fn node(self, index: u16) -> Option<Node>
         ensures { result ≡ slice_get self.nodes.now index }
     {
-        self.nodes.get(usize::from(index)).copied()
+        node_at(self.nodes, index)
     }
+}
+
+/// The node at an index, or `None` past the end of the table.
+pub fn node_at(nodes: &[Node], index: u16) -> Option<Node>
+    ensures { result ≡ slice_get nodes.now index }
+{
+    nodes.get(usize::from(index)).copied()
 }
 
 impl Kind {
@@ -30,6 +39,33 @@ impl Kind {
             | Kind::Outside { node, .. }
             | Kind::Sized { node, .. }
             | Kind::Permitted { node, .. } => Some(node),
+            _ => None,
+        }
+    }
+
+    /// The only tag of the type's elements (X.680, table 1). It is `None` for a CHOICE, for any element, and for a kind
+    /// whose values have the tags of those inside.
+    pub fn own_tag(self) -> Option<Tag>
+        ensures { result ≡ own_tag self }
+    {
+        match self {
+            Kind::Boolean => Some(Tag::BOOLEAN),
+            Kind::Integer | Kind::NamedInteger(_) => Some(Tag::INTEGER),
+            Kind::Unsigned(_) | Kind::Signed(_) => Some(Tag::INTEGER),
+            Kind::Enumerated(_) | Kind::ExtensibleEnumerated(_) => Some(Tag::ENUMERATED),
+            Kind::BitString | Kind::NamedBits(_) => Some(Tag::BIT_STRING),
+            Kind::OctetString => Some(Tag::OCTET_STRING),
+            Kind::Null => Some(Tag::NULL),
+            Kind::ObjectIdentifier => Some(Tag::OID),
+            Kind::RelativeOid => Some(Tag::RELATIVE_OID),
+            Kind::Utf8String | Kind::Character => Some(Tag::UTF8_STRING),
+            Kind::GeneralizedTime | Kind::LaterTime => Some(Tag::GENERALIZED_TIME),
+            Kind::UtcTime => Some(Tag::UTC_TIME),
+            Kind::Sequence(_) | Kind::SequenceOf(_) => Some(Tag::SEQUENCE),
+            Kind::SetOf(_) => Some(Tag::SET),
+            Kind::RestrictedString(tag) | Kind::AnyContent(tag) => Some(Tag::from(tag)),
+            Kind::ContentUnder { tag, .. } => Some(Tag::from(tag)),
+            Kind::Wrapped { wrapper, .. } => own_wrapper_tag(wrapper),
             _ => None,
         }
     }
@@ -60,6 +96,17 @@ impl Kind {
             Kind::SetOf(_) => Some("SET OF"),
             _ => None,
         }
+    }
+}
+
+// The tag of a wrapper, unless its number is past 30.
+fn own_wrapper_tag(wrapper: Wrapper) -> Option<Tag>
+    ensures { result ≡ own_wrapper_tag wrapper }
+{
+    if wrapper.has_tag_number() {
+        Some(wrapper.tag())
+    } else {
+        None
     }
 }
 

@@ -4,6 +4,9 @@
 #![tactic(auto)]
 
 mod access;
+mod first_tags;
 mod node;
 
+pub use access::node_at;
+pub use first_tags::begins;
 pub use node::{Alternative, DefaultValue, Item, Kind, Member, Node, Presence, Schema};

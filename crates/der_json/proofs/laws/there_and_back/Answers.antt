@@ -11,4 +11,4 @@ returns-in-Ok-from_json c = λ names.
     let before : AreBytes c.args.bytes.now = bytes_by_index _ (λ i. omega (arith, c.type_inv.bytes i)) in
     let after : AreBytes c.in-Ok-from_json.again.items = subst AreBytes c.as_slice.ensures.value c.are_bytes.ensures in
     sym (one_message c.args.schema.nodes.now c.args.schema.root true c.args.bytes.now c.in-Ok-from_json.again.items
-    (view c.in-Ok.json) names before after c.in-Ok.ensures c.in-Ok-from_json.ensures)
+    (view c.in-Ok.json) names before after c.in-Ok.ensures c.in-Ok-from_json.ensures.ok)

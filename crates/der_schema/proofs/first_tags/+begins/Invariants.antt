@@ -1,6 +1,6 @@
 use Rattle.std.proofs.Common.{◌≡◌, ◌+◌, ◌*◌, length}
-use Rattle.der_error_path.specs.Begins.{one_begins}
-use Rattle.der_error_path.proofs.begins.+begins.Given as goal
+use Rattle.der_schema.specs.Begins.{one_begins}
+use Rattle.der_schema.proofs.first_tags.+begins.Given as goal
 
 abbrev pub decreases-begins : goal.decreases-begins
 decreases-begins l = 3 * l.index + 2

@@ -10,6 +10,7 @@ use Rattle.der_schema.specs.declared.node.Alternative.{Alternative}
 use Rattle.der_schema.specs.declared.node.Kind.{Kind}
 use Rattle.der_schema.specs.declared.node.Kind.TheVariants as kind
 use Rattle.der_schema.specs.declared.node.Node.{Node}
+use Rattle.der_schema.specs.Tags.{own_tag}
 
 -- a value of this type can begin with this identifier byte (X.690, 8.1.2)
 abbrev pub type_begins : Notation → ℕ → Bool
@@ -20,33 +21,6 @@ unfoldable pub can_begin : List Node → ℕ → ℕ → Bool
 can_begin nodes index tag = type_begins (notation_of nodes index) tag
 
 -- ---- the same by the kind of a node, with a tag that isn't one of the long form
-
--- the only tag of values of this kind (X.680, table 1)
-abbrev pub own_tag : Kind → Option ℕ
-own_tag kind.Boolean = Some 0x01
-own_tag kind.Integer = Some 0x02
-own_tag (kind.NamedInteger items) = Some 0x02
-own_tag (kind.Unsigned bits) = Some 0x02
-own_tag (kind.Signed bits) = Some 0x02
-own_tag (kind.Enumerated items) = Some 0x0A
-own_tag (kind.ExtensibleEnumerated items) = Some 0x0A
-own_tag kind.BitString = Some 0x03
-own_tag (kind.NamedBits items) = Some 0x03
-own_tag kind.OctetString = Some 0x04
-own_tag kind.Null = Some 0x05
-own_tag kind.ObjectIdentifier = Some 0x06
-own_tag kind.RelativeOid = Some 0x0D
-own_tag kind.Utf8String = Some 0x0C
-own_tag kind.Character = Some 0x0C
-own_tag (kind.RestrictedString tag) = Some tag
-own_tag kind.GeneralizedTime = Some 0x18
-own_tag kind.UtcTime = Some 0x17
-own_tag kind.LaterTime = Some 0x18
-own_tag (kind.AnyContent tag) = Some tag
-own_tag (kind.Sequence members) = Some 0x30
-own_tag (kind.SequenceOf node) = Some 0x30
-own_tag (kind.SetOf node) = Some 0x31
-own_tag _ = None
 
 -- one of the alternatives of those whose nodes come before this index
 abbrev pub one_begins : List Node → ℕ → ℕ → List Alternative → Bool

@@ -15,8 +15,8 @@ use Rattle.der_schema.specs.declared.node.Alternative.{Alternative}
 use Rattle.der_schema.specs.declared.node.Kind.{Kind}
 use Rattle.der_schema.specs.declared.node.Kind.TheVariants as kind
 use Rattle.der_schema.specs.declared.node.Node.{Node}
-use Rattle.der_error_path.specs.Begins.{type_begins, can_begin, one_begins, kind_begins}
-use Rattle.der_error_path.proofs.Nodes.{before, one_node, earlier, not_earlier, past_end}
+use Rattle.der_schema.specs.Begins.{type_begins, can_begin, one_begins, kind_begins}
+use Rattle.der_schema.proofs.Nodes.{before, one_node, earlier, not_earlier, past_end}
 
 pub long_tag : (nodes : List Node) (i tag : ℕ) → is_tag_number (number_of tag) ≡ false → can_begin nodes i tag ≡ false
 unfolding can_begin

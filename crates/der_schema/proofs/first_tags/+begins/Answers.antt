@@ -1,8 +1,8 @@
 use Rattle.std.proofs.Common.{◌≡◌, ◌<◌, ◌≤◌, true, false, sym, ◌∙◌, arith, rules, tests}
 use Rattle.std.specs.Prelude.{Some, None, slice_get}
 use Rattle.picky_der_core.specs.Tag.{number_of, is_tag_number}
-use Rattle.der_error_path.proofs.FirstTags.{long_tag, no_node, node_begins}
-use Rattle.der_error_path.proofs.begins.+begins.Goals as goal
+use Rattle.der_schema.proofs.FirstTags.{long_tag, no_node, node_begins}
+use Rattle.der_schema.proofs.first_tags.+begins.Goals as goal
 
 pub begins-returns-in_default : goal.begins-returns-in_default
 begins-returns-in_default t c =

@@ -1,0 +1,3 @@
+pub mod FirstTags
+pub mod Nodes
+pub mod TagSets
