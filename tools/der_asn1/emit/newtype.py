@@ -1,8 +1,12 @@
 """A struct of its own round another type, in the form of docs/YOUR_TYPES.md."""
-from ..meaning.declarations import NewtypeDeclaration
+from dataclasses import replace
+
+from ..meaning.declarations import NewtypeDeclaration, NumbersDeclaration
+from ..meaning.rust_types import of
 from .comments import difference_note, sentence
 from .imports import PRELUDE, Uses
-from .layout import STEP, WIDTH, comment, signature
+from .layout import STEP, WIDTH, comment, signature, type_lines
+from .private_names import PrivateNames
 
 _TWO = STEP * 2
 
@@ -11,17 +15,35 @@ _TERMS = {
     "Rattle.picky_der_de.specs.Facts": {"facts_as"},
     "Rattle.der_types.specs.Exact": {"newtype_values"},
 }
+_TESTS = (("is_at_least", "least"), ("is_at_most", "most"))
 _NAMES = "ReadExt WriteExt Via Deserialize Deserializer Result Serialize Serializer deserialize_as Begins Tag Notated Exact".split()
 
 
 def newtype_uses(declared: NewtypeDeclaration) -> Uses:
     """What the items of a struct round another type name."""
-    return Uses({*_NAMES, *declared.type.names()}, terms=_TERMS)
+    found = Uses({*_NAMES, *declared.type.names()}, terms=_TERMS)
+    if isinstance(declared, NumbersDeclaration):
+        found.add(Uses({"WholeNumber", "ExactNumber"}, terms={"Rattle.der_types.specs.ExactConstraints": {"numbered_by"}}))
+    return found
 
 
-def newtype_lines(declared: NewtypeDeclaration) -> list[str]:
+def newtype_lines(declared: NewtypeDeclaration, names: PrivateNames) -> list[str]:
     """The items of a struct round another type."""
-    return [*definition(declared), "", *newtype_impls(declared), "", *notated_impl(declared), "", *exact_impl(declared)]
+    inner = with_short_name(declared, names)
+    own = [[*inner_type(declared, names), *newtype_impls(inner)], notated_impl(inner), exact_impl(inner)]
+    own += [numbers_impls(inner)] if isinstance(declared, NumbersDeclaration) else []
+    return [*definition(declared), *(line for it in own for line in ["", *it])]
+
+
+def with_short_name(declared: NewtypeDeclaration, names: PrivateNames) -> NewtypeDeclaration:
+    """The same with a name for the type inside, if that is long."""
+    return replace(declared, type=of(names.of(declared, "Inner"))) if isinstance(declared, NumbersDeclaration) else declared
+
+
+def inner_type(declared: NewtypeDeclaration, names: PrivateNames) -> list[str]:
+    """The name of the type inside, if it has one."""
+    inner = with_short_name(declared, names)
+    return [] if inner is declared else [*type_lines("", f"type {inner.type} = ", str(declared.type), ";"), ""]
 
 
 def newtype_impls(declared: NewtypeDeclaration) -> list[str]:
@@ -129,5 +151,27 @@ def exact_impl(declared: NewtypeDeclaration) -> list[str]:
         f"{_TWO}(λ it. it.{declared.part}) (λ x. (record {{ {declared.part} = x }}, refl)) }};",
         "",
         f"{STEP}ghost exact = {{ Prim.assumption }};",
+        "}",
+    ]
+
+
+def numbers_impls(declared: NumbersDeclaration) -> list[str]:
+    """The implementations of `WholeNumber` and `ExactNumber`: the number is that of the type inside."""
+    number = f"{quoted(declared, 'WholeNumber')}.number"
+    tests = [[f"{STEP}fn {it}(&self, {name}: i128) -> bool {{", f"{_TWO}self.{declared.part}.{it}({name})", f"{STEP}}}", ""] for it, name in _TESTS]
+    facts = f"{quoted(declared, 'ExactNumber')}.numbered {number} {quoted(declared, 'Serialize')}.meaning"
+    return [
+        f"impl WholeNumber for {declared.name} {{",
+        f"{STEP}ghost number = {{ λ it. {number} it.{declared.part} }};",
+        "",
+        *(line for it in tests for line in it),
+        f"{STEP}ghost determined = {{ λ x y e. {quoted(declared, 'WholeNumber')}.determined x.{declared.part} y.{declared.part} e }};",
+        "}",
+        "",
+        f"impl ExactNumber for {declared.name} {{",
+        f"{STEP}ghost numbered = {{ numbered_by {facts}",
+        f"{_TWO}(λ it. it.{declared.part}) }};",
+        "",
+        f"{STEP}ghost exact_number = {{ Prim.assumption }};",
         "}",
     ]

@@ -18,7 +18,7 @@ from .laws import contain_themselves, with_named_laws
 from .layout import assigned, comment
 from .listed import is_encoded, listed_lines, listed_uses
 from .many import many_uses
-from .newtype import newtype_lines, newtype_uses
+from .newtype import newtype_lines, newtype_uses, with_short_name
 from .private_names import PrivateNames
 from .struct import struct_lines, struct_uses
 from .union import union_lines, union_uses
@@ -103,7 +103,7 @@ def lines_of(declared: Declaration, stem: str, context: Context) -> list[str]:
     if isinstance(declared, UnionDeclaration):
         return union_lines(declared, context.names, home)
     if isinstance(declared, NewtypeDeclaration):
-        return newtype_lines(declared)
+        return newtype_lines(declared, context.names)
     if isinstance(declared, AddedDeclaration):
         return added_lines(declared, context.names)
     if isinstance(declared, StructDeclaration):
@@ -126,6 +126,7 @@ def promises(declared: Declaration, stem: str, context: Context) -> list[tuple[U
     if isinstance(declared, (AddedDeclaration, SetDeclaration)) or is_name or is_kept:
         return copied
     inner = context.names.of(declared, "Parts") if isinstance(declared, (StructDeclaration, ChoiceDeclaration)) else ""
+    declared = with_short_name(declared, context.names) if isinstance(declared, NewtypeDeclaration) else declared
     terms = f"Rattle.{context.crate}.specs.{TERMS_FILE}"
     found = [(faithful_uses(declared, terms), faithful_impl(declared, inner, home_of_terms(stem, context)))]
     if isinstance(declared, EnumDeclaration):

@@ -209,6 +209,11 @@ class NewtypeDeclaration(AliasDeclaration):
 
 
 @dataclass
+class NumbersDeclaration(NewtypeDeclaration):
+    """A struct round a type of whole numbers, of which it is one, too. So a type round it isn't nested as deep as the type inside."""
+
+
+@dataclass
 class TestedDeclaration(NewtypeDeclaration):
     """A struct round those values of another type that pass a test: `function` tests a value, or a reference if `by_reference`.
 

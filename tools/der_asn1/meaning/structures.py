@@ -6,7 +6,7 @@ from ..parse import tree
 from ..parse.source import NotationError, NotGiven
 from .causes import Where
 from .contents import Contents, integer_content
-from .declarations import AddedDeclaration, ChoiceDeclaration, Declaration, EnumDeclaration, Field, Hint, Item, StructDeclaration
+from .declarations import AddedDeclaration, ChoiceDeclaration, Declaration, EnumDeclaration, Field, Hint, Item, NumbersDeclaration, StructDeclaration
 from .features import Feature, Level, Note
 from .intervals import Intervals
 from .library import ANY_FIRST, DEFAULT_SIGNED, DEFAULT_UNSIGNED, MOST_MEMBERS, ONE_BYTE, Core, Rust, any_element, are_bounds, parts_type, tagged_bytes, well_formed_element, written
@@ -539,6 +539,13 @@ def declared_enum(
     named = tuple((it.source, it.number) for it in declared.items)
     term = Term(f"{word} {number_list(number for _, number in named)}", names=named)
     return meaning.as_(Rust(of(name), Core.CONTENTS, frozenset((tag,)), own=True, term=term))
+
+
+def declared_numbers(meanings: "Meanings", meaning: Meaning, type_: tree.IntegerType, scope: Scope, hint: Hint) -> Meaning:
+    """A struct round the type of an INTEGER with several constraints around it, which is declared."""
+    declared = NumbersDeclaration("", type_.place, scope.module.name, hint.text, type=meaning.rust.type, notation=type_.text)
+    name = declare(meanings, declared, type_, scope, hint, meaning, "numbers")
+    return meaning.as_(replace(meaning.rust, type=of(name)))
 
 
 # ---- choices

@@ -28,7 +28,7 @@ from . import recursion as recursive
 from .recursion import NONE, Recursion, recursion_of
 from .rust_types import UNIT, of
 from .scopes import BUILT_IN_ANY, Binding, Found, Program, Resolved, Scope, resolve, target_of
-from .structures import Default, Part, enumeration, left_items, named_integer, structure
+from .structures import Default, Part, declared_numbers, enumeration, left_items, named_integer, structure
 from .subtypes import Limits, Reader, ScopedConstraint, only_contents
 from .tables import closed, objects_of, of_table, table_of
 from .tagging import default_mode, effective_mode, first_bytes, fixed_field_type
@@ -308,6 +308,8 @@ class Meanings:
         numbers, other = whole_number_limits(limits)
         found = None if other else named_integer(self, type_, scope, hint, numbers)
         meaning = in_words(found or integer(Meaning, (numbers, other)), constraints)
+        if not found and len(meaning.rust.around) > 1:
+            meaning = declared_numbers(self, meaning, type_, scope, hint)
         return meaning.lacking(Feature.UNKNOWN_BOUND) if limits.unknown else meaning
 
     def of_enumeratedtype(self, type_: tree.EnumeratedType, scope: Scope, hint: Hint, constraints: tuple[ScopedConstraint, ...]) -> Meaning:
