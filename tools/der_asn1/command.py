@@ -227,11 +227,14 @@ def written(options: argparse.Namespace, modules: list[tree.Module], imported: l
 def schemas(options: argparse.Namespace, modules: list[tree.Module], imported: list[tree.Module], problems: Problems) -> int:
     """Writes the types as data, or compares the file with what is there."""
     how = How(listed(options.distinct), options.depth, options.optional_defaults, options.raw_any)
+    sources = os.path.dirname(os.path.abspath(options.schemas))
     try:
-        others = other_crates(options.crate, os.path.join(os.path.dirname(os.path.abspath(options.schemas)), "../.."))
+        others = other_crates(options.crate, os.path.dirname(os.path.dirname(sources)))
     except OSError as error:
         sys.exit(f"{error.filename}: {error.strerror}")
     meanings, found = declared(Program(modules, problems, imported), listed(options.type), others, how)
+    causes = meanings.causes(meanings.declarations.by_name[it] for it in found)
+    refuse(problems, causes, Allowed(options.allow_raw), Allowed(options.allow_wider))
     if said(problems):
         return 1
     try:
@@ -239,6 +242,7 @@ def schemas(options: argparse.Namespace, modules: list[tree.Module], imported: l
     except NoNode as error:
         sys.exit(f"{options.schemas}: {error}")
     if not options.check:
+        os.makedirs(sources, exist_ok=True)
         with open(options.schemas, "w", encoding="utf-8") as it:
             it.write(text)
     elif not os.path.exists(options.schemas) or text_of(options.schemas) != text:

@@ -1,12 +1,16 @@
 -- Elements that are cut from the front one by one.
-use Rattle.std.proofs.Common.{◌≡◌, ℕ, List, [], ◌∷◌, ◌++◌, map, sym, ap, subst, ◌∙◌, append_assoc}
+use Rattle.std.proofs.Common.{◌≡◌, ℕ, List, [], ◌∷◌, ◌++◌, map, sym, ap, subst, ◌∙◌, append_assoc, append-nil}
 use Rattle.std.proofs.Common.{◌+◌, ◌-◌, ◌<◌, length, take, drop, arith, length-append}
 use Rattle.std.proofs.Math.Seq.{take-append_seam, drop-append_seam}
 use Rattle.std.specs.Borrow.{Bor}
 use Rattle.std.specs.List.{AllByRecursion, concat}
-use Rattle.std.proofs.lemmas.List.{map-append}
+use Rattle.std.proofs.lemmas.List.{map-append, take-append-drop}
+use Rattle.picky_der_core.specs.Order.{is_less}
+use Rattle.picky_der_core.specs.OrderLaws.{in_ascending_order-same, IsSortedBy-one}
 use Rattle.picky_der_core.specs.Element.{IsElement, tlv, length_octets}
 use Rattle.der_path.specs.Elements.{BeginsWith}
+use Rattle.der_ber_types.specs.Order.{AreInOrder}
+use Rattle.der_ber_types.specs.Pushed.{IsAppended}
 
 all_and_one : (es : List (List ℕ)) (e : List ℕ) → AllByRecursion IsElement es → IsElement e
     → AllByRecursion IsElement (es ++ (e ∷ []))
@@ -57,3 +61,41 @@ smaller_content bytes after tag content begins =
       length-append (tlv tag content) after,
       length-append (length_octets (length content)) content,
     )
+
+-- ---- elements in ascending order
+
+-- the bytes are one element
+pub is_one : (bytes : List ℕ) (tag : ℕ) (content after : List ℕ) → BeginsWith bytes tag content after → after ≡ []
+    → IsElement bytes
+is_one bytes tag content after begins none = record {
+  tag = tag;
+  content = content;
+  number = begins.number;
+  is = begins.is ∙ ap (λ s. tlv tag content ++ s) none ∙ append-nil (tlv tag content);
+}
+
+one_in_order : (bytes : List ℕ) → IsElement bytes → AreInOrder bytes bytes
+one_in_order bytes element = record {
+  elements = bytes ∷ [];
+  are_elements = record { each = (element, tt); is = sym (append-nil bytes) };
+  is = sym (ap concat (in_ascending_order-same (bytes ∷ []) (IsSortedBy-one is_less bytes)) ∙ append-nil bytes);
+}
+
+-- the one from a place on stays
+pub one_from : (bytes elements : List ℕ) (place : ℕ) → elements ≡ drop place bytes → IsElement elements
+    → IsAppended (AreInOrder (drop place bytes)) (take place bytes) bytes
+one_from bytes elements place is element = record {
+  in_der = drop place bytes;
+  is = one_in_order (drop place bytes) (subst IsElement is element);
+  appended = sym (take-append-drop place bytes);
+}
+
+-- those from a place on were put in order
+pub ordered_from : (bytes elements cut ordered new : List ℕ) (place : ℕ) → elements ≡ drop place bytes
+    → AreInOrder elements ordered → cut ≡ take place bytes → new ≡ cut ++ ordered
+    → IsAppended (AreInOrder (drop place bytes)) (take place bytes) new
+ordered_from bytes elements cut ordered new place is order front appended = record {
+  in_der = ordered;
+  is = subst (λ s. AreInOrder s ordered) is order;
+  appended = appended ∙ ap (λ s. s ++ ordered) front;
+}

@@ -3,6 +3,7 @@ pub mod InsideLemmas
 pub mod ValueLemmas
 pub mod SetLemmas
 pub mod BitLemmas
+pub mod Headers
 pub mod Writing
 pub mod Unique
 pub mod ListDer

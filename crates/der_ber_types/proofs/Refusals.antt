@@ -1,6 +1,6 @@
 -- What has no DER by a type.
 use Rattle.std.proofs.Common.{◌≡◌, ◌≢◌, ℕ, ◌+◌, ◌<◌, ◌≤◌, List, [], ◌∷◌, ◌++◌, sym, ap, refl, ◌∙◌, subst, append-nil}
-use Rattle.std.proofs.Common.{arith, length, drop, get_or, Vec, Global, Result, Ok, Err, IfErr}
+use Rattle.std.proofs.Common.{arith, length, drop, get_or, Result, Ok, Err, IfErr}
 use Rattle.std.proofs.lemmas.List.{drop_all, drop_more}
 use Rattle.std.specs.Borrow.{Bor}
 use Rattle.std.specs.List.{AllByRecursion, concat}
@@ -206,7 +206,7 @@ pub no_content-bits : (nodes : List Node) (bytes : List ℕ) → AreNoBits bytes
 no_content-bits nodes bytes none der (IsContent.bit_parts _ _ are) = none der are
 
 -- what a call refuses of a content has no DER
-pub content-refused : (nodes : List Node) (x y : Inside) (bytes : List ℕ) (r : Result (Vec ℕ Global) TypeError)
+pub content-refused : {A : Type 0} (nodes : List Node) (x y : Inside) (bytes : List ℕ) (r : Result A TypeError)
     (P : Type 0) → x ≡ y → (P → HasNoContent nodes y bytes) → IfErr r (IsRefusal P)
     → IfErr r (IsRefusal (HasNoContent nodes x bytes))
 content-refused nodes x y bytes (Ok v) P e f h = tt

@@ -18,6 +18,12 @@ schema_in [] identifier = None
 schema_in (t ∷ ts) identifier =
     if pointwise nat_eq t.identifier.now identifier then Some t.schema else schema_in ts identifier
 
+-- the bytes are one whose content is these bytes in DER
+pub record IsWritten (schema : Schema) (identifier content bytes : List ℕ) : Type 0 where
+  pub in_der : List ℕ
+  pub is_one : IsOne schema.nodes.now schema.root content in_der
+  pub is : bytes ≡ message_bytes identifier in_der
+
 -- The bytes are a message, and the others are the same with the content in DER by its type, if that is known.
 pub data IsMessage (types : List ContentType) (bytes der : List ℕ) : Type 0 where
   known : (identifier content in_der : List ℕ) (schema : Schema) → bytes ≡ message_bytes identifier content

@@ -7,6 +7,12 @@ use Rattle.der_ber_types.specs.Content.{IsOne}
 use Rattle.der_ber_types.specs.Reordered.{IsNotAhead, IsFirst, HasNone}
 use Rattle.der_ber_types.specs.Values.{IsDefault}
 
+-- bytes of which this holds were appended
+pub record IsAppended (P : List ℕ → Type 0) (old new : List ℕ) : Type 0 where
+  pub in_der : List ℕ
+  pub is : P in_der
+  pub appended : new ≡ old ++ in_der
+
 -- the element at the front of bytes was appended in DER, and these bytes are after it
 pub record IsPushed (nodes : List Node) (i : ℕ) (bytes after old new : List ℕ) : Type 0 where
   pub element : List ℕ

@@ -23,8 +23,8 @@ use std::alloc::Global;
 /// of the type: a member is missing, there is one more, a tag is another, or a string has other parts than its type
 /// allows. `OutOfMemory` if an allocation fails. After each other error the bytes are BER of no value of the type.
 ///
-/// Each level of the type copies its content, and a set is sorted. Otherwise the time and the memory are linear in the
-/// number of bytes.
+/// A set is sorted, and where the length of an element gets other bytes, its content is moved. Otherwise the time is
+/// linear in the number of bytes, and the memory is that of the bytes twice.
 pub fn to_der(alloc: Global, schema: Schema, bytes: &[u8]) -> Result<Vec<u8>, ToDerError>
     ensures ok { IfOk result (λ der. IsBer schema.nodes.now schema.root bytes.now der.items) }
     ensures err { IfErr result (IsRefusedByType bytes.now) }

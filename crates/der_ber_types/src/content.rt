@@ -1,7 +1,7 @@
 //! Elements in DER by their types.
-ghost use Rattle.std.specs.Prelude.{IfOk, IfErr, MatchOption};
+ghost use Rattle.std.specs.Prelude.{IfOk, OnOk, IfErr, MatchOption};
 ghost use Rattle.der_ber_types.specs.Content.{IsContent, AreEach, IsOne, AreMembers};
-ghost use Rattle.der_ber_types.specs.Pushed.{IsPushed, IsNonePushed, IsMemberPushed};
+ghost use Rattle.der_ber_types.specs.Pushed.{IsAppended, IsPushed, IsNonePushed, IsMemberPushed};
 ghost use Rattle.der_ber_types.specs.Refusals.{
   IsRefusal,
   HasNoContent,
@@ -13,18 +13,18 @@ ghost use Rattle.der_ber_types.specs.Refusals.{
 };
 
 use crate::bits::joined_bits;
-use crate::contents::{copied, joined, push_header, truth};
+use crate::contents::{push_joined, push_truth};
 use crate::defaults::is_default;
 use crate::error::TypeError;
+use crate::header::{end_element, push_header};
 use crate::inside::{Inside, inside_of};
-use crate::order::in_order;
+use crate::order::put_in_order;
 use crate::sets::in_member_order;
 use der_path::first_element;
 use der_schema::{Member, Node, Presence};
 use std::alloc::Global;
 
-// The DER of the one element of which the bytes are made, and which is of a node's type.
-#[cycle(writing)]
+// The DER of the one element of which the bytes are made, and which is of a node's type. It has at most as many bytes.
 pub(crate) fn one_in_der(
     alloc: Global,
     nodes: &[Node],
@@ -34,12 +34,29 @@ pub(crate) fn one_in_der(
     ensures ok { IfOk result (λ der. IsOne nodes.now index bytes.now der.items) }
     ensures none { IfErr result (IsRefusal (HasNoOne nodes.now index bytes.now)) }
 {
-    let mut der = Vec::new(alloc);
-    let Some(after) = push_element(alloc, nodes, index, bytes, &mut der)? else {
+    let mut der = Vec::with_capacity(alloc, bytes.len())?;
+    push_one(alloc, nodes, index, bytes, &mut der)?;
+    Ok(der)
+}
+
+// Appends it.
+#[cycle(writing)]
+pub(crate) fn push_one(
+    alloc: Global,
+    nodes: &[Node],
+    index: u16,
+    bytes: &[u8],
+    der: &mut Vec<u8>,
+) -> Result<(), TypeError>
+    ensures ok { OnOk result
+        (IsAppended (IsOne nodes.now index bytes.now) der.old.items der.new.items) }
+    ensures none { IfErr result (IsRefusal (HasNoOne nodes.now index bytes.now)) }
+{
+    let Some(after) = push_element(alloc, nodes, index, bytes, der)? else {
         return Err(TypeError::OtherType);
     };
     if after.is_empty() {
-        Ok(der)
+        Ok(())
     } else {
         Err(TypeError::OtherType)
     }
@@ -47,44 +64,46 @@ pub(crate) fn one_in_der(
 
 // The same of any number of elements.
 #[cycle(writing)]
-fn each_in_der(
+fn push_each(
     alloc: Global,
     nodes: &[Node],
     index: u16,
     bytes: &[u8],
-) -> Result<Vec<u8>, TypeError>
-    ensures ok { IfOk result (λ der. AreEach nodes.now index bytes.now der.items) }
+    der: &mut Vec<u8>,
+) -> Result<(), TypeError>
+    ensures ok { OnOk result
+        (IsAppended (AreEach nodes.now index bytes.now) der.old.items der.new.items) }
     ensures none { IfErr result (IsRefusal (HasNoEach nodes.now index bytes.now)) }
 {
-    let mut der = Vec::new(alloc);
     let mut rest = bytes;
     while !rest.is_empty() {
-        let Some(after) = push_element(alloc, nodes, index, rest, &mut der)? else {
+        let Some(after) = push_element(alloc, nodes, index, rest, der)? else {
             return Err(TypeError::OtherType);
         };
         rest = after;
     }
-    Ok(der)
+    Ok(())
 }
 
 // The same of the members of a SEQUENCE.
 #[cycle(writing)]
-fn members_in_der(
+fn push_members(
     alloc: Global,
     nodes: &[Node],
     members: &[Member],
     bytes: &[u8],
-) -> Result<Vec<u8>, TypeError>
-    ensures ok { IfOk result (λ der. AreMembers nodes.now members.now bytes.now der.items) }
+    der: &mut Vec<u8>,
+) -> Result<(), TypeError>
+    ensures ok { OnOk result
+        (IsAppended (AreMembers nodes.now members.now bytes.now) der.old.items der.new.items) }
     ensures none { IfErr result (IsRefusal (HasNoMembers nodes.now members.now bytes.now)) }
 {
-    let mut der = Vec::new(alloc);
     let mut rest = bytes;
     for member in members {
-        rest = push_member(alloc, nodes, member, rest, &mut der)?;
+        rest = push_member(alloc, nodes, member, rest, der)?;
     }
     if rest.is_empty() {
-        Ok(der)
+        Ok(())
     } else {
         Err(TypeError::OtherType)
     }
@@ -138,40 +157,47 @@ fn push_element<'a>(
     let Some(inside) = inside_of(nodes, index, element.tag) else {
         return Ok(None);
     };
-    let content = content_in_der(alloc, nodes, inside, element.content)?;
-    push_header(der, inside.tag_in_der(element.tag), content.len())?;
-    der.extend_from_slice(&content)?;
+    let place = der.len();
+    push_header(der, inside.tag_in_der(element.tag), element.content.len())?;
+    push_content(alloc, nodes, inside, element.content, der)?;
+    end_element(der, place, element.content.len())?;
     Ok(Some(element.after))
 }
 
-// The content in DER of an element that has this in it.
+// Appends the content in DER of an element that has this in it.
 #[cycle(writing)]
-fn content_in_der(
+fn push_content(
     alloc: Global,
     nodes: &[Node],
     inside: Inside,
     content: &[u8],
-) -> Result<Vec<u8>, TypeError>
-    ensures ok { IfOk result (λ der. IsContent nodes.now inside content.now der.items) }
+    der: &mut Vec<u8>,
+) -> Result<(), TypeError>
+    ensures ok { OnOk result
+        (IsAppended (IsContent nodes.now inside content.now) der.old.items der.new.items) }
     ensures none { IfErr result (IsRefusal (HasNoContent nodes.now inside content.now)) }
 {
     match inside {
-        Inside::Same | Inside::Number | Inside::Octets | Inside::Bits => Ok(copied(
-            alloc, content,
+        Inside::Same | Inside::Number | Inside::Octets | Inside::Bits => Ok(der.extend_from_slice(
+            content,
         )?),
-        Inside::Boolean => truth(alloc, content),
-        Inside::Parts => joined(alloc, content),
-        Inside::BitParts => joined_bits(alloc, content),
-        Inside::Members(members) => members_in_der(alloc, nodes, members, content),
+        Inside::Boolean => push_truth(content, der),
+        Inside::Parts => push_joined(content, der),
+        Inside::BitParts => {
+            let bits = joined_bits(alloc, content)?;
+            Ok(der.extend_from_slice(&bits)?)
+        }
+        Inside::Members(members) => push_members(alloc, nodes, members, content, der),
         Inside::AnyOrder(members) => {
             let ordered = in_member_order(alloc, nodes, members, content)?;
-            members_in_der(alloc, nodes, members, &ordered)
+            push_members(alloc, nodes, members, &ordered, der)
         }
-        Inside::Each(index) => each_in_der(alloc, nodes, index, content),
+        Inside::Each(index) => push_each(alloc, nodes, index, content, der),
         Inside::Set(index) => {
-            let elements = each_in_der(alloc, nodes, index, content)?;
-            in_order(alloc, &elements)
+            let place = der.len();
+            push_each(alloc, nodes, index, content, der)?;
+            put_in_order(alloc, der, place)
         }
-        Inside::One(index) => one_in_der(alloc, nodes, index, content),
+        Inside::One(index) => push_one(alloc, nodes, index, content, der),
     }
 }

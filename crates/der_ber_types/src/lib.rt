@@ -7,6 +7,7 @@ mod content;
 mod contents;
 mod defaults;
 mod error;
+mod header;
 mod inside;
 mod kinds;
 pub mod laws;

@@ -5,6 +5,7 @@ ghost use Rattle.der_ber_types.specs.Errors.{IsRefusedByType};
 ghost use Rattle.der_ber_types.specs.Message.{
   IsMessageBer,
   IsMessage,
+  IsWritten,
   IsNoMessageBer,
   IsNoMessage,
   IsNoElementWith,
@@ -12,12 +13,13 @@ ghost use Rattle.der_ber_types.specs.Message.{
   message_bytes,
   schema_in,
 };
-ghost use Rattle.der_ber_types.specs.Refusals.{IsRefusal};
+ghost use Rattle.der_ber_types.specs.Refusals.{IsRefusal, HasNoOne};
 
 use crate::ToDerError;
-use crate::content::one_in_der;
-use crate::contents::{copied, push_header};
+use crate::content::push_one;
+use crate::contents::copied;
 use crate::error::TypeError;
+use crate::header::{end_element, push_header};
 use der_ber::with_whole_strings;
 use der_path::first_element;
 use der_schema::Schema;
@@ -63,8 +65,13 @@ fn message_in_der(alloc: Global, types: &[ContentType], bytes: &[u8]) -> Result<
     let Some(schema) = schema_in(types, message.identifier) else {
         return Ok(copied(alloc, bytes)?);
     };
-    let content = one_in_der(alloc, schema.nodes, schema.root, message.content)?;
-    Ok(written(alloc, message.identifier, &content)?)
+    written(
+        alloc,
+        schema,
+        message.identifier,
+        message.content,
+        bytes.len(),
+    )
 }
 
 // A message.
@@ -126,15 +133,30 @@ fn schema_in(types: &[ContentType], identifier: &[u8]) -> Option<Schema>
     None
 }
 
-// The bytes of a message.
-fn written(alloc: Global, identifier: &[u8], content: &[u8]) -> Result<Vec<u8>, AllocError>
-    ensures { IfOk result (λ bytes. bytes.items ≡ message_bytes identifier.now content.now) }
+// The bytes of a message with this content in DER by its schema. They are at most so many.
+fn written(
+    alloc: Global,
+    schema: Schema,
+    identifier: &[u8],
+    content: &[u8],
+    size: usize,
+) -> Result<Vec<u8>, TypeError>
+    ensures ok { IfOk result
+        (λ bytes. IsWritten schema identifier.now content.now bytes.items) }
+    ensures none { IfErr result (IsRefusal (HasNoOne schema.nodes.now schema.root content.now)) }
 {
-    let mut members = Vec::new(alloc);
-    push_element(&mut members, Tag::OID, identifier)?;
-    push_element(&mut members, Tag::context_specific_constructed(0), content)?;
-    let mut bytes = Vec::new(alloc);
-    push_element(&mut bytes, Tag::SEQUENCE, &members)?;
+    let mut bytes = Vec::with_capacity(alloc, size)?;
+    push_header(&mut bytes, Tag::SEQUENCE, size)?;
+    push_element(&mut bytes, Tag::OID, identifier)?;
+    let place = bytes.len();
+    push_header(
+        &mut bytes,
+        Tag::context_specific_constructed(0),
+        content.len(),
+    )?;
+    push_one(alloc, schema.nodes, schema.root, content, &mut bytes)?;
+    end_element(&mut bytes, place, content.len())?;
+    end_element(&mut bytes, 0, size)?;
     Ok(bytes)
 }
 

@@ -3,10 +3,8 @@ use Rattle.std.proofs.Common.{◌≡◌, ℕ, ◌==◌, Bool, true, false, List,
 use Rattle.serde_json.specs.Data.{Data, boolean}
 use Rattle.picky_der_core.specs.Primitive.{boolean_content}
 use Rattle.der_schema.specs.declared.node.Item.{Item}
-use Rattle.der_schema.specs.declared.node.Kind.{Kind}
 use Rattle.der_schema.specs.declared.node.Kind.TheVariants as kind
-use Rattle.der_schema.specs.OneForm.{has_two_forms}
-use Rattle.der_json.specs.Contents.{IsArcsJson, IsBitsJson, IsContentJson, IsStringJson, IsTextJson}
+use Rattle.der_json.specs.Contents.{IsBitsJson, IsTextJson}
 use Rattle.der_json.specs.Laws.{OneJsonOfContent}
 use Rattle.der_json.specs.Numbers.{IsItemJson, IsNumberJson, item_name}
 

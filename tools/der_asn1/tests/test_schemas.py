@@ -240,22 +240,34 @@ class Command(unittest.TestCase):
         self.assertEqual(0, status)
         self.assertIn("\nRealm ::= KerberosString\n", text)
 
+    def words_for(self, room, notation):
+        """The words that write the table of a module with the types `Letter` and `Page` in this folder, and the table."""
+        for name in ("src", "specs"):
+            os.makedirs(os.path.join(room, "letters", name))
+        Path(room, "letters/src/lib.rt").write_text("pub use types::{Letter, Page};\n", encoding="utf-8")
+        Path(room, "letters/specs/Notation.antt").write_text("abbrev pub Letter : Notation\nabbrev pub Page : Notation\n", encoding="utf-8")
+        module, table = Path(room, "letters.asn1"), Path(room, "tables/src/letters.rt")
+        module.write_text(module_text(notation), encoding="utf-8")
+        return ["--schemas", str(table), "--crate", "M=letters", str(module)], table
+
     def test_a_file_that_differs(self):
         with tempfile.TemporaryDirectory() as room:
-            for name in ("src", "specs"):
-                os.makedirs(os.path.join(room, "letters", name))
-            Path(room, "letters/src/lib.rt").write_text("pub use types::{Letter, Page};\n", encoding="utf-8")
-            Path(room, "letters/specs/Notation.antt").write_text("abbrev pub Letter : Notation\nabbrev pub Page : Notation\n", encoding="utf-8")
-            module = Path(room, "letters.asn1")
-            module.write_text(module_text("Letter ::= SEQUENCE OF Page\nPage ::= UTF8String"), encoding="utf-8")
-            os.makedirs(os.path.join(room, "tables/src"))
-            table = Path(room, "tables/src/letters.rt")
-            words = ["--schemas", str(table), "--crate", "M=letters", str(module)]
+            words, table = self.words_for(room, "Letter ::= SEQUENCE OF Page\nPage ::= UTF8String")
             self.assertEqual((0, ""), self.run_command(*words))
             self.assertIn("pub fn letter() -> Schema", table.read_text(encoding="utf-8"))
             self.assertEqual((0, ""), self.run_command("--check", *words))
             table.write_text(table.read_text(encoding="utf-8").replace("Page", "Leaf"), encoding="utf-8")
             self.assertEqual((1, f"{table} isn't what would be written\n"), self.run_command("--check", *words))
+
+    def test_a_module_that_isnt_given(self):
+        """Its types are refused as in a crate, unless the options of the crate allow them."""
+        with tempfile.TemporaryDirectory() as room:
+            words, table = self.words_for(room, "IMPORTS Page FROM Other;\nLetter ::= SEQUENCE OF Page")
+            with contextlib.redirect_stderr(io.StringIO()) as err:
+                self.assertEqual((1, ""), self.run_command(*words))
+            self.assertIn("a module that isn't given", err.getvalue())
+            self.assertFalse(table.exists())
+            self.assertEqual((0, ""), self.run_command("--allow-raw", *words))
 
 
 class Indices(unittest.TestCase):

@@ -1,19 +1,20 @@
-use Rattle.std.proofs.Common.{◌+◌, ◌*◌, ◌++◌, ◌≤◌, List, ℕ, length, drop}
-use Rattle.der_ber_types.specs.Content.{AreEach, AreMembers}
+use Rattle.std.proofs.Common.{◌+◌, ◌*◌, ◌≤◌, length, drop}
+use Rattle.der_ber_types.specs.Pushed.{IsAppended}
+use Rattle.der_ber_types.proofs.Writing.{CompletesEach, CompletesMembers}
 use Rattle.der_ber_types.proofs.Refusals.{SomeEach, SomeMembers}
 use Rattle.der_ber_types.proofs.content.+writing.Given as goal
 
-abbrev pub decreases-content_in_der : goal.decreases-content_in_der
-decreases-content_in_der l = 4 * length l.content.now + 4
+abbrev pub decreases-push_content : goal.decreases-push_content
+decreases-push_content l = 4 * length l.content.now + 4
 
-abbrev pub decreases-one_in_der : goal.decreases-one_in_der
-decreases-one_in_der l = 4 * length l.bytes.now + 3
+abbrev pub decreases-push_one : goal.decreases-push_one
+decreases-push_one l = 4 * length l.bytes.now + 3
 
-abbrev pub decreases-each_in_der : goal.decreases-each_in_der
-decreases-each_in_der l = 4 * length l.bytes.now + 3
+abbrev pub decreases-push_each : goal.decreases-push_each
+decreases-push_each l = 4 * length l.bytes.now + 3
 
-abbrev pub decreases-members_in_der : goal.decreases-members_in_der
-decreases-members_in_der l = 4 * length l.bytes.now + 3
+abbrev pub decreases-push_members : goal.decreases-push_members
+decreases-push_members l = 4 * length l.bytes.now + 3
 
 abbrev pub decreases-push_member : goal.decreases-push_member
 decreases-push_member l = 4 * length l.bytes.now + 2
@@ -22,21 +23,20 @@ abbrev pub decreases-push_element : goal.decreases-push_element
 decreases-push_element l = 4 * length l.bytes.now + 1
 
 -- what is made of the rest completes it
-abbrev pub invariant-each_in_der-loop-rest : goal.invariant-each_in_der-loop-rest
-invariant-each_in_der-loop-rest l = record {
+abbrev pub invariant-push_each-loop-rest : goal.invariant-push_each-loop-rest
+invariant-push_each-loop-rest l = record {
   fewer : length l.rest ≤ length l.bytes;
-  so_far : (others : List ℕ) → AreEach l.nodes l.index l.rest others
-      → AreEach l.nodes l.index l.bytes (l.der.items ++ others);
+  so_far : IsAppended (CompletesEach l.nodes l.index l.bytes l.rest) l.fn.der.items l.der.items;
   left : SomeEach l.nodes l.index l.bytes → SomeEach l.nodes l.index l.rest;
 }
 
-abbrev pub decreases-each_in_der-loop-rest : goal.decreases-each_in_der-loop-rest
-decreases-each_in_der-loop-rest l = length l.rest
+abbrev pub decreases-push_each-loop-rest : goal.decreases-push_each-loop-rest
+decreases-push_each-loop-rest l = length l.rest
 
-abbrev pub invariant-members_in_der-loop-member : goal.invariant-members_in_der-loop-member
-invariant-members_in_der-loop-member l = record {
+abbrev pub invariant-push_members-loop-member : goal.invariant-push_members-loop-member
+invariant-push_members-loop-member l = record {
   fewer : length l.rest ≤ length l.bytes;
-  so_far : (others : List ℕ) → AreMembers l.nodes (drop l.member-index l.members) l.rest others
-      → AreMembers l.nodes l.members l.bytes (l.der.items ++ others);
+  so_far : IsAppended (CompletesMembers l.nodes l.members l.bytes (drop l.member-index l.members) l.rest)
+      l.fn.der.items l.der.items;
   left : SomeMembers l.nodes l.members l.bytes → SomeMembers l.nodes (drop l.member-index l.members) l.rest;
 }

@@ -1,12 +1,13 @@
-use Rattle.std.proofs.Common.{◌++◌, List, ℕ, length}
-use Rattle.der_ber_types.specs.Contents.{AreParts}
+use Rattle.std.proofs.Common.{length}
+use Rattle.der_ber_types.specs.Pushed.{IsAppended}
 use Rattle.der_ber_types.proofs.Refusals.{SomeParts}
-use Rattle.der_ber_types.proofs.contents.joined.Given as goal
+use Rattle.der_ber_types.proofs.Writing.{CompletesParts}
+use Rattle.der_ber_types.proofs.contents.push_joined.Given as goal
 
 -- what is made of the rest completes it
 abbrev pub invariant-loop-rest : goal.invariant-loop-rest
 invariant-loop-rest l = record {
-  so_far : (others : List ℕ) → AreParts l.rest others → AreParts l.fn.bytes (l.der.items ++ others);
+  so_far : IsAppended (CompletesParts l.fn.bytes l.rest) l.fn.der.items l.der.items;
   left : SomeParts l.fn.bytes → SomeParts l.rest;
 }
 

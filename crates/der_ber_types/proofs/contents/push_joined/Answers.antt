@@ -3,8 +3,14 @@ use Rattle.picky_der_core.specs.Element.{tlv}
 use Rattle.der_ber_types.proofs.Cutting.{smaller_after}
 use Rattle.der_ber_types.proofs.Refusals.{parts-next, no_parts-front}
 use Rattle.der_ber_types.proofs.Unique.{tlv-fronts}
-use Rattle.der_ber_types.proofs.Writing.{nothing_left, something_left, part-more, parts-end}
-use Rattle.der_ber_types.proofs.contents.joined.Goals as goal
+use Rattle.der_ber_types.proofs.Writing.{nothing_left, something_left, parts-none, part-more, parts-end}
+use Rattle.der_ber_types.proofs.contents.push_joined.Goals as goal
+
+pub loop-rest-init : goal.loop-rest-init
+loop-rest-init c = record {
+  so_far = parts-none c.args.bytes.now c.args.der.now.items;
+  left = λ some. some;
+}
 
 pub loop-rest-smaller : goal.loop-rest-smaller
 loop-rest-smaller c =
@@ -20,14 +26,14 @@ loop-rest-preserved c =
     let first : rest ≡ tlv 0x04 content ++ after =
     subst (λ n. rest ≡ tlv n content ++ after) tag c.in-Some.ensures.is in
     record {
-      so_far = part-more c.args.bytes.now rest content after c.loop-rest.der.items c.extend_from_slice.new.self.items
-          c.loop-rest.invariant.so_far first c.in_ok-extend_from_slice.ensures.items;
+      so_far = part-more c.args.bytes.now rest content after c.args.der.now.items c.loop-rest.der.items
+          c.extend_from_slice.new.self.items c.loop-rest.invariant.so_far first c.in_ok-extend_from_slice.ensures.items;
       left = λ some. parts-next rest content after first (c.loop-rest.invariant.left some);
     }
 
 pub returns-clause-ok : goal.returns-clause-ok
 returns-clause-ok c =
-    parts-end c.args.bytes.now c.loop-rest.rest.now c.loop-rest.der.items
+    parts-end c.args.bytes.now c.loop-rest.rest.now c.args.der.now.items c.loop-rest.der.items
     (nothing_left c.loop-rest.rest.now c.is_empty.result c.is_empty.ensures c.loop-rest-test.false)
     c.loop-rest.invariant.so_far
 

@@ -1,0 +1,8 @@
+use Rattle.serde_json.specs.View.{view}
+use Rattle.der_json.proofs.messages.from_json.Goals as goal
+
+pub returns-in-Err : goal.returns-in-Err
+returns-in-Err c = record { ok = tt; refused = c.of.ensures (view c.args.json.now) tt }
+
+pub returns-else-is_same-clause-refused : goal.returns-else-is_same-clause-refused
+returns-else-is_same-clause-refused c = c.of-else-is_same.ensures (view c.args.json.now) tt
