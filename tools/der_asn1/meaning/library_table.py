@@ -65,7 +65,7 @@ UNIVERSAL_TAGS = {it.name: it.tag for it in TYPES}
 
 # the other names of the library that a crate may import, by their modules, in the order of imports
 _NAMES = {
-    _TYPES: """Ascii Asn1Set AtLeast AtMost CharacterSet Constrained Contents Encoded Exact ExactAlternatives ExactContents ExactDefault ExactMembers InRange Minus NamedBits Notated NotatedAlternatives NotatedDefault NotatedMembers NotatedSet OtherThan Outside Plus
+    _TYPES: """Ascii Asn1Set AtLeast AtMost CharacterSet Constrained Contents Encoded Exact ExactAlternatives ExactContents ExactDefault ExactMembers ExactNumber InRange Minus NamedBits Notated NotatedAlternatives NotatedDefault NotatedMembers NotatedSet OtherThan Outside Plus
         ImplicitPrimitive ImplicitSet RestrictedString TagOrdered Unicode WholeNumber Width WithSize deserialize_constrained_as deserialize_contents_as""",
     _ELEMENTS: "AnyElement LaterElements LaterElementsFrom",
     "picky_asn1_der::application_tag": "ApplicationTag",
