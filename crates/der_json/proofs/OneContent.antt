@@ -37,7 +37,8 @@ use Rattle.der_json.specs.Contents.{IsArcsJson, IsBitsJson, IsContentJson, IsStr
 use Rattle.der_json.specs.Json.{IsAny}
 use Rattle.der_json.specs.Laws.{OneContent}
 use Rattle.der_schema.specs.Names.{item_names, names_in}
-use Rattle.der_json.specs.Numbers.{IsItemJson, IsNumberJson, digits_text, integer_data, integer_text, item_name}
+use Rattle.der_json.specs.Numbers.{IsItemJson, IsNumberJson, IsUnnamedJson, digits_text, integer_data, integer_text}
+use Rattle.der_json.specs.Numbers.{item_name, number_name}
 use Rattle.der_json.proofs.NameLemmas.{AreDifferent, AreNames, IsSmall, names_from}
 
 -- ---- hexadecimal
@@ -166,13 +167,31 @@ number_of_name (it ∷ items) m n name d e f =
     number_if (it.number == m) (it.number == n) m n it items name d.0 refl refl e f
     (number_of_name items m n name d.1)
 
+-- a number with a name
+record IsNamed (items : List Item) (z : ℤ) (name : List ℕ) : Type 0 where
+  number : ℕ
+  of : z ≡ pos number
+  named : item_name items number ≡ Some name
+
+named_if : (items : List Item) (n : ℕ) (name : List ℕ) (small : Bool)
+    → (if small then item_name items n else None) ≡ Some name → IsNamed items (pos n) name
+named_if items n name true e = record { number = n; of = refl; named = e }
+named_if items n name false e = absurd (cc)
+
+named_number : (items : List Item) (z : ℤ) (name : List ℕ) → number_name items z ≡ Some name → IsNamed items z name
+named_number items (pos n) name e = named_if items n name (nat_lt n (2 ^ 64)) e
+named_number items (negsuc n) name e = absurd (cc)
+
 one_item : (items : List Item) (s t : List ℕ) (d : Data) → AreNames (item_names items) → AreBytes s → AreBytes t
     → IsItemJson items s d → IsItemJson items t d → s ≡ t
 one_item items s t d names p q a b =
     let name : b.name ≡ a.name = cc (a.is, b.is) in
-    let number : a.number ≡ b.number =
-    number_of_name items a.number b.number a.name names.different a.named (b.named ∙ ap Some name) in
-    one_value s t p q a.valid b.valid (a.of ∙ ap pos number ∙ sym b.of)
+    let x : IsNamed items (integer_value s) a.name = named_number items (integer_value s) a.name a.named in
+    let y : IsNamed items (integer_value t) a.name =
+    named_number items (integer_value t) a.name (b.named ∙ ap Some name) in
+    let number : x.number ≡ y.number =
+    number_of_name items x.number y.number a.name names.different x.named y.named in
+    one_value s t p q a.valid b.valid (x.of ∙ ap pos number ∙ sym y.of)
 
 no_digit : (ds : List ℕ) → AllBelowBase 10 ds → IsSmall (map (λ digit. 48 + digit) ds) → ⊥
 no_digit [] below h = h
@@ -195,14 +214,15 @@ no_name items s t d names a b =
     let z : ℤ = integer_value t in
     let p : Bool = fits_unsigned 64 z || fits_signed 64 z in
     let text : integer_text z ≡ a.name = text_if p z a.name (sym (data_is p z) ∙ sym b.is ∙ a.is) in
-    no_letter z (subst IsSmall (sym text) (name_of IsSmall items a.number a.name a.named names.small))
+    let x : IsNamed items (integer_value s) a.name = named_number items (integer_value s) a.name a.named in
+    no_letter z (subst IsSmall (sym text) (name_of IsSmall items x.number a.name x.named names.small))
 
 one_known : (items : List Item) (s t : List ℕ) (d : Data) → AreNames (item_names items) → AreBytes s → AreBytes t
-    → IsItemJson items s d ⊎ IsNumberJson s d → IsItemJson items t d ⊎ IsNumberJson t d → s ≡ t
+    → IsItemJson items s d ⊎ IsUnnamedJson items s d → IsItemJson items t d ⊎ IsUnnamedJson items t d → s ≡ t
 one_known items s t d names p q (inl a) (inl b) = one_item items s t d names p q a b
-one_known items s t d names p q (inl a) (inr b) = absurd (no_name items s t d names a b)
-one_known items s t d names p q (inr a) (inl b) = absurd (no_name items t s d names b a)
-one_known items s t d names p q (inr a) (inr b) = one_number s t d p q a b
+one_known items s t d names p q (inl a) (inr b) = absurd (no_name items s t d names a b.number)
+one_known items s t d names p q (inr a) (inl b) = absurd (no_name items t s d names b a.number)
+one_known items s t d names p q (inr a) (inr b) = one_number s t d p q a.number b.number
 
 -- ---- bits
 

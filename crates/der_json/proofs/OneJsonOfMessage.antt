@@ -17,7 +17,7 @@ use Rattle.der_schema.specs.declared.node.Kind.{Kind}
 use Rattle.der_schema.specs.declared.node.Kind.TheVariants as kind
 use Rattle.der_schema.specs.declared.node.Member.{Member}
 use Rattle.der_schema.specs.declared.node.Node.{Node}
-use Rattle.der_schema.specs.OneForm.{content_only, has_one_form, has_one_form_at, has_short_tag, has_two_forms}
+use Rattle.der_schema.specs.OneForm.{content_only, has_one_form, has_one_form_at, has_short_tag}
 use Rattle.der_schema.specs.OneForm.{is_choice, is_choice_kind, unless_header}
 use Rattle.der_schema.specs.Rules.{are_all_apart, are_members_apart, index_holds, in_set, is_in_tag, is_required}
 use Rattle.der_schema.specs.Rules.{keeps_default, keeps_rules, keeps_rules_at, keeps_set, keeps_tag, members_of}
@@ -40,7 +40,6 @@ record IsSound (nodes : List Node) (n : ℕ) : Type 0 where
   alternatives : (i : ℕ) (k : Kind) → IsOfKind nodes i k
       → are_all_apart (tags_at nodes n) (map (λ a. a.node) (alternatives_of k)) ≡ true
   members : (i : ℕ) (k : Kind) → IsOfKind nodes i k → are_members_apart (tags_at nodes n) (members_of k) ≡ true
-  form : (i : ℕ) (k : Kind) → IsOfKind nodes i k → has_two_forms k ≡ false
   short : HasShortTags nodes
   contents : (i : ℕ) (k : Kind) → IsOfKind nodes i k → index_holds (is_choice nodes n) (content_only k) ≡ false
 
@@ -61,23 +60,19 @@ kept nodes rules i k of =
     (parts.0, (both apart (defaults && tags) parts.1).0)
 
 one_form : (nodes : List Node) → has_one_form nodes ≡ true → (i : ℕ) (k : Kind) → IsOfKind nodes i k
-    → (has_two_forms k ≡ false) × ((has_short_tag k ≡ true)
-    × (index_holds (is_choice nodes (length nodes)) (content_only k) ≡ false))
+    → (has_short_tag k ≡ true) × (index_holds (is_choice nodes (length nodes)) (content_only k) ≡ false)
 one_form nodes forms i k of =
     let n : ℕ = length nodes in
     let choice = index_holds (is_choice nodes n) (content_only k) in
-    let parts = both (not (has_two_forms k)) (has_short_tag k && not choice)
-    (kind_holds (has_one_form_at nodes n) nodes i k forms of) in
-    let others = both (has_short_tag k) (not choice) parts.1 in
-    (is_false (has_two_forms k) parts.0, (others.0, is_false choice others.1))
+    let parts = both (has_short_tag k) (not choice) (kind_holds (has_one_form_at nodes n) nodes i k forms of) in
+    (parts.0, is_false choice parts.1)
 
 sound : (nodes : List Node) → keeps_rules nodes ≡ true → has_one_form nodes ≡ true → IsSound nodes (length nodes)
 sound nodes rules forms = record {
   alternatives = λ i k of. (kept nodes rules i k of).0;
   members = λ i k of. (kept nodes rules i k of).1;
-  form = λ i k of. (one_form nodes forms i k of).0;
-  short = λ i k of. (one_form nodes forms i k of).1.0;
-  contents = λ i k of. (one_form nodes forms i k of).1.1;
+  short = λ i k of. (one_form nodes forms i k of).0;
+  contents = λ i k of. (one_form nodes forms i k of).1;
 }
 
 -- ---- a CHOICE has its header
@@ -173,7 +168,7 @@ mutual
       as_formed nodes k Form.plain header t e (plain_form k x.tag x.has_tag) (formed nodes i header t e y k of) in
       let contents : x.content ≡ z.content =
       same_content header x.tag z.tag x.content z.content s t same x.encoded z.encoded in
-      one_json_of_content k x.content d e (ok.form i k of) x.json
+      one_json_of_content k x.content d e x.json
       (subst (λ (c : List ℕ). IsContentJson k c e) (sym contents) z.json)
   of_value nodes n i header s d (IsJson.same _ _ j _ k _ _ of is x) ok free t e same y =
       let z : IsJson nodes j header t e =

@@ -19,7 +19,7 @@ use Rattle.der_types.specs.TimeContents.{is_generalized_time, is_utc_time}
 use Rattle.der_types.specs.declared.width.Width.{Width}
 use Rattle.der_schema.specs.declared.node.Kind.{Kind}
 use Rattle.der_schema.specs.declared.node.Kind.TheVariants as kind
-use Rattle.der_json.specs.Numbers.{IsItemJson, IsNumberJson}
+use Rattle.der_json.specs.Numbers.{IsItemJson, IsNumberJson, IsUnnamedJson}
 
 -- the tag of values without parts (X.680, table 1)
 abbrev pub plain_tag : Kind → Option ℕ
@@ -82,7 +82,7 @@ IsContentJson (kind.NamedInteger items) s d = IsNumberJson s d
 IsContentJson (kind.Unsigned bits) s d = IsNumberJson s d
 IsContentJson (kind.Signed bits) s d = IsNumberJson s d
 IsContentJson (kind.Enumerated items) s d = IsItemJson items.now s d
-IsContentJson (kind.ExtensibleEnumerated items) s d = IsItemJson items.now s d ⊎ IsNumberJson s d
+IsContentJson (kind.ExtensibleEnumerated items) s d = IsItemJson items.now s d ⊎ IsUnnamedJson items.now s d
 IsContentJson kind.BitString s d = IsBitsJson s d
 IsContentJson (kind.NamedBits items) s d = IsBitsJson s d
 IsContentJson kind.OctetString s d = d ≡ string (encode_upper s)

@@ -6,7 +6,7 @@ use Rattle.der_schema.specs.declared.node.Kind.{Kind}
 use Rattle.der_schema.specs.declared.node.Node.{Node}
 use Rattle.der_json.specs.Contents.{IsContentJson}
 use Rattle.der_schema.specs.Names.{are_names, has_names, names_in}
-use Rattle.der_schema.specs.OneForm.{has_one_form, has_two_forms}
+use Rattle.der_schema.specs.OneForm.{has_one_form}
 use Rattle.der_schema.specs.Rules.{keeps_rules}
 use Rattle.der_json.specs.Json.{IsJson}
 
@@ -19,7 +19,7 @@ OneContent =
 -- a content has one JSON only
 abbrev pub OneJsonOfContent : Type 0
 OneJsonOfContent =
-    (k : Kind) (s : List ℕ) (d e : Data) → has_two_forms k ≡ false → IsContentJson k s d → IsContentJson k s e → d ≡ e
+    (k : Kind) (s : List ℕ) (d e : Data) → IsContentJson k s d → IsContentJson k s e → d ≡ e
 
 -- it is the JSON of one message only
 abbrev pub OneMessage : Type 0

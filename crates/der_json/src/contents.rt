@@ -10,10 +10,10 @@ ghost use Rattle.der_types.specs.ObjectIdentifier.{arcs_of, is_object_identifier
 ghost use Rattle.der_types.specs.RelativeOid.{is_relative_oid};
 ghost use Rattle.der_types.specs.Subidentifiers.{numbers_after};
 ghost use Rattle.der_json.specs.Contents.{IsArcsJson, IsBitsJson, IsContentJson, IsPlain, IsTextJson, plain_tag};
-ghost use Rattle.der_json.specs.Numbers.{IsItemJson, IsNumberJson};
+ghost use Rattle.der_json.specs.Numbers.{IsItemJson, IsUnnamedJson};
 
 use crate::JsonError;
-use crate::items::item_value;
+use crate::items::{item_value, name_in};
 use crate::numbers::number_value;
 use crate::part::{Part, copied};
 use crate::strings::string_value;
@@ -24,6 +24,7 @@ use der_types::{
 use hex::encode_upper;
 use picky_der_core::Asn1DerError;
 use picky_der_core::asn1::Tag;
+use picky_der_core::integer::is_integer;
 use serde_json::{Map, Value, put};
 use std::alloc::{AllocError, Global};
 
@@ -111,12 +112,14 @@ fn known_item_value(
     content: Part<'_>,
 ) -> Result<Value, JsonError>
     ensures { IfOk result (λ value. IsItemJson items.now content.entry.bytes.now (view value)
-        ⊎ IsNumberJson content.entry.bytes.now (view value)) }
+        ⊎ IsUnnamedJson items.now content.entry.bytes.now (view value)) }
 {
-    match item_value(alloc, items, content) {
-        Ok(value) => Ok(value),
-        Err(JsonError::OtherContent(_)) => number_value(alloc, content),
-        Err(error) => Err(error),
+    if !is_integer(content.bytes) {
+        return Err(JsonError::OtherContent(content.place));
+    }
+    match name_in(items, content.bytes) {
+        Some(name) => Ok(Value::try_from_str(alloc, name)?),
+        None => number_value(alloc, content),
     }
 }
 

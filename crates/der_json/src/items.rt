@@ -1,7 +1,8 @@
 //! The items of an ENUMERATED.
-ghost use Rattle.std.specs.Prelude.{◌≡◌, IfOk, option_map};
+ghost use Rattle.std.specs.Prelude.{◌≡◌, IfOk, option_map, true};
 ghost use Rattle.serde_json.specs.View.{view};
-ghost use Rattle.der_json.specs.Numbers.{IsItemJson, item_name};
+ghost use Rattle.picky_der_core.specs.Integer.{integer_value, is_integer};
+ghost use Rattle.der_json.specs.Numbers.{IsItemJson, item_name, number_name};
 
 use crate::JsonError;
 use crate::part::Part;
@@ -21,14 +22,21 @@ pub(crate) fn item_value(
     if !is_integer(content.bytes) {
         return Err(JsonError::OtherContent(content.place));
     }
-    let number: Option<u64> = number_of(content.bytes);
-    let Some(number) = number else {
-        return Err(JsonError::OtherContent(content.place));
-    };
-    let Some(name) = name_of(items, number) else {
-        return Err(JsonError::OtherContent(content.place));
-    };
-    Ok(Value::try_from_str(alloc, name)?)
+    match name_in(items, content.bytes) {
+        Some(name) => Ok(Value::try_from_str(alloc, name)?),
+        None => Err(JsonError::OtherContent(content.place)),
+    }
+}
+
+// The name of the item with the number that a content has, or `None` if no item has it.
+pub(crate) fn name_in(items: &'static [Item], content: &[u8]) -> Option<&'static str>
+    requires { is_integer content.now ≡ true }
+    ensures { option_map (λ name. name.now) result ≡ number_name items.now (integer_value content.now) }
+{
+    match number_of::<u64>(content) {
+        Some(number) => name_of(items, number),
+        None => None,
+    }
 }
 
 // The name of the first item with this number, or `None`.

@@ -14,8 +14,7 @@ pub fn one_content()
     ensures { OneContent }
 {}
 
-/// A content of a type without parts has only one JSON, unless the type is an ENUMERATED with an extension marker: the
-/// definition also lets a number be the JSON of an item, which `to_json` doesn't return.
+/// A content of a type without parts has only one JSON.
 pub fn one_json_of_content()
     ensures { OneJsonOfContent }
 {}
@@ -27,7 +26,7 @@ pub fn one_message()
 {}
 
 /// A message of a type has only one JSON, if the elements in it are distinguished by their tags (25.6, 27.3, 29.3), and
-/// no type in it is such an ENUMERATED, or a CHOICE with a tag in place of those of its alternatives (31.2.7).
+/// no type in it is a CHOICE with a tag in place of those of its alternatives (31.2.7).
 pub fn one_json()
     ensures { OneJson }
 {}

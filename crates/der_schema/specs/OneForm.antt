@@ -9,11 +9,6 @@ use Rattle.der_schema.specs.declared.node.Node.{Node}
 use Rattle.der_schema.specs.Rules.{index_holds, node_holds}
 use Rattle.der_schema.specs.Tags.{same_type}
 
--- In JSON the number of an item is the item's name. Where each number is allowed, it can be written as a number too.
-abbrev pub has_two_forms : Kind → Bool
-has_two_forms (kind.ExtensibleEnumerated items) = true
-has_two_forms _ = false
-
 abbrev pub is_choice_kind : Kind → Bool
 is_choice_kind (kind.Choice alternatives) = true
 is_choice_kind _ = false
@@ -39,10 +34,10 @@ abbrev pub has_short_tag : Kind → Bool
 has_short_tag (kind.Wrapped w i) = has_tag_number w
 has_short_tag _ = true
 
--- no value has two forms, and no tag is in place of those of a CHOICE (X.680, 31.2.7)
+-- no tag is in place of those of a CHOICE (X.680, 31.2.7)
 abbrev pub has_one_form_at : List Node → ℕ → Kind → Bool
 has_one_form_at nodes n k =
-    not (has_two_forms k) && (has_short_tag k && not (index_holds (is_choice nodes n) (content_only k)))
+    has_short_tag k && not (index_holds (is_choice nodes n) (content_only k))
 
 abbrev pub has_one_form : List Node → Bool
 has_one_form nodes = let n : ℕ = length nodes in list_all (λ node. has_one_form_at nodes n node.kind) nodes
