@@ -14,6 +14,9 @@ pub(crate) fn push_header(
 ) -> Result<(), AllocError>
     ensures { OnOk result (bytes.new.items ≡ bytes.old.items ++ tag ∷ length_octets content_len) }
 {
+    if content_len < 0x80 {
+        return bytes.extend_from_slice(&[tag.inner(), content_len as u8]);
+    }
     bytes.push(tag.inner())?;
     bytes.extend_from_slice(&Length::bytes(content_len))
 }
