@@ -9,6 +9,11 @@ pub record AreElements (elements : List (List ℕ)) (bytes : List ℕ) : Type 0 
   pub each : AllByRecursion IsElement elements
   pub is : bytes ≡ concat elements
 
+-- they are some
+pub record AreAnyElements (bytes : List ℕ) : Type 0 where
+  pub elements : List (List ℕ)
+  pub are : AreElements elements bytes
+
 -- these bytes are the elements of those in ascending order
 pub record AreInOrder (bytes ordered : List ℕ) : Type 0 where
   pub elements : List (List ℕ)

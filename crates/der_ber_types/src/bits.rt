@@ -1,6 +1,7 @@
 //! BIT STRINGs in parts (X.690, 8.6.4).
 ghost use Rattle.std.specs.Prelude.{◌≡◌, ◌≤◌, ◌++◌, ◌∷◌, IfOk, IfErr, MatchOption};
 ghost use Rattle.picky_der_core.specs.Element.{tlv};
+ghost use Rattle.der_ber_types.specs.Errors.{IsWithin};
 ghost use Rattle.der_ber_types.specs.Contents.{AreJoinedBits, IsBitPart, most_unused};
 ghost use Rattle.der_ber_types.specs.Refusals.{IsRefusal, AreNoBits, IsNoBitPart};
 
@@ -12,16 +13,17 @@ use std::alloc::Global;
 pub(crate) fn joined_bits(alloc: Global, bytes: &[u8]) -> Result<Vec<u8>, TypeError>
     ensures ok { IfOk result (λ der. AreJoinedBits bytes.now der.items) }
     ensures none { IfErr result (IsRefusal (AreNoBits bytes.now)) }
+    ensures within { IfErr result (IsWithin bytes.now) }
 {
     let mut bits = Vec::new(alloc);
     let mut unused = 0;
     let mut rest = bytes;
     while !rest.is_empty() {
         let Some(part) = first_part(rest) else {
-            return Err(TypeError::OtherType);
+            return Err(TypeError::OtherType { left: rest.len() });
         };
         if unused != 0 {
-            return Err(TypeError::OtherType);
+            return Err(TypeError::OtherType { left: rest.len() });
         }
         unused = part.unused;
         bits.extend_from_slice(part.bits)?;

@@ -32,5 +32,5 @@ pub fn to_der(alloc: Global, schema: Schema, bytes: &[u8]) -> Result<Vec<u8>, To
         e ≢ ToDerError.OutOfMemory → HasNoDer schema.nodes.now schema.root bytes.now) }
 {
     let whole = with_whole_strings(alloc, bytes)?;
-    Ok(one_in_der(alloc, schema.nodes, schema.root, &whole)?)
+    one_in_der(alloc, schema.nodes, schema.root, &whole).map_err(|e| e.in_whole(whole.len()))
 }

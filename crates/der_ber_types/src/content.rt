@@ -1,6 +1,7 @@
 //! Elements in DER by their types.
 ghost use Rattle.std.specs.Prelude.{IfOk, OnOk, IfErr, MatchOption};
 ghost use Rattle.der_ber_types.specs.Content.{IsContent, AreEach, IsOne, AreMembers};
+ghost use Rattle.der_ber_types.specs.Errors.{IsWithin};
 ghost use Rattle.der_ber_types.specs.Pushed.{IsAppended, IsPushed, IsNonePushed, IsMemberPushed};
 ghost use Rattle.der_ber_types.specs.Refusals.{
   IsRefusal,
@@ -33,6 +34,7 @@ pub(crate) fn one_in_der(
 ) -> Result<Vec<u8>, TypeError>
     ensures ok { IfOk result (λ der. IsOne nodes.now index bytes.now der.items) }
     ensures none { IfErr result (IsRefusal (HasNoOne nodes.now index bytes.now)) }
+    ensures within { IfErr result (IsWithin bytes.now) }
 {
     let mut der = Vec::with_capacity(alloc, bytes.len())?;
     push_one(alloc, nodes, index, bytes, &mut der)?;
@@ -51,14 +53,15 @@ pub(crate) fn push_one(
     ensures ok { OnOk result
         (IsAppended (IsOne nodes.now index bytes.now) der.old.items der.new.items) }
     ensures none { IfErr result (IsRefusal (HasNoOne nodes.now index bytes.now)) }
+    ensures within { IfErr result (IsWithin bytes.now) }
 {
     let Some(after) = push_element(alloc, nodes, index, bytes, der)? else {
-        return Err(TypeError::OtherType);
+        return Err(TypeError::OtherType { left: bytes.len() });
     };
     if after.is_empty() {
         Ok(())
     } else {
-        Err(TypeError::OtherType)
+        Err(TypeError::OtherType { left: after.len() })
     }
 }
 
@@ -74,11 +77,12 @@ fn push_each(
     ensures ok { OnOk result
         (IsAppended (AreEach nodes.now index bytes.now) der.old.items der.new.items) }
     ensures none { IfErr result (IsRefusal (HasNoEach nodes.now index bytes.now)) }
+    ensures within { IfErr result (IsWithin bytes.now) }
 {
     let mut rest = bytes;
     while !rest.is_empty() {
         let Some(after) = push_element(alloc, nodes, index, rest, der)? else {
-            return Err(TypeError::OtherType);
+            return Err(TypeError::OtherType { left: rest.len() });
         };
         rest = after;
     }
@@ -97,6 +101,7 @@ fn push_members(
     ensures ok { OnOk result
         (IsAppended (AreMembers nodes.now members.now bytes.now) der.old.items der.new.items) }
     ensures none { IfErr result (IsRefusal (HasNoMembers nodes.now members.now bytes.now)) }
+    ensures within { IfErr result (IsWithin bytes.now) }
 {
     let mut rest = bytes;
     for member in members {
@@ -105,7 +110,7 @@ fn push_members(
     if rest.is_empty() {
         Ok(())
     } else {
-        Err(TypeError::OtherType)
+        Err(TypeError::OtherType { left: rest.len() })
     }
 }
 
@@ -122,11 +127,12 @@ fn push_member<'a>(
     ensures ok { IfOk result (λ after.
         IsMemberPushed nodes.now member.now bytes.now after.now der.old.items der.new.items) }
     ensures none { IfErr result (IsRefusal (HasNoMember nodes.now member.now bytes.now)) }
+    ensures within { IfErr result (IsWithin bytes.now) }
 {
     let place = der.len();
     let Some(after) = push_element(alloc, nodes, member.node, bytes, der)? else {
         return match member.presence {
-            Presence::Required => Err(TypeError::OtherType),
+            Presence::Required => Err(TypeError::OtherType { left: bytes.len() }),
             _ => Ok(bytes),
         };
     };
@@ -150,6 +156,7 @@ fn push_element<'a>(
         (IsNonePushed nodes.now index bytes.now der.old.items der.new.items)
         (λ after. IsPushed nodes.now index bytes.now after.now der.old.items der.new.items)) }
     ensures none { IfErr result (IsRefusal (HasNoFront nodes.now index bytes.now)) }
+    ensures within { IfErr result (IsWithin bytes.now) }
 {
     let Some(element) = first_element(bytes) else {
         return Ok(None);
@@ -159,7 +166,9 @@ fn push_element<'a>(
     };
     let place = der.len();
     push_header(der, inside.tag_in_der(element.tag), element.content.len())?;
-    push_content(alloc, nodes, inside, element.content, der)?;
+    push_content(alloc, nodes, inside, element.content, der).map_err(|e| e.before(
+        element.after.len(),
+    ))?;
     end_element(der, place, element.content.len())?;
     Ok(Some(element.after))
 }
@@ -176,6 +185,7 @@ fn push_content(
     ensures ok { OnOk result
         (IsAppended (IsContent nodes.now inside content.now) der.old.items der.new.items) }
     ensures none { IfErr result (IsRefusal (HasNoContent nodes.now inside content.now)) }
+    ensures within { IfErr result (IsWithin content.now) }
 {
     match inside {
         Inside::Same | Inside::Number | Inside::Octets | Inside::Bits => Ok(der.extend_from_slice(
@@ -190,13 +200,15 @@ fn push_content(
         Inside::Members(members) => push_members(alloc, nodes, members, content, der),
         Inside::AnyOrder(members) => {
             let ordered = in_member_order(alloc, nodes, members, content)?;
-            push_members(alloc, nodes, members, &ordered, der)
+            push_members(alloc, nodes, members, &ordered, der).map_err(|e| e.at_start(
+                content.len(),
+            ))
         }
         Inside::Each(index) => push_each(alloc, nodes, index, content, der),
         Inside::Set(index) => {
             let place = der.len();
             push_each(alloc, nodes, index, content, der)?;
-            put_in_order(alloc, der, place)
+            Ok(put_in_order(alloc, der, place)?)
         }
         Inside::One(index) => push_one(alloc, nodes, index, content, der),
     }

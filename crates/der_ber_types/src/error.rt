@@ -18,7 +18,11 @@ pub enum ToDerError {
         rule: BerRule,
     },
     /// The elements aren't those of one value of the type.
-    OtherType,
+    OtherType {
+        /// The index in what `with_whole_strings` of `der_ber` returns of the bytes: of the tag of the first element
+        /// that the type doesn't have there, or where one is missing. In a SET of members it is that of its content.
+        position: usize,
+    },
 }
 
 /// The same error.
@@ -40,8 +44,45 @@ impl From<BerError> for ToDerError {
 pub(crate) enum TypeError {
     // An allocation failed.
     OutOfMemory,
-    // They aren't those of one value of it.
-    OtherType,
+    // They aren't those of one value of it. The first wrong one is so many bytes before their end, or one is missing
+    // there.
+    OtherType { left: usize },
+}
+
+impl TypeError {
+    // The same error in bytes that have so many more at their end.
+    pub(crate) fn before(self, more: usize) -> TypeError
+        requires { left_of self + more < 2 ^ 64 }
+        ensures { result ≡ error_before self more }
+    {
+        match self {
+            TypeError::OutOfMemory => TypeError::OutOfMemory,
+            TypeError::OtherType { left } => TypeError::OtherType { left: left + more },
+        }
+    }
+
+    // The same error in so many bytes, if it is in them in another order.
+    pub(crate) fn at_start(self, len: usize) -> TypeError
+        ensures { result ≡ error_at_start self len }
+    {
+        match self {
+            TypeError::OutOfMemory => TypeError::OutOfMemory,
+            TypeError::OtherType { .. } => TypeError::OtherType { left: len },
+        }
+    }
+
+    // The error of a caller, of which the elements are so many bytes.
+    pub(crate) fn in_whole(self, len: usize) -> ToDerError
+        requires { left_of self ≤ len }
+        ensures { result ≡ error_in_whole self len }
+    {
+        match self {
+            TypeError::OutOfMemory => ToDerError::OutOfMemory,
+            TypeError::OtherType { left } => ToDerError::OtherType {
+                position: len - left,
+            },
+        }
+    }
 }
 
 // Out of memory.
@@ -63,19 +104,5 @@ impl<T: Drop> From<AllocFailed<T>> for TypeError {
 
     fn from(_failed: AllocFailed<T>) -> Self {
         Self::OutOfMemory
-    }
-}
-
-// The same error.
-impl From<TypeError> for ToDerError {
-    ghost use Rattle.der_ber_types.specs.Errors.{type_error};
-
-    ghost from_gives = { λ e k. k ≡ type_error e };
-
-    fn from(error: TypeError) -> Self {
-        match error {
-            TypeError::OutOfMemory => Self::OutOfMemory,
-            TypeError::OtherType => Self::OtherType,
-        }
     }
 }

@@ -1,7 +1,7 @@
 //! DER of a message whose content has the type that an identifier names.
-ghost use Rattle.std.specs.Prelude.{◌≡◌, ◌≢◌, ◌++◌, IfOk, IfErr, MatchOption, OnOk};
+ghost use Rattle.std.specs.Prelude.{◌≡◌, ◌≢◌, ◌++◌, IfOk, IfErr, OnOk};
 ghost use Rattle.picky_der_core.specs.Element.{tlv};
-ghost use Rattle.der_ber_types.specs.Errors.{IsRefusedByType};
+ghost use Rattle.der_ber_types.specs.Errors.{IsRefusedByType, IsWithin};
 ghost use Rattle.der_ber_types.specs.Message.{
   IsMessageBer,
   IsMessage,
@@ -51,17 +51,16 @@ pub fn message_to_der(
         e ≢ ToDerError.OutOfMemory → IsNoMessageBer types.now bytes.now) }
 {
     let whole = with_whole_strings(alloc, bytes)?;
-    Ok(message_in_der(alloc, types, &whole)?)
+    message_in_der(alloc, types, &whole).map_err(|e| e.in_whole(whole.len()))
 }
 
 // The same of a message with the lengths of DER and whole strings.
 fn message_in_der(alloc: Global, types: &[ContentType], bytes: &[u8]) -> Result<Vec<u8>, TypeError>
     ensures ok { IfOk result (λ der. IsMessage types.now bytes.now der.items) }
     ensures none { IfErr result (IsRefusal (IsNoMessage types.now bytes.now)) }
+    ensures within { IfErr result (IsWithin bytes.now) }
 {
-    let Some(message) = message_of(bytes) else {
-        return Err(TypeError::OtherType);
-    };
+    let message = message_of(bytes)?;
     let Some(schema) = schema_in(types, message.identifier) else {
         return Ok(copied(alloc, bytes)?);
     };
@@ -84,41 +83,47 @@ pub(crate) struct Message<'a> {
 }
 
 // The message that the bytes are, if they are one.
-fn message_of(bytes: &[u8]) -> Option<Message<'_>>
-    ensures { MatchOption result (HasNoMessageBytes bytes.now)
-        (λ m. bytes.now ≡ message_bytes m.identifier.now m.content.now) }
+fn message_of(bytes: &[u8]) -> Result<Message<'_>, TypeError>
+    ensures ok { IfOk result (λ m. bytes.now ≡ message_bytes m.identifier.now m.content.now) }
+    ensures none { IfErr result (IsRefusal (HasNoMessageBytes bytes.now)) }
+    ensures within { IfErr result (IsWithin bytes.now) }
 {
-    let Some(members) = content_under(Tag::SEQUENCE, bytes) else {
-        return None;
+    let members = content_under(Tag::SEQUENCE, bytes)?;
+    let other = TypeError::OtherType {
+        left: members.len(),
     };
     let Some(first) = first_element(members) else {
-        return None;
+        return Err(other);
     };
     if first.tag.inner() != 0x06 {
-        return None;
+        return Err(other);
     }
-    let Some(content) = content_under(Tag::context_specific_constructed(0), first.after) else {
-        return None;
-    };
-    Some(Message {
+    let content = content_under(Tag::context_specific_constructed(0), first.after)?;
+    Ok(Message {
         identifier: first.content,
         content,
     })
 }
 
 // The content of the one element of which the bytes are made, if it has this tag.
-fn content_under(tag: Tag, bytes: &[u8]) -> Option<&[u8]>
-    ensures { MatchOption result (IsNoElementWith tag bytes.now)
-        (λ content. bytes.now ≡ tlv tag content.now) }
+fn content_under(tag: Tag, bytes: &[u8]) -> Result<&[u8], TypeError>
+    ensures ok { IfOk result (λ content. bytes.now ≡ tlv tag content.now) }
+    ensures none { IfErr result (IsRefusal (IsNoElementWith tag bytes.now)) }
+    ensures within { IfErr result (IsWithin bytes.now) }
 {
+    let other = TypeError::OtherType { left: bytes.len() };
     let Some(element) = first_element(bytes) else {
-        return None;
+        return Err(other);
     };
-    if element.tag.inner() == tag.inner() && element.after.is_empty() {
-        Some(element.content)
-    } else {
-        None
+    if element.tag.inner() != tag.inner() {
+        return Err(other);
     }
+    if !element.after.is_empty() {
+        return Err(TypeError::OtherType {
+            left: element.after.len(),
+        });
+    }
+    Ok(element.content)
 }
 
 // The schema of the first type with this identifier.
@@ -144,6 +149,7 @@ fn written(
     ensures ok { IfOk result
         (λ bytes. IsWritten schema identifier.now content.now bytes.items) }
     ensures none { IfErr result (IsRefusal (HasNoOne schema.nodes.now schema.root content.now)) }
+    ensures within { IfErr result (IsWithin content.now) }
 {
     let mut bytes = Vec::with_capacity(alloc, size)?;
     push_header(&mut bytes, Tag::SEQUENCE, size)?;

@@ -1,20 +1,18 @@
 //! The order of the elements of a SET OF (X.690, 11.6).
-ghost use Rattle.std.specs.Prelude.{◌≤◌, IfOk, OnOk, IfErr, IsTrue, map, take, drop, vec_len};
+ghost use Rattle.std.specs.Prelude.{◌≤◌, IfOk, OnOk, IsTrue, map, take, drop, vec_len};
 ghost use Rattle.picky_der_core.specs.Element.{IsElement};
-ghost use Rattle.der_ber_types.specs.Order.{AreElements, AreInOrder};
+ghost use Rattle.der_ber_types.specs.Order.{AreElements, AreAnyElements, AreInOrder};
 ghost use Rattle.der_ber_types.specs.Pushed.{IsAppended};
-ghost use Rattle.der_ber_types.specs.Refusals.{IsRefusal, AreNoElements, AreNotInOrder};
 
-use crate::error::TypeError;
 use der_path::first_element;
-use std::alloc::Global;
+use std::alloc::{AllocError, Global};
 
 // Puts the elements from a place on in ascending order.
-pub(crate) fn put_in_order(alloc: Global, der: &mut Vec<u8>, place: usize) -> Result<(), TypeError>
-    requires { place ≤ vec_len der.old }
-    ensures ok { OnOk result (IsAppended (AreInOrder (drop place der.old.items))
+pub(crate) fn put_in_order(alloc: Global, der: &mut Vec<u8>, place: usize) -> Result<(), AllocError>
+    requires within { place ≤ vec_len der.old }
+    requires elements { AreAnyElements (drop place der.old.items) }
+    ensures { OnOk result (IsAppended (AreInOrder (drop place der.old.items))
         (take place der.old.items) der.new.items) }
-    ensures none { IfErr result (IsRefusal (AreNotInOrder (drop place der.old.items))) }
 {
     let elements = &der[place..];
     if is_element(elements) {
@@ -22,7 +20,7 @@ pub(crate) fn put_in_order(alloc: Global, der: &mut Vec<u8>, place: usize) -> Re
     }
     let ordered = in_order(alloc, elements)?;
     der.truncate(place);
-    Ok(der.extend_from_slice(&ordered)?)
+    der.extend_from_slice(&ordered)
 }
 
 // Whether the bytes are one element.
@@ -36,26 +34,23 @@ fn is_element(bytes: &[u8]) -> bool
 }
 
 // The elements of which the bytes are made, in ascending order one after another.
-fn in_order(alloc: Global, bytes: &[u8]) -> Result<Vec<u8>, TypeError>
-    ensures ok { IfOk result (λ ordered. AreInOrder bytes.now ordered.items) }
-    ensures none { IfErr result (IsRefusal (AreNotInOrder bytes.now)) }
+fn in_order(alloc: Global, bytes: &[u8]) -> Result<Vec<u8>, AllocError>
+    requires { AreAnyElements bytes.now }
+    ensures { IfOk result (λ ordered. AreInOrder bytes.now ordered.items) }
 {
     let mut elements = cut(alloc, bytes)?;
     elements.sort()?;
-    Ok(elements.concat(alloc)?)
+    elements.concat(alloc)
 }
 
 // The elements of which the bytes are made.
-fn cut<'a>(alloc: Global, bytes: &'a [u8]) -> Result<Vec<&'a [u8]>, TypeError>
-    ensures ok { IfOk result (λ elements. AreElements (map (λ e. e.now) elements.items) bytes.now) }
-    ensures none { IfErr result (IsRefusal (AreNoElements bytes.now)) }
+fn cut<'a>(alloc: Global, bytes: &'a [u8]) -> Result<Vec<&'a [u8]>, AllocError>
+    requires { AreAnyElements bytes.now }
+    ensures { IfOk result (λ elements. AreElements (map (λ e. e.now) elements.items) bytes.now) }
 {
     let mut elements = Vec::new(alloc);
     let mut rest = bytes;
-    while !rest.is_empty() {
-        let Some(first) = first_element(rest) else {
-            return Err(TypeError::OtherType);
-        };
+    while let Some(first) = first_element(rest) {
         let (element, after) = rest.split_at(rest.len() - first.after.len());
         elements.push(element)?;
         rest = after;
