@@ -1,0 +1,3 @@
+#![tactic(auto)]
+pub mod any_bytes;
+pub mod truth;
