@@ -2,7 +2,7 @@
 use Rattle.std.proofs.Common.{◌≡◌, ◌≢◌, ℕ, ◌<◌, ◌^◌, true, List, [], ◌++◌, length, take, drop, Option, None}
 use Rattle.std.proofs.Common.{Some}
 use Rattle.std.proofs.Common.{refl, sym, ap, ◌∙◌, arith, subst, Result, Ok, Err, IfOk, OnOk, IfErr, OnErr}
-use Rattle.std.specs.Prelude.{IfNone, IfSome}
+use Rattle.std.specs.Prelude.{IfNone}
 use Rattle.std.specs.Io.KnownBytes.{Appends}
 use Rattle.std.proofs.Math.Seq.{drop-append_seam}
 use Rattle.std.proofs.lemmas.List.{length-take-le}
@@ -98,25 +98,6 @@ module _ {W : Type 0} (g : Ghosts W) where
   pub level_open : (header : Header) (m : Mark) (old new : State W) → Opens header (stack old) m (stack new)
       → IsOpen m new.inside new.pending
   level_open header m old new o = subst (λ (s : Stack). IsOpen m s.inside s.pending) (sym o.is) (o.mark, o.outer)
-
-  -- the same where it may be left to another call
-  pub level_opened_if : (header : Header) (r : Option Mark) (old new : State W)
-      → IfSome r (λ m. Opens header (stack old) m (stack new)) → new.sink ≡ old.sink → new.failed ≡ old.failed
-      → IfSome r (λ m. OpensLevel g header old (writing m new))
-  level_opened_if header None old new o same still = tt
-  level_opened_if header (Some m) old new o same still = level_opened header m old new o same still
-
-  pub level_open_if : (header : Header) (r : Option Mark) (old new : State W)
-      → IfSome r (λ m. Opens header (stack old) m (stack new))
-      → IfSome r (λ m. HasOpenLevel m new.failed new.inside new.pending)
-  level_open_if header None old new o = tt
-  level_open_if header (Some m) old new o =
-      open_unless m new.failed new.inside new.pending (level_open header m old new o)
-
-  pub level_bare_if : (header : Header) (r : Option Mark) (old new : State W)
-      → IfSome r (λ m. Opens header (stack old) m (stack new)) → IfSome r (λ m. new.around ≡ [])
-  level_bare_if header None old new o = tt
-  level_bare_if header (Some m) old new o = ap (λ (s : Stack). s.around) o.is
 
   -- its wrapper has a number
   pub opened_numbers : (header : Header) (m : Mark) (old new : State W) → OpensLevel g header old (writing m new)

@@ -198,23 +198,46 @@ impl Levels {
         }
     }
 
-    // Opens a level in another level and in no wrapper, where there is room for a short header. Else nothing is done.
+    // Opens a level in the open wrapper. It replaces one that was opened and hasn't ended.
     #[inline(always)]
-    pub(crate) fn open_short(&mut self, header: Header) -> Option<Mark>
+    pub(crate) fn open(&mut self, header: Header) -> Mark
         requires { HasNumber header }
-        ensures some { IfSome result (λ m. Opens header self.old m self.new) }
-        ensures none { IfNone result (self.new ≡ self.old) }
+        ensures { Opens header self.old result self.new }
     {
+        let mut mark = Mark {
+            at: 0,
+            start: 0,
+            first_seam: 0,
+            header,
+            around: None,
+            place: Place::OpenMember,
+            is_ready: false,
+            has_tag: false,
+        };
+        if !self.open_short(&mut mark) {
+            self.open_any(&mut mark);
+        }
+        mark
+    }
+
+    // The same in another level and in no wrapper, where there is room for a short header. Else nothing is done.
+    #[inline(always)]
+    fn open_short(&mut self, mark: &mut Mark) -> bool
+        requires { HasNumber mark.old.header }
+        ensures yes { result ≡ true → Opens mark.old.header self.old mark.new self.new }
+        ensures no { result ≡ false → (self.new ≡ self.old) × (mark.new ≡ mark.old) }
+    {
+        let header = mark.header;
         let own = own_tag(None, header);
         let Some(tag) = own else {
-            return None;
+            return false;
         };
         let Place::Member = self.place else {
-            return None;
+            return false;
         };
         let at = self.bytes.len();
         if self.bytes.capacity() - at < 2 {
-            return None;
+            return false;
         }
         let first_seam = self.seams.len();
         // There is room, so this doesn't fail.
@@ -222,7 +245,7 @@ impl Levels {
         self.place = Place::OpenMember;
         self.kept = at;
         self.kept_seams = first_seam;
-        Some(Mark {
+        *mark = Mark {
             at,
             start: self.bytes.len(),
             first_seam,
@@ -231,16 +254,18 @@ impl Levels {
             place: Place::OpenMember,
             is_ready: has_room && !header.is_set(),
             has_tag: has_room,
-        })
+        };
+        true
     }
 
-    // Opens a level in the open wrapper, in any place. It replaces one that was opened and hasn't ended.
+    // The same in any place.
     #[inline(never)]
-    pub(crate) fn open_any(&mut self, header: Header) -> Mark
-        requires { HasNumber header }
-        ensures { Opens header self.old result self.new }
+    fn open_any(&mut self, mark: &mut Mark)
+        requires { HasNumber mark.old.header }
+        ensures { Opens mark.old.header self.old mark.new self.new }
     {
         self.give_up();
+        let header = mark.header;
         let around = self.around();
         let at = self.bytes.len();
         let first_seam = self.seams.len();
@@ -258,7 +283,7 @@ impl Levels {
         self.place = place;
         self.kept = at;
         self.kept_seams = first_seam;
-        Mark {
+        *mark = Mark {
             at,
             start: self.bytes.len(),
             first_seam,
@@ -267,7 +292,7 @@ impl Levels {
             place,
             is_ready: has_room && !header.is_set(),
             has_tag: false,
-        }
+        };
     }
 
     // From here on a member of the level that was opened last is written. Returns the level's mark.

@@ -35,15 +35,7 @@ impl<'a, W: WriteExt> Sequence<'a, W> {
         ensures opened { OpensLevel W.WriteExt.own (Header.Tagged tag) ser.old (state_of result) }
         ensures bare { open_around result ≡ [] }
     {
-        // Each way makes the mark in its final place.
-        if let Some(mark) = ser.open_short(Header::Tagged(tag)) {
-            return Sequence {
-                ser,
-                mark,
-                header: PhantomData,
-            };
-        }
-        let mark = ser.open_any(Header::Tagged(tag));
+        let mark = ser.open(Header::Tagged(tag));
         Sequence {
             ser,
             mark,

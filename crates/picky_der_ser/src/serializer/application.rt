@@ -35,7 +35,7 @@ impl<W: WriteExt> Serializer<W> {
         if number > Tag::MAX_NUMBER {
             return Err(self.fail(Asn1DerError::UnsupportedValue));
         }
-        let mut mark = self.open_any(Header::Application(number));
+        let mut mark = self.open(Header::Application(number));
         self.write_member(&mut mark, value)?;
         self.close(&mark)
     }

@@ -1,5 +1,5 @@
 //! Levels, as a serializer opens and ends them.
-ghost use Rattle.std.specs.Prelude.{◌≡◌, [], length, OnOk, IfOk, IfErr, IfSome, IfNone};
+ghost use Rattle.std.specs.Prelude.{◌≡◌, [], length, OnOk, IfOk, IfErr};
 ghost use Rattle.picky_der_core.specs.Encoding.{der};
 ghost use Rattle.picky_der_core.specs.OpenWrappers.{under};
 ghost use Rattle.picky_der_ser.specs.Headers.{wrappers, HasNumber, CanAllBeOpen};
@@ -17,27 +17,15 @@ use picky_der_core::misc::WriteExt;
 use picky_der_core::{Asn1DerError, Result};
 
 impl<W: WriteExt> Serializer<W> {
-    // Opens a level in another level and in no wrapper, where there is room for a short header. Else nothing is done.
+    // Opens a level in the open wrapper, and returns its mark.
     #[inline(always)]
-    pub(crate) fn open_short(&mut self, header: Header) -> Option<Mark>
-        requires { HasNumber header }
-        ensures opened { IfSome result (λ m. OpensLevel W.WriteExt.own header self.old (writing m self.new)) }
-        ensures still_open { IfSome result (λ m. HasOpenLevel m self.new.failed self.new.inside self.new.pending) }
-        ensures bare { IfSome result (λ m. self.new.around ≡ []) }
-        ensures none { IfNone result (self.new ≡ self.old) }
-    {
-        self.levels.open_short(header)
-    }
-
-    // Opens a level in the open wrapper, in any place, and returns its mark.
-    #[inline(always)]
-    pub(crate) fn open_any(&mut self, header: Header) -> Mark
+    pub(crate) fn open(&mut self, header: Header) -> Mark
         requires { HasNumber header }
         ensures opened { OpensLevel W.WriteExt.own header self.old (writing result self.new) }
         ensures still_open { HasOpenLevel result self.new.failed self.new.inside self.new.pending }
         ensures bare { self.new.around ≡ [] }
     {
-        self.levels.open_any(header)
+        self.levels.open(header)
     }
 
     // Writes the level that was opened last, in its wrapper, with the members of a set in order. If an allocation for

@@ -55,7 +55,7 @@ impl<W: WriteExt> Serializer<W> {
         ensures counted { IsOnceAtMost (W.faults self.old.sink) (W.faults self.new.sink) }
         ensures continues { W.later self.old.sink self.new.sink }
     {
-        let mut mark = self.open_any(Header::Raw);
+        let mut mark = self.open(Header::Raw);
         let count = self.write_member_in(&mut mark, Some(wrapper), value)?;
         if count == 0 {
             self.levels.give_up();

@@ -32,9 +32,9 @@ returns c =
       | then-has_room w ↦ rw w.self-inside-is refl
       | else-has_room w ↦ rw w.self-inside-is refl
     ] in
-    let ready : c.if-has_room-2.result ≡ true → is_set c.args.header ≡ false = elim c.if-has_room-2.branch [
-      | then-has_room-2 w ↦ unset w.is_set.result _ _ w.is_set.ensures w.result-is
-      | else-has_room-2 w ↦ λ e. let test = sym w.result-is ∙ e in absurd (grind (arith, nat_tests))
+    let ready : c.if-has_room-2.mark ≡ true → is_set c.args.mark.now.header ≡ false = elim c.if-has_room-2.branch [
+      | then-has_room-2 w ↦ unset w.is_set.result _ _ w.is_set.ensures w.mark-is
+      | else-has_room-2 w ↦ λ e. let test = sym w.mark-is ∙ e in absurd (grind (arith, nat_tests))
     ] in
     let around = c.around-around.ensures.around ∙ ap (λ (s : Stack). s.around) c.give_up.ensures in
     let was : old.inside ≡ inside_at o.place o.kept o.kept_seams (held_of b q) = sym (ap (λ (s : Stack). s.inside) v) in

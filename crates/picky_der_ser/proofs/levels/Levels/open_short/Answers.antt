@@ -8,10 +8,10 @@ use Rattle.picky_der_ser.proofs.LevelMarks.{grown_all, unset, inside-some, opens
 use Rattle.picky_der_ser.proofs.levels.Levels.open_short.Goals.{then-has_room, else-has_room}
 use Rattle.picky_der_ser.proofs.levels.Levels.open_short.Goals as goal
 
-pub returns-clause-some : goal.returns-clause-some
-returns-clause-some c =
+pub returns-clause-yes : goal.returns-clause-yes
+returns-clause-yes c = λ yes.
     let old = c.args.self.now in
-    let header = c.args.header in
+    let header = c.args.mark.now.header in
     let o = c.self.inside in
     let b = o.bytes.items in
     let q = o.seams.items in
@@ -28,9 +28,9 @@ returns-clause-some c =
     let no_seams : c.len-first_seam.result ≡ length q = omega arith in
     let room : c.len.result ≡ c.len-at.result + 2 = omega (arith, at, start, ap length more, length-append b pad) in
     let own : own_tag true header ≡ Some tag = sym c.own_tag-own.ensures ∙ c.in-Some.is in
-    let ready : c.if-has_room.result ≡ true → is_set header ≡ false = elim c.if-has_room.branch [
-      | then-has_room w ↦ unset w.is_set.result _ _ w.is_set.ensures w.result-is
-      | else-has_room w ↦ λ e. absurd (false≢true (sym w.if-has_room.false ∙ (sym w.result-is ∙ e)))
+    let ready : c.if-has_room.mark ≡ true → is_set header ≡ false = elim c.if-has_room.branch [
+      | then-has_room w ↦ unset w.is_set.result _ _ w.is_set.ensures w.mark-is
+      | else-has_room w ↦ λ e. absurd (false≢true (sym w.if-has_room.false ∙ (sym w.mark-is ∙ e)))
     ] in
     let was : old.inside ≡ inside_at o.place o.kept o.kept_seams (held_of b q) = sym (ap (λ (s : Stack). s.inside) v) in
     let around : [] ≡ old.around =

@@ -15,7 +15,7 @@ returns-in_err-count g c =
     let w = g.W.WriteExt in
     let t = g.T.Serialize.meaning c.args.value.now in
     let u = Tree.wrapped c.args.wrapper t in
-    let o = c.open_any-mark.ensures.opened in
+    let o = c.open-mark.ensures.opened in
     let h = c.in_err-count.ensures.err in
     let p = err_from_is_err_and c.from_residual.result c.from_residual.ensures.1 in
     let kept = one_kept w Raw refl u _ _ o _ _ h in
@@ -36,11 +36,10 @@ returns-then-count-eq0-clause-wrote g c =
     let i = c.self.inside in
     let k = c.give_up.new.self in
     let new = state_with i.sink i.failed k in
-    let o = c.open_any-mark.ensures.opened in
+    let o = c.open-mark.ensures.opened in
     let f = ap (λ (s : Writing g.row.W.Denot). s.failed) o.opened ∙ c.requires.had_not_failed in
     let all =
-    opened_numbers w Raw c.open_any-mark.result c.args.self.now c.open_any-mark.new.self o
-    c.open_any-mark.ensures.still_open f in
+    opened_numbers w Raw c.open-mark.result c.args.self.now c.open-mark.new.self o c.open-mark.ensures.still_open f in
     let zero : 0 ≡ length (der (Tree.wrapped c.args.wrapper t)) =
     sym c.if-count-eq0.true ∙ c.in_ok-count.ensures.count in
     let same = c.self.view_is in
@@ -55,7 +54,7 @@ returns g c =
     let w = g.W.WriteExt in
     let t = g.T.Serialize.meaning c.args.value.now in
     let u = Tree.wrapped c.args.wrapper t in
-    let o = c.open_any-mark.ensures.opened in
+    let o = c.open-mark.ensures.opened in
     let a = c.in_ok-count.ensures.added in
     let e = c.close.ensures in
     let there = there_by c.args.wrapper t c.in_ok-count.count c.in_ok-count.ensures.count c.if-count-eq0.false in
