@@ -32,11 +32,11 @@ TABLE = "tools/der_asn1/der_asn1 --schemas crates/tables/src/mine.rt --crate Min
 AS_RUN = {
     ("README.md", "./run-der --unproved read --json certificate FILE"):
         f"set -e; {READ}; {VALUE}; ./run-der --unproved write certificate value.json | cmp - {CERTIFICATE}",
-    ("CONTRIBUTING.md", "rt check --only MODULE::FUNCTION"): "rt check --only path::path_at",
+    ("CONTRIBUTING.md", "rt check --only MODULE::FUNCTION"): "rt check --only numbers::path_at",
     ("CONTRIBUTING.md", "rt plant --only FUNCTION"): "rt plant --only path_at",
-    ("CONTRIBUTING.md", "tools/wrong-bodies MODULE.FUNCTION"): "tools/wrong-bodies der_path path.path_at",
+    ("CONTRIBUTING.md", "tools/wrong-bodies MODULE.FUNCTION"): "tools/wrong-bodies der_path numbers.path_at",
     ("docs/ASN1.md", TABLE): f"sed -i 's/IMPORTS.*//; s/Name/NULL/g' Mine.asn1; tools/der_asn1/der_asn1 --out crates/mine Mine.asn1; {TABLE}",
-    ("docs/GATE.md", "tools/wrong-bodies [--functions] [CRATE..] [MODULE.FUNCTION..]"): "tools/wrong-bodies --functions der_path path.path_at",
+    ("docs/GATE.md", "tools/wrong-bodies [--functions] [CRATE..] [MODULE.FUNCTION..]"): "tools/wrong-bodies --functions der_path numbers.path_at",
     ("docs/GATE.md", "tools/x509-inputs"): "tools/x509-inputs --built",
     ("docs/GATE.md", "tools/show-rows"): "tools/show-rows crates/der/out/der show",
     ("docs/GATE.md", "tools/build-archive"): "tools/build-archive der_c",
