@@ -8,7 +8,7 @@ from ..meaning.wording import snake
 from .comments import difference_note, sentence
 from .imports import PRELUDE, Uses
 from .layout import GHOST_WIDTH, STEP, WIDTH, comment, signature, type_lines
-from .many import Quoted, has_many, many_law, many_lines
+from .many import Quoted, has_many, many_lines
 from .private_names import PrivateNames
 
 _TWO = STEP * 2
@@ -281,7 +281,7 @@ def exact_impl(declared: ChoiceDeclaration, parts: str, imported: list[str], typ
         *(f"{_TWO}  | {it}" for it in made_cases(declared.variants)),
         f"{_TWO}]) }};",
         "",
-        *(many_law(types, "NoneOf") if is_long else [f"{STEP}ghost exact = {{ Prim.assumption }};"]),
+        f"{STEP}ghost exact = {{ Prim.assumption }};",
         "}",
     ]
 

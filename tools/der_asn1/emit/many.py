@@ -1,8 +1,7 @@
 """What many alternatives say of their values, as a term of what each type says.
 
 The checker passes an implementation for each bound of each type in a term such as `⟦<Parts as ExactAlternatives>⟧`, and for the bounds of that
-one. The number grows as the third power of the alternatives, and may be 16,384 at most. This term names an implementation of each type alone,
-and so does the proof that the values are so.
+one. The number grows as the third power of the alternatives, and may be 16,384 at most. This term names an implementation of each type alone.
 """
 from collections.abc import Sequence
 
@@ -17,18 +16,16 @@ from .private_names import PrivateNames
 MANY_FILE = "ManyAlternatives"
 # how many alternatives the checker's own term may have: of values with their elements, and of others
 _MOST_ELEMENTS, _MOST_OTHERS = 12, 30
-_NEXT, _FOUR = "next", "four"
-_VALUES, _PROVED = "values", "proved"
+_NEXT, _FOUR = "next_values", "four_values"
 _INDENT = STEP * 2
 
 _TERMS = """
 -- What many alternatives say of their values, by what each type says of its own.
-use Rattle.std.specs.Prelude.{refl}
 use Rattle.picky_der_de.specs.declared.alternatives.OneOf.{OneOf}
 use Rattle.picky_der_de.specs.declared.choice4.Choice4.{Choice4}
 use Rattle.picky_der_de.specs.FourChoices.{one_by_one}
-use Rattle.der_types.specs.Exact.{Values, ProvedValues}
-use Rattle.der_types.specs.ExactChoices.{ChoiceValues, ProvedChoice, this_or_other_values, choice_as}
+use Rattle.der_types.specs.Exact.{Values}
+use Rattle.der_types.specs.ExactChoices.{ChoiceValues, this_or_other_values, choice_as}
 use Rattle.der_types.specs.ExactFourChoices.{one_of_four}
 
 -- an alternative and those after it
@@ -40,18 +37,6 @@ abbrev pub four_values : {A B C D E : Type 0} → Values A → Values B → Valu
     → ChoiceValues (Choice4 A B C D E)
 four_values a b c d e =
     choice_as (next_values a (next_values b (next_values c (next_values d e)))) one_by_one one_of_four
-
--- that it is so, by what is proved of each
-pub next_proved : {A B : Type 0} {a : Values A} {b : ChoiceValues B} → ProvedValues a a.notation a.meaning
-    → ProvedChoice b b.notation b.chosen → ProvedChoice (next_values a b) (next_values a b).notation (next_values a b).chosen
-next_proved p q = record { premise = (p, q); notated = refl; means = refl }
-
-pub four_proved : {A B C D E : Type 0} {a : Values A} {b : Values B} {c : Values C} {d : Values D} {e : ChoiceValues E}
-    → ProvedValues a a.notation a.meaning → ProvedValues b b.notation b.meaning → ProvedValues c c.notation c.meaning
-    → ProvedValues d d.notation d.meaning → ProvedChoice e e.notation e.chosen
-    → ProvedChoice (four_values a b c d e) (four_values a b c d e).notation (four_values a b c d e).chosen
-four_proved p q r s t =
-    record { premise = (p, next_proved q (next_proved r (next_proved s t))); notated = refl; means = refl }
 """
 
 
@@ -68,11 +53,11 @@ def many_terms() -> list[str]:
 
 
 def many_uses(declared: Declaration, crate: str) -> Uses:
-    """What the terms of a type with many alternatives name."""
+    """What the term of a type with many alternatives names."""
     if not has_many(declared):
         return Uses()
-    counts = {_FOUR, *([_NEXT] if len(declared.variants) % FOUR else [])}
-    return Uses(terms={f"Rattle.{crate}.specs.{MANY_FILE}": {f"{it}_{word}" for it in counts for word in (_VALUES, _PROVED)}})
+    words = {_FOUR, *([_NEXT] if len(declared.variants) % FOUR else [])}
+    return Uses(terms={f"Rattle.{crate}.specs.{MANY_FILE}": words})
 
 
 class Quoted:
@@ -89,33 +74,21 @@ class Quoted:
 
 
 def many_lines(types: Sequence[str], end: str) -> list[str]:
-    """The lines of what alternatives of these types, after which is this end, say of their values."""
-    return _lines(types, _VALUES, "values", f"⟦<{end} as ExactAlternatives>⟧.chosen_values")
-
-
-def many_law(types: Sequence[str], end: str) -> list[str]:
-    """The lines of the law of a type with these alternatives, by those of each type."""
-    first, *more = _lines(types, _PROVED, "exact", f"⟦<{end} as ExactAlternatives>⟧.exact_alternatives", f"{_INDENT}  ")
-    proved = [f"{STEP}  premise = {first.strip()}", *more[:-1], f"{more[-1]};"]
-    return [f"{STEP}ghost exact = {{ record {{", *proved, f"{STEP}  notated = refl;", f"{STEP}  means = refl;", f"{STEP}}} }};"]
-
-
-def _lines(types: Sequence[str], word: str, item: str, last: str, indent: str = _INDENT) -> list[str]:
-    """The lines of a term of this item of each type: four at a time, and the last three one by one."""
+    """The lines of the term for alternatives of these types, after which is this end: four at a time, and the last three one by one."""
     fours = len(types) // FOUR * FOUR
     groups = [types[at : at + FOUR] for at in range(0, fours, FOUR)] + [[it] for it in types[fours:]]
-    words = [[f"⟦<{it} as Exact>⟧.{item}" for it in group] for group in groups]
-    lines = [line for it in words for line in _group_lines(f"{indent}({_FOUR if len(it) == FOUR else _NEXT}_{word}", it, indent)]
-    return [*lines, f"{indent}{last}{')' * len(groups)}"]
+    lines = [line for it in groups for line in _group_lines(it)]
+    return [*lines, f"{_INDENT}⟦<{end} as ExactAlternatives>⟧.chosen_values{')' * len(groups)}"]
 
 
-def _group_lines(now: str, words: Sequence[str], indent: str) -> list[str]:
-    """The lines of some alternatives, without those after them. The first one begins so."""
-    lines = []
-    for word in words:
+def _group_lines(types: Sequence[str]) -> list[str]:
+    """The lines of some alternatives, without those after them."""
+    lines, now = [], f"{_INDENT}({_FOUR if len(types) == FOUR else _NEXT}"
+    for it in types:
+        word = f"⟦<{it} as Exact>⟧.values"
         if len(f"{now} {word}") > GHOST_WIDTH and now.strip():
             lines.append(now)
-            now = f"{indent}{word}"
+            now = f"{_INDENT}{word}"
         else:
             now = f"{now} {word}"
     return [*lines, now]

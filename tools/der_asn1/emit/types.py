@@ -14,7 +14,6 @@ from .derives import derived, with_derives
 from .enum import TERMS_FILE, enum_lines, enum_uses
 from .faithful import faithful_default_impl, faithful_default_uses, faithful_impl, faithful_uses, inhabited_impl, inhabited_uses
 from .imports import Uses
-from .laws import contain_themselves, with_named_laws
 from .layout import assigned, comment
 from .listed import is_encoded, listed_lines, listed_uses
 from .many import many_uses
@@ -58,15 +57,14 @@ def module_stem(module: str, taken: frozenset[str]) -> str:
 
 def types_file(types: list[Declaration], stem: str, context: Context) -> list[str]:
     """The lines of a file of types, after its first one: their items in the order of the modules."""
-    uses, body, names_laws = Uses(), [], contain_themselves(context.types.values())
+    uses, body = Uses(), []
     for it in types:
         uses.add(uses_of(it, context))
         uses.add(many_uses(it, context.crate))
-        items = ["", *with_derives(lines_of(it, stem, context), derived(it, context.derives))]
+        body += ["", *with_derives(lines_of(it, stem, context), derived(it, context.derives))]
         for more, lines in promises(it, stem, context):
             uses.add(more)
-            items += ["", *lines]
-        body += with_named_laws(items, it, context.names) if names_laws else items
+            body += ["", *lines]
     own = {it.name for it in types} | {name for it in types for name in getattr(it, "defaults", [])}
     terms, rust = uses.term_lines(), uses.rust_lines(context.homes, own)
     modules = list(dict.fromkeys(it.module for it in types))

@@ -9,7 +9,7 @@ from .choice import alternatives_uses, cases_of, made_cases, variant_lines, vari
 from .comments import difference_note, sentence
 from .imports import PRELUDE, Uses
 from .layout import STEP, comment, signature, type_lines
-from .many import Quoted, has_many, many_law, many_lines
+from .many import Quoted, has_many, many_lines
 from .private_names import PrivateNames
 
 # the file of the function that tries a type, and its name
@@ -264,7 +264,7 @@ def exact_impl(declared: UnionDeclaration, own: str, home: str, quoted: Quoted) 
         *last[:-1],
         f"{last[-1]} }};",
         "",
-        *(many_law(quoted.types, "NoneOf") if has_many(declared) else [f"{STEP}ghost exact = {{ Prim.assumption }};"]),
+        f"{STEP}ghost exact = {{ Prim.assumption }};",
         "}",
     ]
 

@@ -32,18 +32,12 @@ class ManyAlternatives(unittest.TestCase):
     def test_many_are_named_one_by_one(self):
         files = files_of(numbered(12, ", ..."))
         self.assertIn("pub mod ManyAlternatives\n", files["specs/Lib.antt"])
-        self.assertIn("ghost use Rattle.it.specs.ManyAlternatives.{four_proved, four_values, next_proved, next_values};", files["src/types.rt"])
+        self.assertIn("ghost use Rattle.it.specs.ManyAlternatives.{four_values, next_values};", files["src/types.rt"])
         found = values_of(files)
         self.assertEqual("    ghost values = { element_values", found[0])
         self.assertEqual(3, sum(it.startswith("        (four_values ⟦<TPart") for it in found))
         self.assertIn("        (next_values ⟦<Encoded<TLater> as Exact>⟧.values", found)
         self.assertIn("        ⟦<NoneOf as ExactAlternatives>⟧.chosen_values))))", found)
-
-    def test_the_law_names_those_of_the_types(self):
-        text = files_of(numbered(12, ", ..."))["src/types.rt"]
-        law = text.partition("impl Exact for T {")[2].partition("ghost exact = {")[2].partition("\n}")[0].split("\n")
-        self.assertTrue(law[1].startswith("      premise = (four_proved ⟦<TPart1 as Exact>⟧.exact ⟦<TPart2 as Exact>⟧.exact "))
-        self.assertEqual("          ⟦<NoneOf as ExactAlternatives>⟧.exact_alternatives))));", law[-4])
 
     def test_a_choice_without_later_alternatives(self):
         files = files_of(numbered(31))
