@@ -6,7 +6,7 @@ ghost use Rattle.picky_der_core.specs.Shape.{Shape, Layout, contains, firsts_of}
 ghost use Rattle.picky_der_de.specs.MembersFacts.{others_facts};
 ghost use Rattle.picky_der_de.specs.Layouts.{Lacks, RefusesLayout};
 ghost use Rattle.picky_der_de.specs.OtherLaws.{are_outside, others_of};
-ghost use Rattle.picky_der_de.specs.SequenceState.{borrowed_by, outer_of, state_of};
+ghost use Rattle.picky_der_de.specs.SequenceState.{borrowed_by, outer_of, state_of, deserializer_of};
 ghost use Rattle.picky_asn1_der.specs.LaterTags.{in_both_forms, other_form};
 
 use crate::AnyElement;
@@ -140,7 +140,8 @@ fn refuse_excluded<A: Alternatives, R: ReadExt>(
     ensures ok { OnOk result (Lacks (Shape.choice A.shapes) (state_of sequence.old)
         (state_of sequence.new)) }
     ensures err { IfErr result (RefusesLayout ⟦<LaterElements<A> as SerializeMembers>⟧.members
-        (Layout.others (in_both_forms (firsts_of A.shapes))) (state_of sequence.old) (state_of sequence.new)) }
+        (Layout.others (in_both_forms (firsts_of A.shapes))) (state_of sequence.old)
+        (deserializer_of sequence.new)) }
 {
     match sequence.next_tag() {
         Ok(Some(tag)) => {

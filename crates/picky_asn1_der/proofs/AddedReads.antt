@@ -84,7 +84,7 @@ added_refused {P} {V} members l item {b} {c} {d} {tag} {e} whole i refuses =
   where
     by_item : RefusesLayout members l b d e → IsJudged b d e → (o : Option P) → AreMembersDistinct l
         → AllOrNone (AreMembersOf l) (added_members members o) → AreReadable (added_members members o)
-        → AreInOrder b.sets (encodings (added_members members o))
+        → AreInOrder b.last (encodings (added_members members o))
         → AreUpToEnd b d e (members_encoding (added_members members o)) → ⊥
     by_item n j None distinct are readable order w = none_left (as_look whole i).ahead w
     by_item n j (Some p) distinct (inl are) readable order w = n.rest.none j p (distinct, are) readable order w

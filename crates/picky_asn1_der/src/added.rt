@@ -5,7 +5,7 @@ ghost use Rattle.picky_der_core.specs.Equality.{IsThatOf};
 ghost use Rattle.picky_der_core.specs.Shape.{Layout};
 ghost use Rattle.picky_der_de.specs.Layouts.{ReadsLayout, RefusesLayout};
 ghost use Rattle.picky_der_de.specs.Rules.{LeadsTo, RefusesBefore};
-ghost use Rattle.picky_der_de.specs.SequenceState.{borrowed_by, outer_of, state_of};
+ghost use Rattle.picky_der_de.specs.SequenceState.{borrowed_by, outer_of, state_of, deserializer_of};
 ghost use Rattle.picky_asn1_der.specs.AddedLaws.{added_facts, added_members, has_required};
 
 use picky_der_core::Result;
@@ -40,11 +40,11 @@ pub fn deserialize_members_as<T: Struct, R: ReadExt>(
     ensures ok { IfOk result (λ value. ReadsLayout T.Members.layout (state_of sequence.old)
         (state_of sequence.new) (T.Members.members (T.parts value))) }
     ensures err { IfErr result (RefusesLayout (λ value. T.Members.members (T.parts value))
-        T.Members.layout (state_of sequence.old) (state_of sequence.new)) }
+        T.Members.layout (state_of sequence.old) (deserializer_of sequence.new)) }
     ensures leads { IfOk result (λ _. LeadsTo T.Members.facts.rule (state_of sequence.old)
         (state_of sequence.new)) }
     ensures refused_by { IfErr result (RefusesBefore T.Members.facts.rule (state_of sequence.old)
-        (state_of sequence.new)) }
+        (deserializer_of sequence.new)) }
 {
     let members = T::Members::deserialize_members(sequence)?;
     Ok(T::from_parts(members))

@@ -223,7 +223,7 @@ consumed_shown {a} {c} x {n} size shown fits few ok bound first unpeeked pos sam
       until_end = omega (arith, fits, size, ap (λ (s : State). s.until_end) same);
       end = ap (λ (s : State). s.end) same;
       limit = ap (λ (s : State). s.limit) same;
-      sets = ap (λ (s : State). s.sets) same;
+      last = ap (λ (s : State). s.last) same;
       unpeeked = unpeeked few;
       fetched = omega (arith, few, consumed);
       had_not_failed = ok;
@@ -270,7 +270,7 @@ consumes_in_two {a} {c} x y t some =
         until_end = omega (arith, t.until_end, size);
         end = t.end;
         limit = t.limit;
-        sets = t.sets;
+        last = t.last;
         unpeeked = t.unpeeked;
         fetched = omega (arith, few, some);
         had_not_failed = t.had_not_failed;
@@ -284,7 +284,7 @@ consumes_in_two {a} {c} x y t some =
         until_end = refl;
         end = refl;
         limit = refl;
-        sets = refl;
+        last = refl;
         unpeeked = t.unpeeked;
         fetched = omega (arith, t.consumed, size, no_byte);
         had_not_failed = t.not_failed;
@@ -368,7 +368,7 @@ refuses_for_memory {tag} number h f is =
 -- ---- elements
 
 consumes_without_implicit_tag : {a b : State} {x : List ℕ} → Consumed a b x → Consumed (without_implicit_tag a) b x
-consumes_without_implicit_tag t = consumes_beside t.until_end t.end t.sets t
+consumes_without_implicit_tag t = consumes_beside t.until_end t.end t.last t
 
 -- an element that was consumed whole
 pub reads_whole : {a c : State} {all : List ℕ} → IsElementInFront all (length all) → a.implicit_tag ≡ None

@@ -148,7 +148,7 @@ pub record Gives (old new : State) (n : ℕ) (bytes : List ℕ) : Type 0 where
   pub until_end : new.until_end ≡ old.until_end - n
   pub end : new.end ≡ old.end
   pub limit : new.limit ≡ old.limit
-  pub sets : new.sets ≡ old.sets
+  pub last : new.last ≡ old.last
   pub was_unpeeked : old.peeked ≡ None
   pub unpeeked : new.peeked ≡ None
   pub had_not_failed : old.failed ≡ None
@@ -168,7 +168,7 @@ given_consumed {old} {new} {n} {bytes} h =
       until_end = omega (arith, h.until_end, h.count, h.fits);
       end = h.end;
       limit = h.limit;
-      sets = h.sets;
+      last = h.last;
       unpeeked = h.unpeeked;
       fetched = omega (arith, position, none);
       had_not_failed = h.had_not_failed;

@@ -33,7 +33,7 @@ use Rattle.picky_der_de.specs.PlainKindLaws.{bytes_kind}
 -- ---- without the implicit tag
 
 consumes_with_implicit_tag : {a c : State} {bs : List ℕ} → Consumed (without_implicit_tag a) c bs → Consumed a c bs
-consumes_with_implicit_tag t = consumes_beside t.until_end t.end t.sets t
+consumes_with_implicit_tag t = consumes_beside t.until_end t.end t.last t
 
 fails_with_implicit_tag : {a c : State} {e : Asn1DerError} → Fails (without_implicit_tag a) c e → Fails a c e
 fails_with_implicit_tag f = fails_beside (omega arith) f

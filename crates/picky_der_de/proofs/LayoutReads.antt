@@ -123,8 +123,8 @@ module _ {b c : State} {x : ℕ} (p : Peeks b c x) where
         fills = w.fills ∙ until_end;
       }
 
-  order_looked : (ms : List (List ℕ)) → AreInOrder b.sets ms → AreInOrder c.sets ms
-  order_looked ms h = subst (λ s. AreInOrder s ms) (sym (ap (λ (z : State). z.sets) p.same)) h
+  order_looked : (ms : List (List ℕ)) → AreInOrder b.last ms → AreInOrder c.last ms
+  order_looked ms h = subst (λ s. AreInOrder s ms) (sym (ap (λ (z : State). z.last) p.same)) h
 
   -- what is there begins with the byte
   pub first_is : {d : State} {e : Asn1DerError} {bytes others : List ℕ} {y : ℕ} → Fails c d e → AreUpToEnd b d e bytes
@@ -189,7 +189,7 @@ pub layout_none : {b : State} → b.implicit_tag ≡ None → ReadsLayout Layout
 layout_none {b} d = record {
   are = tt;
   readable = tt;
-  order = no_members_in_order b.sets;
+  order = no_members_in_order b.last;
   passes = λ a q. record {
     mid = a;
     consumes =
@@ -305,7 +305,7 @@ module _ {V W U : Type 0} (meaning : W → Tree) (others : U → Trees) (s : Sha
 
   -- members that are in order
   abbrev AreAtFront : State → State → Asn1DerError → Trees → Type 0
-  AreAtFront b d e ts = AreInOrder b.sets (encodings ts) × AreUpToEnd b d e (members_encoding ts)
+  AreAtFront b d e ts = AreInOrder b.last (encodings ts) × AreUpToEnd b d e (members_encoding ts)
 
   refused_by : {b d : State} {e : Asn1DerError} → Fails b d e
       → (AreMembersDistinct (Layout.maybe s l) → IsJudged b d e → (w : W) (u : U) → IsOf s (meaning w)
@@ -349,7 +349,7 @@ pub record Skips (s : Shape) (b c : State) : Type 0 where
   pub fails : (d : State) (e : Asn1DerError) → Fails c d e → Fails b d e
   pub judged : (d : State) (e : Asn1DerError) → IsJudged b d e → IsJudged c d e
   pub at_front : (d : State) (e : Asn1DerError) (bytes : List ℕ) → AreUpToEnd b d e bytes → AreUpToEnd c d e bytes
-  pub sets : c.sets ≡ b.sets
+  pub last : c.last ≡ b.last
   pub peeks_at_most : (a : State) → PeeksAtMost a b → PeeksAtMost a c
   pub not : (d : State) (e : Asn1DerError) (u : Tree) (us : Trees) → Fails c d e → IsOf s u → IsReadable u
       → AreUpToEnd b d e (members_encoding (Trees.more u us)) → ⊥
@@ -359,7 +359,7 @@ skips {b = b} whole (no_more h) = record {
   fails = λ d e f. subst (λ x. Fails x d e) h.same f;
   judged = λ d e j. subst (λ x. IsJudged x d e) (sym h.same) j;
   at_front = λ d e bytes w. subst (λ x. AreUpToEnd x d e bytes) (sym h.same) w;
-  sets = ap (λ (z : State). z.sets) h.same;
+  last = ap (λ (z : State). z.last) h.same;
   peeks_at_most = λ a q. subst (PeeksAtMost a) (sym h.same) q;
   not = λ d e u us f o r w. nothing_there u us h.reached r w;
 }
@@ -369,7 +369,7 @@ skips {s = s} whole (begins_otherwise tag i other) =
       fails = λ d e f. peeks_fails p f;
       judged = λ d e j. peeks_judged p j;
       at_front = λ d e bytes w. at_front_looked p w;
-      sets = ap (λ (z : State). z.sets) p.same;
+      last = ap (λ (z : State). z.last) p.same;
       peeks_at_most = λ a q. peeks_at_most_look q p;
       not = λ d e u us f o r w. not_there p s u us other f o r w;
     }
@@ -384,7 +384,7 @@ absent_next meaning others s l part rest begins begin {b} {c} {d} {e} whole h n 
     refused_by meaning others s l part rest begins begin (k.fails d e n.rest.fails)
     (λ distinct j w u o a readable st. k.not d e (meaning w) (others u) n.rest.fails o readable.0 st.1)
     (λ distinct j u a readable st. n.rest.none (k.judged d e j) u (distinct.1, a) readable
-    (subst (λ x. AreInOrder x (encodings (others u))) (sym k.sets) st.0)
+    (subst (λ x. AreInOrder x (encodings (others u))) (sym k.last) st.0)
     (k.at_front d e (members_encoding (others u)) st.1))
 
 -- it was read, and the members after it
@@ -416,7 +416,7 @@ absent_read {s} {l} {b} {c} {d} {ts} whole h n =
     record {
       are = inr n.are;
       readable = n.readable;
-      order = subst (λ x. AreInOrder x (encodings ts)) k.sets n.order;
+      order = subst (λ x. AreInOrder x (encodings ts)) k.last n.order;
       passes = λ a q. n.passes a (k.peeks_at_most a q);
       implicit_tag = n.implicit_tag;
       fails = λ last e f. k.fails last e (n.fails last e f);
@@ -478,10 +478,10 @@ module _ {V W U : Type 0} (meaning : W → Tree) (left_out : W → Bool) (others
         let never : false ≡ true = sym q ∙ out in
         cc
 
-    default_head : {rule : Rule} {b d : State} {e : Asn1DerError} → b.implicit_tag ≡ None
-        → RefusesDefault meaning left_out s rule b d e
+    default_head : {rule : Rule} {b d : State} {last : Option (List ℕ)} {e : Asn1DerError} → b.implicit_tag ≡ None
+        → RefusesDefault meaning left_out s rule b d last e
         → RefusesLayout (λ v. maybe_more meaning (item v) (others (rest v))) (Layout.maybe s l) b d e
-    default_head whole (as_optional h) = maybe_head meaning others s l item rest begins begin whole h
+    default_head whole (as_optional h still) = maybe_head meaning others s l item rest begins begin whole h
     default_head whole (written_out c x is r _ f) = record {
       rest = record {
         fails = fails_after_any_order (consumes_member r) f;
@@ -498,7 +498,7 @@ refuses_alike {l = l} {b = b} {d = d} {e = e} is h = record {
     fails = h.rest.fails;
     none = λ j v p readable order w.
         h.rest.none j v (p.0, subst (AreMembersOf l) (is v) p.1) (subst AreReadable (is v) readable)
-        (subst (λ ts. AreInOrder b.sets (encodings ts)) (is v) order)
+        (subst (λ ts. AreInOrder b.last (encodings ts)) (is v) order)
         (subst (λ ts. AreUpToEnd b d e (members_encoding ts)) (is v) w);
   };
 }
@@ -521,16 +521,16 @@ module _ {W X : Type 0} {presence : Presence} {prepend : X → Trees → Trees} 
 
   pub layout_member_head : (rule : Rule) {left_out : W → Bool} → IsLeftOut meaning item left_out
       → {V : Type 0} {others : V → Trees} {l : Layout} {AreEqual : V → V → Type 0} (first : V → X)
-      → AreLayoutMembers others l AreEqual → {b d : State} {e : Asn1DerError} → b.implicit_tag ≡ None
-      → RefusesLayoutMember presence meaning left_out s rule b d e
+      → AreLayoutMembers others l AreEqual → {b d : State} {e : Asn1DerError}
+      (last : Option (List ℕ)) → b.implicit_tag ≡ None → RefusesLayoutMember presence meaning left_out s rule b d last e
       → RefusesLayout (λ v. prepend (first v) (others v)) (layout_with presence s l) b d e
-  layout_member_head rule {left_out} left {V} {others} {l} first cs {b} {d} {e} whole h =
+  layout_member_head rule {left_out} left {V} {others} {l} first cs {b} {d} {e} last whole h =
       refuses_alike (λ v. c.prepends (first v) (others v)) (by_presence presence c.there h)
     where
       by_presence : (p : Presence) → ((x : X) → IsThere p (item x))
-          → RefusesLayoutMember p meaning left_out s rule b d e
+          → RefusesLayoutMember p meaning left_out s rule b d last e
           → RefusesLayout (λ v. maybe_more meaning (item (first v)) (others v)) (layout_with p s l) b d e
-      by_presence always there h = required_head meaning (λ v. item (first v)) (λ v. there (first v)) others h
+      by_presence always there h = required_head meaning (λ v. item (first v)) (λ v. there (first v)) others h.0
       by_presence perhaps there h =
           default_head meaning left_out others s l (λ v. item (first v)) (λ v. v) (λ v. left.written (first v))
           left.by_tree c.is.sound c.is.begun cs.begins whole h

@@ -15,6 +15,7 @@ pub mod Peeked
 pub mod Choices
 pub mod OtherValues
 pub mod NumberReads
+pub mod InOrder
 pub mod MemberReads
 pub mod PassedOn
 pub mod Rests

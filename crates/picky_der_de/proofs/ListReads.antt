@@ -60,8 +60,8 @@ readable-push meaning (w ∷ vs) v h p = (h.0, readable-push meaning vs v h.1 p)
 
 -- members that are in order after these are in order with these in front
 abbrev pub LeadOn : {V : Type 0} → (V → Tree) → State → State → List V → Type 0
-LeadOn meaning old new vs = (ms : List (List ℕ)) → AreInOrder new.sets ms
-    → AreInOrder old.sets (encodings (trees (map meaning vs)) ++ ms)
+LeadOn meaning old new vs = (ms : List (List ℕ)) → AreInOrder new.last ms
+    → AreInOrder old.last (encodings (trees (map meaning vs)) ++ ms)
 
 pub leads-none : {V : Type 0} (meaning : V → Tree) (a : State) → LeadOn meaning a a []
 unfolding tree_bytes
@@ -76,12 +76,12 @@ encodings-push meaning (w ∷ vs) v ms = ap (λ l. der (meaning w) ∷ l) (encod
 pub leads-push : {V : Type 0} (meaning : V → Tree) {s : Shape} (a : State) {b c : State} (vs : List V) (v : V)
     → LeadOn meaning a b vs → ReadsMember s b c (meaning v) → LeadOn meaning a c (vs ++ v ∷ [])
 leads-push meaning a vs v h r ms o =
-    subst (AreInOrder a.sets) (sym (encodings-push meaning vs v ms)) (h (der (meaning v) ∷ ms) (member_leads r ms o))
+    subst (AreInOrder a.last) (sym (encodings-push meaning vs v ms)) (h (der (meaning v) ∷ ms) (member_leads r ms o))
 
 pub leads-all : {V : Type 0} (meaning : V → Tree) (a b : State) (vs : List V) → LeadOn meaning a b vs
-    → AreInOrder a.sets (encodings (trees (map meaning vs)))
-leads-all meaning a b vs h = subst (AreInOrder a.sets) (append-nil (encodings (trees (map meaning vs))))
-    (h [] (order_none b.sets))
+    → AreInOrder a.last (encodings (trees (map meaning vs)))
+leads-all meaning a b vs h = subst (AreInOrder a.last) (append-nil (encodings (trees (map meaning vs))))
+    (h [] (order_none b.last))
 
 -- ---- refused
 
@@ -95,7 +95,7 @@ all_refused {V} {meaning} {s} {rule} {c} {d} {e} r ahead = record { rest = rest_
     unread [] p readable = nothing ahead
     unread (v ∷ vs) p readable = unread_first v p.0 readable.0
 
-    lesser : IsJudged c d e → (vs : List V) (v : V) → BreaksOrder meaning s (AreInOrder c.sets) vs v
+    lesser : IsJudged c d e → (vs : List V) (v : V) → BreaksOrder meaning s (AreInOrder c.last) vs v
         → AreBefore c d e (members_encoding (trees (map meaning (vs ++ v ∷ []))))
         → RefusesConsumed c d e (members_encoding (trees (map meaning (vs ++ v ∷ []))))
     lesser j [] v h w =
@@ -117,16 +117,16 @@ all_next {V} {meaning} {s} {b} {c} {d} {t} {e} r h =
     follow [] p = tt
     follow (v ∷ vs) p = (p.1, refl)
 
-    lesser : IsJudged b d e → (vs : List V) (v : V) → BreaksOrder meaning s (AreInOrder b.sets) vs v
+    lesser : IsJudged b d e → (vs : List V) (v : V) → BreaksOrder meaning s (AreInOrder b.last) vs v
         → AreBefore b d e (members_encoding (trees (map meaning (vs ++ v ∷ []))))
         → RefusesConsumed b d e (members_encoding (trees (map meaning (vs ++ v ∷ []))))
     lesser j [] v k w =
         let same = (same_member (meaning v) Trees.none k.readable.0 r h.rest.fails w).0 in
-        absurd (k.broken (order_ahead (meaning v) Trees.none same r (no_members_in_order c.sets)))
+        absurd (k.broken (order_ahead (meaning v) Trees.none same r (no_members_in_order c.last)))
     lesser j (u ∷ us) v k w =
         let others = trees (map meaning (us ++ v ∷ [])) in
         let same = (same_member (meaning u) others k.readable.0 r h.rest.fails w).0 in
-        let rest : BreaksOrder meaning s (AreInOrder c.sets) us v = record {
+        let rest : BreaksOrder meaning s (AreInOrder c.last) us v = record {
           of_shape = k.of_shape.1;
           readable = k.readable.1;
           in_order = order_after (meaning u) (trees (map meaning us)) same r k.in_order;
@@ -284,7 +284,7 @@ pub times_left : {V : Type 0} (meaning : V → Tree) (s : Shape) {c d : State} {
 times_left {V} meaning s {c} {d} {e} f left = record { fails = f; none = none }
   where
     none : IsJudged c d e → (vs : List V) → AreMembersOf (times zero s) (trees (map meaning vs))
-        → AreReadable (trees (map meaning vs)) → AreInOrder c.sets (encodings (trees (map meaning vs)))
+        → AreReadable (trees (map meaning vs)) → AreInOrder c.last (encodings (trees (map meaning vs)))
         → AreUpToEnd c d e (members_encoding (trees (map meaning vs))) → ⊥
     none j [] of_shape readable order w = none_left left w
     none j (v ∷ vs) of_shape readable order w = of_shape

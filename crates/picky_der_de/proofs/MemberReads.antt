@@ -1,6 +1,6 @@
 -- Members of sequences and sets, read and refused.
-use Rattle.std.proofs.Common.{◌≡◌, ℕ, ◌<◌, ◌≤◌, false, true, List, [], ◌∷◌, ◌++◌, length, Some, None, refl, sym, ◌∙◌}
-use Rattle.std.proofs.Common.{ap, ap₂, subst, arith, append_assoc, length-append, true≢false}
+use Rattle.std.proofs.Common.{◌≡◌, ℕ, ◌<◌, ◌≤◌, false, true, List, [], ◌∷◌, ◌++◌, length, Option, Some, None, refl}
+use Rattle.std.proofs.Common.{sym, ◌∙◌, ap, ap₂, subst, arith, append_assoc, length-append, true≢false}
 use Rattle.picky_der_core.specs.declared.error.Asn1DerError.{Asn1DerError}
 use Rattle.picky_der_core.specs.Failure.{failure_of}
 use Rattle.picky_der_core.specs.declared.error.Asn1DerError.TheVariants.{TruncatedData}
@@ -11,13 +11,13 @@ use Rattle.picky_der_core.specs.Readable.{IsReadable, AreReadable, IsInOrder}
 use Rattle.picky_der_core.specs.Shape.{Shape, IsOf, IsFirst}
 use Rattle.picky_der_core.specs.Reading.{Place, written_at, IsAtFront}
 use Rattle.picky_der_de.specs.declared.end.End.TheVariants.{Soft}
-use Rattle.picky_der_de.specs.State.{OpenSets, State}
-use Rattle.picky_der_de.specs.Steps.{Consumed, Fails, IsJudged, failed_with, place_in, place_of, fetched_count}
+use Rattle.picky_der_de.specs.State.{State}
+use Rattle.picky_der_de.specs.Steps.{Consumed, Fails, IsJudged, place_in, place_of, fetched_count}
 use Rattle.picky_der_de.specs.RefusesBy.{Rule, RefusesBy}
 use Rattle.picky_der_de.proofs.PlainRuled.{same_left}
 use Rattle.picky_der_de.specs.Rules.{field_rule, missing, refused}
-use Rattle.picky_der_de.specs.Order.{order_of, sets_inside, is_out_of_order, with_last, AreInOrder, without_order}
-use Rattle.picky_der_de.specs.Order.{RefusesTest, out_of_order, without_memory}
+use Rattle.picky_der_de.specs.Order.{order_of, is_out_of_order, with_last, AreInOrder, without_order}
+use Rattle.picky_der_de.specs.Order.{HasFailedWith, RefusesTest, out_of_order, without_memory}
 use Rattle.picky_der_de.specs.Reading.{Concerns, now, ever, Reads, Refuses}
 use Rattle.picky_der_de.specs.Ends.{EnclosingEnd, with_inner_end, Closes, OpensList, RefusesList}
 use Rattle.picky_der_de.specs.Members.{ReadsMember, RefusesNext, no_value, after_value, RefusesMember, HasNoMore}
@@ -50,15 +50,15 @@ unfolding der tree_bytes
 encodings-more t ts = refl
 
 -- members in order, from left to right
-pub no_members_in_order : (l : OpenSets) → AreInOrder l (encodings Trees.none)
+pub no_members_in_order : (l : Option (List ℕ)) → AreInOrder l (encodings Trees.none)
 unfolding tree_bytes
 no_members_in_order l = order_none l
 
-pub first_in_order : (l : OpenSets) (t : Tree) (ts : Trees) → AreInOrder l (encodings (Trees.more t ts))
+pub first_in_order : (l : Option (List ℕ)) (t : Tree) (ts : Trees) → AreInOrder l (encodings (Trees.more t ts))
     → is_out_of_order l (der t) ≡ false
 first_in_order l t ts h = order_first l (der t) (encodings ts) (subst (AreInOrder l) (encodings-more t ts) h)
 
-next_in_order : (l : OpenSets) (t : Tree) (ts : Trees) → AreInOrder l (encodings (Trees.more t ts))
+next_in_order : (l : Option (List ℕ)) (t : Tree) (ts : Trees) → AreInOrder l (encodings (Trees.more t ts))
     → AreInOrder (with_last l (der t)) (encodings ts)
 next_in_order l t ts h = order_next l (der t) (encodings ts) (subst (AreInOrder l) (encodings-more t ts) h)
 
@@ -79,35 +79,35 @@ pub member_not_implicit : {s : Shape} {b c : State} {t : Tree} → ReadsMember s
 member_not_implicit r = ap (λ (z : State). z.implicit_tag) r.follows.same ∙ r.reads.implicit_tag
 
 -- it is the last one from here on
-last_member : {s : Shape} {b c : State} {t : Tree} → ReadsMember s b c t → c.sets ≡ with_last b.sets (der t)
-last_member {t = t} r = ap (λ (z : State). z.sets) r.follows.same ∙ ap (λ l. with_last l (der t)) r.reads.consumes.sets
+last_member : {s : Shape} {b c : State} {t : Tree} → ReadsMember s b c t → c.last ≡ with_last b.last (der t)
+last_member {t = t} r = ap (λ (z : State). z.last) r.follows.same ∙ ap (λ l. with_last l (der t)) r.reads.consumes.last
 
 -- and members that are in order after it are in order with it in front
 pub member_leads : {s : Shape} {b c : State} {t : Tree} → ReadsMember s b c t → (ms : List (List ℕ))
-    → AreInOrder c.sets ms → AreInOrder b.sets (der t ∷ ms)
+    → AreInOrder c.last ms → AreInOrder b.last (der t ∷ ms)
 member_leads {b = b} {t = t} r ms h =
-    let first : is_out_of_order b.sets (der t) ≡ false = ap (λ l. is_out_of_order l (der t)) (sym r.reads.consumes.sets)
+    let first : is_out_of_order b.last (der t) ≡ false = ap (λ l. is_out_of_order l (der t)) (sym r.reads.consumes.last)
     ∙ r.follows.in_order in
-    order_more b.sets (der t) ms first (subst (λ l. AreInOrder l ms) (last_member r) h)
+    order_more b.last (der t) ms first (subst (λ l. AreInOrder l ms) (last_member r) h)
 
 pub members_lead : {s : Shape} {b c : State} {t : Tree} (ts : Trees) → ReadsMember s b c t
-    → AreInOrder c.sets (encodings ts) → AreInOrder b.sets (encodings (Trees.more t ts))
+    → AreInOrder c.last (encodings ts) → AreInOrder b.last (encodings (Trees.more t ts))
 members_lead {b = b} {t = t} ts r h =
-    subst (AreInOrder b.sets) (sym (encodings-more t ts)) (member_leads r (encodings ts) h)
+    subst (AreInOrder b.last) (sym (encodings-more t ts)) (member_leads r (encodings ts) h)
 
 -- Members after one that has the same encoding as what was read: they are in order with it in front exactly if they are
 -- so from there on.
 pub order_ahead : {s : Shape} {b c : State} {t : Tree} (u : Tree) (us : Trees) → der u ≡ der t → ReadsMember s b c t
-    → AreInOrder c.sets (encodings us) → AreInOrder b.sets (encodings (Trees.more u us))
+    → AreInOrder c.last (encodings us) → AreInOrder b.last (encodings (Trees.more u us))
 order_ahead {b = b} u us same r h =
-    subst (AreInOrder b.sets) (ap (λ x. x ∷ encodings us) (sym same) ∙ sym (encodings-more u us))
+    subst (AreInOrder b.last) (ap (λ x. x ∷ encodings us) (sym same) ∙ sym (encodings-more u us))
     (member_leads r (encodings us) h)
 
 pub order_after : {s : Shape} {b c : State} {t : Tree} (u : Tree) (us : Trees) → der u ≡ der t → ReadsMember s b c t
-    → AreInOrder b.sets (encodings (Trees.more u us)) → AreInOrder c.sets (encodings us)
+    → AreInOrder b.last (encodings (Trees.more u us)) → AreInOrder c.last (encodings us)
 order_after {b = b} u us same r h =
-    let last = last_member r ∙ ap (with_last b.sets) (sym same) in
-    subst (λ l. AreInOrder l (encodings us)) (sym last) (next_in_order b.sets u us h)
+    let last = last_member r ∙ ap (with_last b.last) (sym same) in
+    subst (λ l. AreInOrder l (encodings us)) (sym last) (next_in_order b.last u us h)
 
 -- a member isn't read at the end
 pub member_ahead : {s : Shape} {b c : State} {t : Tree} → ReadsMember s b c t → 0 < b.until_end
@@ -115,13 +115,13 @@ member_ahead {t = t} r = omega (arith, (consumes_member r).until_end, length-der
 
 -- it had failed before
 pub member_again : {V : Type 0} {meaning : V → Tree} {s : Shape} {rule : Rule} {a : State} {e : Asn1DerError}
-    → a.failed ≡ Some (failure_of e) → RefusesMember meaning s rule a a e
-member_again {a = a} {e = e} h =
+    (l : Option (List ℕ)) → a.failed ≡ Some (failure_of e) → RefusesMember meaning s rule (record a { last = l }) a e
+member_again {a = a} {e = e} l h =
     let no : a.failed ≡ None → ⊥ = λ w. let q : None ≡ Some (failure_of e) = sym w ∙ h in cc in
     record {
-      fails = fails_again a h;
+      fails = fails_alike l (fails_again a h);
       refuses = no_value (record {
-        fails = fails_again a h;
+        fails = fails_alike l (fails_again a h);
         none = λ j. absurd (no j.had_not_failed);
         first =
             λ j. absurd (no j.had_not_failed);
@@ -159,7 +159,7 @@ nothing_here meaning v z is (ever n r d y left i q f) st = n is
 
 -- a member was wanted at the end
 pub member_missing : {V : Type 0} {meaning : V → Tree} {s : Shape} (rule : Rule) {a b c : State} {e : Asn1DerError}
-    → HasNoMore a b → a.implicit_tag ≡ None → Fails b c e → e ≡ TruncatedData → c ≡ failed_with b e
+    → HasNoMore a b → a.implicit_tag ≡ None → Fails b c e → e ≡ TruncatedData → HasFailedWith b e c
     → RefusesMember meaning s (field_rule rule) a c e
 member_missing {meaning = meaning} {s = s} rule {a = a} {b = b} {c = c} {e = e} h d f is failed =
     member_unread (record {
@@ -185,7 +185,7 @@ member_field {V} {meaning} {s} {rule} {a} {c} {e} ahead h =
 -- a value with this encoding was read, and refused since it is less than the last one
 pub record IsRefusedLess (old new : State) (e : Asn1DerError) (encoding : List ℕ) : Type 0 where
   pub consumed : RefusesConsumed old new e encoding
-  pub less : is_out_of_order old.sets encoding ≡ true
+  pub less : is_out_of_order old.last encoding ≡ true
 
 -- the bytes of a value were consumed: they begin with the bytes of the first member, and the bytes of the others follow
 same_first : {b c d : State} {e : Asn1DerError} (t u : Tree) (us : Trees) → IsReadable u → IsReadable t
@@ -218,7 +218,7 @@ module _ {s : Shape} {b c d : State} {e : Asn1DerError} {t : Tree} (u : Tree) (u
       record {
         soft = soft;
         seen = v.rest;
-        concerns = subst (λ n. Concerns c d e n v.rest) left (concerns_alike c.sets v.concerns);
+        concerns = subst (λ n. Concerns c d e n v.rest) left (concerns_alike c.last v.concerns);
         rest = w.rest;
         begins = sym same_member.1;
         within = omega (
@@ -231,7 +231,7 @@ module _ {s : Shape} {b c d : State} {e : Asn1DerError} {t : Tree} (u : Tree) (u
         );
       }
 
-  pub next_order : AreInOrder b.sets (encodings (Trees.more u us)) → AreInOrder c.sets (encodings us)
+  pub next_order : AreInOrder b.last (encodings (Trees.more u us)) → AreInOrder c.last (encodings us)
   next_order h = order_after u us same_member.0 r h
 
 pub next_up_to_end : {s : Shape} {b c d : State} {e : Asn1DerError} {t : Tree} (u : Tree) (us : Trees) → IsReadable u
@@ -282,14 +282,14 @@ module _ {V : Type 0} (meaning : V → Tree) {s : Shape} {c d : State} {e : Asn1
       w.begins).0 in
       record {
         consumed = record {
-          mid = b;
+          mid = record b { last = d.last };
           consumes =
               subst (Consumed (without_order c) (without_order b)) (sym same) (consumes_without_order m);
           error =
               h.error;
           same = h.same;
         };
-        less = ap₂ is_out_of_order (sym m.sets) same ∙ h.less;
+        less = ap₂ is_out_of_order (sym m.last) same ∙ h.less;
       }
 
   refused_less : {rule : Rule} → RefusesNext meaning s rule c d e → IsRefusedLess c d e (der (meaning v))
@@ -307,16 +307,16 @@ member_refused_less {meaning = meaning} v us r j of_shape readable w =
 pub no_member_in_order : {V : Type 0} {meaning : V → Tree} {s : Shape} {rule : Rule} {c d : State} {e : Asn1DerError}
     (v : V)
     (us vs : Trees) → RefusesMember meaning s rule c d e → IsJudged c d e → IsOf s (meaning v) → IsReadable (meaning v)
-    → AreInOrder c.sets (encodings (Trees.more (meaning v) vs))
+    → AreInOrder c.last (encodings (Trees.more (meaning v) vs))
     → AreBefore c d e (members_encoding (Trees.more (meaning v) us)) → ⊥
 no_member_in_order {meaning = meaning} {c = c} v us vs r j of_shape readable order w =
     true≢false (sym (member_refused_less v us r j of_shape readable w).less
-    ∙ first_in_order c.sets (meaning v) vs order)
+    ∙ first_in_order c.last (meaning v) vs order)
 
 pub no_member : {V : Type 0} {meaning : V → Tree} {s : Shape} {rule : Rule} {c d : State} {e : Asn1DerError} (v : V)
     (us : Trees)
     → RefusesMember meaning s rule c d e → IsJudged c d e → IsOf s (meaning v) → IsReadable (meaning v)
-    → AreInOrder c.sets (encodings (Trees.more (meaning v) us))
+    → AreInOrder c.last (encodings (Trees.more (meaning v) us))
     → AreBefore c d e (members_encoding (Trees.more (meaning v) us)) → ⊥
 no_member v us r j of_shape readable order w = no_member_in_order v us us r j of_shape readable order w
 
@@ -328,15 +328,15 @@ none_left l w = omega (arith, w.fills, ap length members_encoding-none)
 
 -- the members of a list that was opened, in order from its first one on
 pub opened_in_order : (kind : ListKind) {a b : State} {outer : EnclosingEnd} (ts : Trees)
-    → OpensList (list_tag kind) a b outer → IsInOrder kind (encodings ts) → AreInOrder b.sets (encodings ts)
-opened_in_order kind ts h i = subst (λ l. AreInOrder l (encodings ts)) (sym (ap (λ (z : State). z.sets) h.opened))
-    (order_begins kind h.mid.sets (encodings ts) i)
+    → OpensList (list_tag kind) a b outer → IsInOrder kind (encodings ts) → AreInOrder b.last (encodings ts)
+opened_in_order kind ts h i = subst (λ l. AreInOrder l (encodings ts)) (sym (ap (λ (z : State). z.last) h.opened))
+    (order_begins kind (encodings ts) i)
 
 pub whole_in_order : (kind : ListKind) {a b : State} {outer : EnclosingEnd} (ts : Trees)
-    → OpensList (list_tag kind) a b outer → AreInOrder b.sets (encodings ts) → IsInOrder kind (encodings ts)
+    → OpensList (list_tag kind) a b outer → AreInOrder b.last (encodings ts) → IsInOrder kind (encodings ts)
 whole_in_order kind ts h i =
-    order_whole kind h.mid.sets (encodings ts)
-    (subst (λ l. AreInOrder l (encodings ts)) (ap (λ (z : State). z.sets) h.opened) i)
+    order_whole kind (encodings ts)
+    (subst (λ l. AreInOrder l (encodings ts)) (ap (λ (z : State). z.last) h.opened) i)
 
 -- the members of a list, before the list's end
 members_at_front : (kind : ListKind) (s : Shape) {a b c : State} {outer : EnclosingEnd} {e : Asn1DerError} {end : ℕ}
@@ -347,13 +347,12 @@ members_at_front kind s {b = b} {c = c} {e = e} ts h f w st =
     omega (arith, failed_grows f, ap (λ (z : State). z.consumed) h.opened) in
     let o = seen_content h.begins grows refl refl w st in
     let content_is = members_encoding-content kind ts st.readable.0 in
-    let opened : State =
-    record (with_inner_end h.mid h.size Soft) { sets = sets_inside (order_of (list_tag kind)) h.mid.sets } in
+    let opened : State = record (with_inner_end h.mid h.size Soft) { last = order_of (list_tag kind) } in
     let size : length (members_encoding ts) ≡ opened.until_end = sym (ap length content_is) ∙ o.size in
     let are_before : AreBefore opened c e (members_encoding ts) = record {
       soft = refl;
       seen = o.seen;
-      concerns = concerns_alike (sets_inside (order_of (list_tag kind)) h.mid.sets)
+      concerns = concerns_alike (order_of (list_tag kind))
           (concerns_with_inner_end o.concerns);
       rest = o.rest;
       begins = o.begins ∙ ap (λ x. x ++ o.rest) content_is;
@@ -366,15 +365,15 @@ members_at_front kind s {b = b} {c = c} {e = e} ts h f w st =
 pub list_refused : {V : Type 0} (kind : ListKind) (members : V → Trees) (s : Shape) → IsFirst s (list_tag kind)
     → {a b c : State} {outer : EnclosingEnd} {e : Asn1DerError} → OpensList (list_tag kind) a b outer → Fails b c e
     → (IsJudged b c e → (v : V) → IsOf s (Tree.list kind (members v)) → AreReadable (members v)
-    → AreInOrder b.sets (encodings (members v)) → AreUpToEnd b c e (members_encoding (members v)) → ⊥)
+    → AreInOrder b.last (encodings (members v)) → AreUpToEnd b c e (members_encoding (members v)) → ⊥)
     → Refuses (λ v. Tree.list kind (members v)) s a c e
 list_refused kind members s first {a} {b} {c} {outer} {e} h f none =
     let before : Fails (with_inner_end h.mid h.size Soft) c e =
-    fails_alike (sets_inside None h.mid.sets) (subst (λ z. Fails z c e) h.opened f) in
+    fails_alike None (subst (λ z. Fails z c e) h.opened f) in
     let fails : Fails h.mid c e = fails_without_inner_end h.begins.fits before in
     let judged : IsJudged a c e → IsJudged b c e =
     λ j. subst (λ z. IsJudged z c e) (sym h.opened)
-    (judged_alike (sets_inside (order_of (list_tag kind)) h.mid.sets)
+    (judged_alike (order_of (list_tag kind))
     (judged_with_inner_end h.size Soft (judged_after h.begins.consumes j))) in
     record {
       fails = fails_after h.begins.consumes fails;
@@ -400,7 +399,7 @@ list_unopened kind members s first {a} h =
 
 -- the members of a list that was opened and closed were read
 pub list_reads : {s : Shape} {a b c d : State} {kind : ListKind} {outer closed : EnclosingEnd} (ts : Trees)
-    → OpensList (list_tag kind) a b outer → AreInOrder b.sets (encodings ts)
+    → OpensList (list_tag kind) a b outer → AreInOrder b.last (encodings ts)
     → Consumed (without_order b) (without_order c) (members_encoding ts) → c.implicit_tag ≡ None → Closes closed c d
     → closed ≡ outer
     → IsOf s (Tree.list kind ts) → AreReadable ts → Reads s a d (Tree.list kind ts)

@@ -12,10 +12,10 @@ use Rattle.picky_der_core.specs.Tree.{ListKind, Tree, Trees, trees}
 use Rattle.picky_der_core.specs.Encoding.{der, list_tag}
 use Rattle.picky_der_core.specs.Readable.{IsInOrder}
 use Rattle.picky_der_core.specs.Shape.{Shape}
-use Rattle.picky_der_de.specs.State.{OpenSets, State}
+use Rattle.picky_der_de.specs.State.{State}
 use Rattle.picky_der_de.specs.Steps.{Consumed, IsJudged, is_hard}
 use Rattle.picky_der_de.specs.Order.{is_out_of_order, with_last, AreInOrder, without_order, RefusesTest, out_of_order}
-use Rattle.picky_der_de.specs.Order.{without_memory, is_less_than}
+use Rattle.picky_der_de.specs.Order.{without_memory, is_out_of_order}
 use Rattle.picky_der_de.specs.LookAhead.{Peeks, Identifies, RefusesIdentifier, identifier_refusal}
 use Rattle.picky_der_de.specs.LookAhead.{identifier_refusal_in}
 use Rattle.picky_der_de.specs.Ends.{EnclosingEnd, RefusesClose, OpensList, RefusesList}
@@ -70,9 +70,9 @@ module _ {V : Type 0} (meaning : V → Tree) {s : Shape} {rule : Rule} where
       → RefusesEachBy meaning s rule c d e
   each_head {c} {d} {e} r ahead whole j bs left k l = by r.refuses
     where
-      by : RefusesNext meaning s rule c d e → each_rule meaning s (AreInOrder c.sets) rule (spot_of c) bs e left
+      by : RefusesNext meaning s rule c d e → each_rule meaning s (AreInOrder c.last) rule (spot_of c) bs e left
       by (no_value h refuses) =
-          at_member [] c.until_end bs (none_next meaning (spot_of c) bs) (no_members_in_order c.sets) ahead
+          at_member [] c.until_end bs (none_next meaning (spot_of c) bs) (no_members_in_order c.last) ahead
           (subst (λ at. rule at bs e left) (whole_spot c whole) (refuses j bs left k l))
       by (after_value mid v h (without_memory n f is same)) = absurd (j.memory is)
       by (after_value mid v h (out_of_order o)) =
@@ -81,16 +81,16 @@ module _ {V : Type 0} (meaning : V → Tree) {s : Shape} {rule : Rule} where
           let one : members_encoding (Trees.more (meaning v) Trees.none) ≡ der (meaning v) =
           members_encoding-more (meaning v) Trees.none ∙ ap (λ x. der (meaning v) ++ x) members_encoding-none
           ∙ append-nil (der (meaning v)) in
-          let less : is_out_of_order c.sets (der (meaning v)) ≡ true =
-          ap (λ x. is_out_of_order x (der (meaning v))) (sym t.sets) ∙ o.less in
+          let less : is_out_of_order c.last (der (meaning v)) ≡ true =
+          ap (λ x. is_out_of_order x (der (meaning v))) (sym t.last) ∙ o.less in
           let same : p.0 ≡ left = same_left mid.input p.1 (sym (ap (λ (z : State). z.input) o.same) ∙ l) in
           after_member [] v mid.until_end (record {
             of_shape = (h.of_shape, tt);
             readable = (h.readable, tt);
             is = p.2 ∙ ap (λ x. der (meaning v) ++ x) same ∙ ap (λ x. x ++ left) (sym one);
             ahead = t.until_end ∙ ap (λ x. length x + mid.until_end) (sym one);
-          }) (no_members_in_order c.sets)
-          (λ in_order. true≢false (sym less ∙ first_in_order c.sets (meaning v) Trees.none in_order)) o.error
+          }) (no_members_in_order c.last)
+          (λ in_order. true≢false (sym less ∙ first_in_order c.last (meaning v) Trees.none in_order)) o.error
 
   -- a member was read, and one after it was refused
   pub each_next : {b c d : State} {e : Asn1DerError} (v : V) → ReadsMember s b c (meaning v)
@@ -121,8 +121,8 @@ module _ {V : Type 0} (meaning : V → Tree) {s : Shape} {rule : Rule} where
           }
 
       leads : (rest : List ℕ) → bs ≡ der (meaning v) ++ rest
-          → each_rule meaning s (AreInOrder c.sets) rule (spot_of c) rest e left
-          → each_rule meaning s (AreInOrder b.sets) rule (spot_of b) bs e left
+          → each_rule meaning s (AreInOrder c.last) rule (spot_of c) rest e left
+          → each_rule meaning s (AreInOrder b.last) rule (spot_of b) bs e left
       leads rest is (at_member vs after last n order ahead h) =
           at_member (v ∷ vs) after last (more rest is vs after last n) (members_lead (trees (map meaning vs)) r order)
           ahead (subst (λ hard. rule (spot_before hard after) last e left)
@@ -148,7 +148,7 @@ each_whole {V} {meaning} {s} {rule} kind {a} {b} {d} {outer} {e} o by j bs left 
     let whole = ap (λ (z : State). z.implicit_tag) o.opened ∙ o.begins.implicit_tag in
     in_order (by whole j bs left k l)
   where
-    in_order : each_rule meaning s (AreInOrder b.sets) rule (spot_of b) bs e left
+    in_order : each_rule meaning s (AreInOrder b.last) rule (spot_of b) bs e left
         → each_rule meaning s (IsInOrder kind) rule (spot_of b) bs e left
     in_order (at_member vs after rest n order ahead h) =
         at_member vs after rest n (whole_in_order kind (trees (map meaning vs)) o order) ahead h
@@ -159,11 +159,11 @@ each_whole {V} {meaning} {s} {rule} kind {a} {b} {d} {outer} {e} o by j bs left 
 -- ---- members of several types
 
 -- no order is tested after a member either
-pub still_unordered : {s : Shape} {b c : State} {t : Tree} → ReadsMember s b c t → b.sets.last ≡ None
-    → c.sets.last ≡ None
+pub still_unordered : {s : Shape} {b c : State} {t : Tree} → ReadsMember s b c t → b.last ≡ None
+    → c.last ≡ None
 still_unordered {b = b} {t = t} r none =
-    let same = ap (λ (z : State). z.sets) r.follows.same ∙ ap (λ l. with_last l (der t)) r.reads.consumes.sets in
-    ap (λ (l : OpenSets). l.last) same ∙ without (b.sets.last) none
+    let same = ap (λ (z : State). z.last) r.follows.same ∙ ap (λ l. with_last l (der t)) r.reads.consumes.last in
+    same ∙ without b.last none
   where
     without : (o : Option (List ℕ)) → o ≡ None → option_map (λ last. der t) o ≡ None
     without None e = refl
@@ -217,25 +217,25 @@ module _ {W : Type 0} (meaning : W → Tree) (left_out : W → Bool) (s : Shape)
       (subst (λ at. others at p.0 e left) (after_spot b c t (member_not_implicit r)) q)
 
   -- a member was read whose order isn't tested
-  not_tested : {m : List ℕ} {a b c : State} {e : Asn1DerError} → b.sets ≡ a.sets → a.sets.last ≡ None
+  not_tested : {m : List ℕ} {a b c : State} {e : Asn1DerError} → b.last ≡ a.last → a.last ≡ None
       → RefusesTest m b c e → IsJudged a c e → ⊥
   not_tested {m} {a} {b} same none (out_of_order h) j =
-      let less : is_out_of_order a.sets m ≡ true = ap (λ x. is_out_of_order x m) (sym same) ∙ h.less in
-      let never : false ≡ true = ap (λ o. is_less_than o m) (sym none) ∙ less in
+      let less : is_out_of_order a.last m ≡ true = ap (λ x. is_out_of_order x m) (sym same) ∙ h.less in
+      let never : false ≡ true = ap (λ o. is_out_of_order o m) (sym none) ∙ less in
       cc
   not_tested same none (without_memory n f is failed) j = j.memory is
 
-  member_by : {b d : State} {e : Asn1DerError} → b.sets.last ≡ None → b.implicit_tag ≡ None
+  member_by : {b d : State} {e : Asn1DerError} → b.last ≡ None → b.implicit_tag ≡ None
       → RefusesMember meaning s (field_rule member) b d e → RefusesBy (field_rule member) b d e
   member_by {b} {d} {e} none whole h j = by h.refuses j
     where
       by : RefusesNext meaning s (field_rule member) b d e → RefusesBy (field_rule member) b d e
       by (no_value r refuses) = refuses
-      by (after_value mid v r t) = λ i. absurd (not_tested (consumes_whole r whole).sets none t i)
+      by (after_value mid v r t) = λ i. absurd (not_tested (consumes_whole r whole).last none t i)
 
   -- ---- one that is always there
 
-  always_head : {b d : State} {e : Asn1DerError} → b.sets.last ≡ None → b.implicit_tag ≡ None
+  always_head : {b d : State} {e : Asn1DerError} → b.last ≡ None → b.implicit_tag ≡ None
       → RefusesMember meaning s (field_rule member) b d e → RefusesBy (always_rule meaning s member others) b d e
   always_head none whole h j bs left k l = at_field (member_by none whole h j bs left k l)
 
@@ -246,14 +246,14 @@ module _ {W : Type 0} (meaning : W → Tree) (left_out : W → Bool) (s : Shape)
 
   -- ---- one that may be missing
 
-  optional_head : {b d : State} {e : Asn1DerError} → b.sets.last ≡ None → b.implicit_tag ≡ None
+  optional_head : {b d : State} {e : Asn1DerError} → b.last ≡ None → b.implicit_tag ≡ None
       → RefusesOptional meaning s (field_rule member) b d e
       → RefusesBy (perhaps_rule meaning left_out s member others) b d e
   optional_head none whole (no_tag h ahead) = λ j bs left k l.
       cut (ahead j.had_not_failed) (unseen_by whole h j bs left k l)
   optional_head {b} {d} {e} none whole (no_member mid tag i own r) =
       let p = as_look whole i in
-      let unordered : mid.sets.last ≡ None = ap (λ (z : State). z.sets.last) p.same ∙ none in
+      let unordered : mid.last ≡ None = ap (λ (z : State). z.last) p.same ∙ none in
       let still : mid.implicit_tag ≡ None = ap (λ (z : State). z.implicit_tag) p.same ∙ whole in
       looked_by (field_rule member) (perhaps_rule meaning left_out s member others) p
       (λ bs rest left is h. begun p.ahead bs rest left is h) (member_by unordered still r)
@@ -263,12 +263,12 @@ module _ {W : Type 0} (meaning : W → Tree) (left_out : W → Bool) (s : Shape)
       begun ahead bs rest left is (missing z error all) = absurd (omega (arith, ahead, z))
       begun ahead bs rest left is (refused more h) = there ahead tag rest is own h
 
-  perhaps_head : {b d : State} {e : Asn1DerError} → b.sets.last ≡ None → b.implicit_tag ≡ None
-      → RefusesDefault meaning left_out s (field_rule member) b d e
+  perhaps_head : {b d : State} {last : Option (List ℕ)} {e : Asn1DerError} → b.last ≡ None → b.implicit_tag ≡ None
+      → RefusesDefault meaning left_out s (field_rule member) b d last e
       → RefusesBy (perhaps_rule meaning left_out s member others) b d e
   unfolding next_of member_is_next
-  perhaps_head none whole (as_optional h) = optional_head none whole h
-  perhaps_head {b} {d} {e} none whole (written_out mid w out r failed f) = λ j bs left k l.
+  perhaps_head none whole (as_optional h still) = optional_head none whole h
+  perhaps_head {b} {d} {e = e} none whole (written_out mid w out r failed f) = λ j bs left k l.
       let error : e ≡ InvalidData = subst (λ o. IsAnswer o InvalidData e) (consumes_member r).not_failed failed.0 in
       is_default mid.until_end (member_is_next w r k (sym (ap (λ (z : State). z.input) failed.1) ∙ l)) out error
 
@@ -289,13 +289,13 @@ module _ {W : Type 0} (meaning : W → Tree) (left_out : W → Bool) (s : Shape)
 -- ---- by its presence
 
 module _ {W : Type 0} (meaning : W → Tree) (left_out : W → Bool) (s : Shape) (member others : Rule) {b : State}
-    (none : b.sets.last ≡ None) (whole : b.implicit_tag ≡ None)
+    (none : b.last ≡ None) (whole : b.implicit_tag ≡ None)
   where
-    pub layout_head_by : {d : State} {e : Asn1DerError} (presence : Presence)
-        → RefusesLayoutMember presence meaning left_out s (field_rule member) b d e
+    pub layout_head_by : {d : State} {e : Asn1DerError} (last : Option (List ℕ)) (presence : Presence)
+        → RefusesLayoutMember presence meaning left_out s (field_rule member) b d last e
         → RefusesBy (layout_rule presence meaning left_out s member others) b d e
-    layout_head_by always h = always_head meaning left_out s member others none whole h
-    layout_head_by perhaps h = perhaps_head meaning left_out s member others none whole h
+    layout_head_by last always h = always_head meaning left_out s member others none whole h.0
+    layout_head_by last perhaps h = perhaps_head meaning left_out s member others none whole h
 
     pub layout_next_by : {c d : State} {e : Asn1DerError} (presence : Presence) (o : Option W) → IsThere presence o
         → IfSome o (λ w. left_out w ≡ false) → IfSome o (λ w. ReadsMember s b c (meaning w)) → IfNone o (Lacks s b c)
@@ -306,13 +306,13 @@ module _ {W : Type 0} (meaning : W → Tree) (left_out : W → Bool) (s : Shape)
         perhaps_next meaning left_out s member others o whole written r l by
 
 -- nor is an order tested after it
-pub still_none : {W : Type 0} (meaning : W → Tree) (s : Shape) (b c : State) → b.sets.last ≡ None
+pub still_none : {W : Type 0} (meaning : W → Tree) (s : Shape) (b c : State) → b.last ≡ None
     → b.implicit_tag ≡ None
-    → (o : Option W) → IfSome o (λ w. ReadsMember s b c (meaning w)) → IfNone o (Lacks s b c) → c.sets.last ≡ None
+    → (o : Option W) → IfSome o (λ w. ReadsMember s b c (meaning w)) → IfNone o (Lacks s b c) → c.last ≡ None
 still_none meaning s b c none whole (Some w) r l = still_unordered r none
-still_none meaning s b c none whole None r (no_more n) = ap (λ (z : State). z.sets.last) n.same ∙ none
+still_none meaning s b c none whole None r (no_more n) = ap (λ (z : State). z.last) n.same ∙ none
 still_none meaning s b c none whole None r (begins_otherwise tag i other) =
-    ap (λ (z : State). z.sets.last) (as_look whole i).same ∙ none
+    ap (λ (z : State). z.last) (as_look whole i).same ∙ none
 
 -- ---- members that an extension added
 
@@ -329,7 +329,7 @@ module _ (members : Rule) where
   added_there_by {tag = tag} whole i by none =
       let p = as_look whole i in
       looked_by members (added_rule members) p (λ bs rest left is h. at_members p.ahead tag rest is h)
-      (by (ap (λ (z : State). z.sets.last) p.same ∙ none))
+      (by (ap (λ (z : State). z.last) p.same ∙ none))
 
   -- they were read
   pub added_leads : {b c d : State} {tag : ℕ} → b.implicit_tag ≡ None → Identifies b c tag → LeadsTo members c d
@@ -361,8 +361,8 @@ module _ {V : Type 0} (meaning : V → Tree) (s : Shape) (rule : Rule) {tag : �
 -- ---- structs
 
 module _ (members : Rule) where
-  none_before : {a b : State} {outer : EnclosingEnd} → OpensList 0x30 a b outer → b.sets.last ≡ None
-  none_before o = ap (λ (z : State). z.sets.last) o.opened
+  none_before : {a b : State} {outer : EnclosingEnd} → OpensList 0x30 a b outer → b.last ≡ None
+  none_before o = ap (λ (z : State). z.last) o.opened
 
   pub struct_member_by : {a b c : State} {outer : EnclosingEnd} {e : Asn1DerError} → OpensList 0x30 a b outer
       → RefusesBefore members b c e → RefusesBy (fields_rule ListKind.sequence members) a c e

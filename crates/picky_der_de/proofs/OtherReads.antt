@@ -34,7 +34,7 @@ module _ {s : Shape} {b c d : State} (k : Skips s b c) {l : Layout} where
   look_read {ts} n = record {
     are = n.are;
     readable = n.readable;
-    order = subst (λ x. AreInOrder x (encodings ts)) k.sets n.order;
+    order = subst (λ x. AreInOrder x (encodings ts)) k.last n.order;
     passes = λ a q. n.passes a (k.peeks_at_most a q);
     implicit_tag = n.implicit_tag;
     fails = λ last e f. k.fails last e (n.fails last e f);
@@ -48,7 +48,7 @@ module _ {s : Shape} {b c d : State} (k : Skips s b c) {l : Layout} where
     rest = record {
       fails = k.fails d e n.rest.fails;
       none = λ j v p readable order w.
-          n.rest.none (k.judged d e j) v p readable (subst (λ x. AreInOrder x (encodings (members v))) (sym k.sets)
+          n.rest.none (k.judged d e j) v p readable (subst (λ x. AreInOrder x (encodings (members v))) (sym k.last)
           order) (k.at_front d e (members_encoding (members v)) w);
     };
   }

@@ -91,12 +91,12 @@ hidden_whole d (implicit number h is) = absurd (let q : Some number ≡ None = s
 -- outside implicit tags an identifier is refused as the byte of a choice is
 pub identifier_unread : {a c : State} {e : Asn1DerError} → a.implicit_tag ≡ None → RefusesChoice a c e
     → RefusesIdentifier a c e
-identifier_unread {a} whole h = record {
+identifier_unread {a} {c} whole h = record {
   refuses = record {
     fails = h.refuses.fails;
     just = λ j bs k. just_map (λ rest r. next_of_either a.implicit_tag a rest r whole) (h.refuses.just j bs k);
     memory = h.refuses.memory;
-    same = h.refuses.same;
+    same = ap (λ (z : State). record z { last = c.last }) h.refuses.same;
   };
   missing = λ j. (whole, hidden_whole whole (h.hidden j));
 }
@@ -157,7 +157,7 @@ module _ {a b : State} {x : ℕ} (p : Peeks a b x) where
     until_end = omega (arith, t.until_end, still_room);
     end = t.end ∙ ap (λ (s : State). s.end) p.same;
     limit = t.limit ∙ still_limit;
-    sets = t.sets ∙ ap (λ (s : State). s.sets) p.same;
+    last = t.last ∙ ap (λ (s : State). s.last) p.same;
     unpeeked = t.unpeeked;
     fetched = omega (arith, t.fetched, fetches_more);
     had_not_failed = p.had_not_failed;

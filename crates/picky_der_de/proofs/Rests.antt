@@ -69,12 +69,12 @@ encodings-as t u ts same = ap (λ m. m ∷ encodings ts) same
 first_refused : {W : Type 0} {meaning : W → Tree} {s : Shape} {rule : Rule} {c d : State} {e : Asn1DerError}
     (ts : Trees)
     → RefusesMember meaning s rule c d e → IsJudged c d e → FirstIsUnread meaning s (IsAhead c) ts
-    → AreInOrder c.sets (encodings ts) → AreUpToEnd c d e (members_encoding ts) → ⊥
+    → AreInOrder c.last (encodings ts) → AreUpToEnd c d e (members_encoding ts) → ⊥
 first_refused ts r j (nothing ahead) order w = none_left (ahead j.had_not_failed) w
 first_refused {meaning = meaning} {c = c} {d = d} {e = e} ts r j (first v t us of_shape readable same) order w =
     let as_value = members_encoding-more t us ∙ ap (λ x. x ++ members_encoding us) same
     ∙ sym (members_encoding-more (meaning v) us) in
-    no_member v us r j of_shape readable (subst (AreInOrder c.sets) (encodings-as t (meaning v) us same) order)
+    no_member v us r j of_shape readable (subst (AreInOrder c.last) (encodings-as t (meaning v) us same) order)
     (subst (AreUpToEnd c d e) as_value w).are_before
 
 -- these members follow a first one, and so it holds of them, unless there are none
@@ -107,11 +107,11 @@ module _ {V : Type 0} {P : V → Type 0} {members : V → Trees} where
     none = λ j v p. none j (part v) (members v) (follow v p);
   } where
     none : IsJudged b d e → (u : U) (ts : Trees) → Follow (Q u) (others u) ts → AreReadable ts
-        → AreInOrder b.sets (encodings ts) → AreUpToEnd b d e (members_encoding ts) → ⊥
+        → AreInOrder b.last (encodings ts) → AreUpToEnd b d e (members_encoding ts) → ⊥
     none j u Trees.none f readable order w = none_left (member_ahead r) w
     none j u (Trees.more x xs) f readable order w =
         h.none (judged_after_any_order (consumes_member r) j) u f.0 (subst AreReadable f.1 readable.1)
-        (subst (λ ts. AreInOrder c.sets (encodings ts)) f.1 (next_order x xs readable.0 r h.fails w.are_before order))
+        (subst (λ ts. AreInOrder c.last (encodings ts)) f.1 (next_order x xs readable.0 r h.fails w.are_before order))
         (subst (λ ts. AreUpToEnd c d e (members_encoding ts)) f.1 (next_up_to_end x xs readable.0 r h.fails w))
 
   pub rest_next : {s : Shape} {b c d : State} {t : Tree} {e : Asn1DerError} → ReadsMember s b c t
@@ -163,7 +163,7 @@ pub members_none : {c : State} → c.failed ≡ None → c.peeked ≡ None → c
 members_none {c = c} f p d = record {
   of_shape = tt;
   readable = tt;
-  order = no_members_in_order c.sets;
+  order = no_members_in_order c.last;
   consumes = subst (Consumed (without_order c) (without_order c)) (sym members_encoding-none)
       (consumes_none (without_order c) f p);
   implicit_tag = d;

@@ -8,7 +8,7 @@ use Rattle.picky_der_core.specs.Failure.{failure_of}
 use Rattle.picky_der_core.specs.Peeking.{count_of_any}
 use Rattle.picky_der_core.specs.Reader.{ReportsFault}
 use Rattle.picky_der_de.specs.declared.end.End.{End}
-use Rattle.picky_der_de.specs.State.{OpenSets, State}
+use Rattle.picky_der_de.specs.State.{State}
 use Rattle.picky_der_de.specs.Steps.{Consumed, ConsumesSome, Fails, IsWithin, IsUnmoved, HasFetched, IsJudged}
 use Rattle.picky_der_de.specs.Steps.{fetched_count}
 
@@ -19,7 +19,7 @@ consumes_then {a} {b} {c} {x} {y} h k = record {
   until_end = omega (arith, length-append x y);
   end = k.end ∙ h.end;
   limit = k.limit ∙ h.limit;
-  sets = k.sets ∙ h.sets;
+  last = k.last ∙ h.last;
   unpeeked = k.unpeeked;
   fetched = omega (arith, h.fetched, k.fetched);
   had_not_failed = h.had_not_failed;
@@ -36,7 +36,7 @@ consumes_none a h p = record {
   until_end = omega arith;
   end = refl;
   limit = refl;
-  sets = refl;
+  last = refl;
   unpeeked = p;
   fetched = let e : count_of_any a.peeked ≡ 0 = ap count_of_any p in omega (arith, e);
   had_not_failed = h;
@@ -45,21 +45,21 @@ consumes_none a h p = record {
   references = refl;
 }
 
--- the same but for the innermost end, the sets and the implicit tag
-abbrev pub beside : State → ℕ → End → OpenSets → Option ℕ → State
-beside s n kind sets tag = record s { until_end = n; end = kind; sets = sets; implicit_tag = tag }
+-- the same but for the innermost end, the last member and the implicit tag
+abbrev pub beside : State → ℕ → End → Option (List ℕ) → Option ℕ → State
+beside s n kind last tag = record s { until_end = n; end = kind; last = last; implicit_tag = tag }
 
 -- what was consumed before one end was consumed before another
-pub consumes_beside : {a c : State} {x : List ℕ} {n m : ℕ} {i j : End} {s u : OpenSets} {d g : Option ℕ}
-    → a.until_end ≡ length x + m → j ≡ a.end → u ≡ a.sets → Consumed (beside a n i s d) c x
+pub consumes_beside : {a c : State} {x : List ℕ} {n m : ℕ} {i j : End} {s u : Option (List ℕ)} {d g : Option ℕ}
+    → a.until_end ≡ length x + m → j ≡ a.end → u ≡ a.last → Consumed (beside a n i s d) c x
     → Consumed a (beside c m j u g) x
-consumes_beside ends kind sets t = record {
+consumes_beside ends kind same t = record {
   input = t.input;
   consumed = t.consumed;
   until_end = ends;
   end = kind;
   limit = t.limit;
-  sets = sets;
+  last = same;
   unpeeked = t.unpeeked;
   fetched = t.fetched;
   had_not_failed = t.had_not_failed;
@@ -69,7 +69,8 @@ consumes_beside ends kind sets t = record {
 }
 
 -- a call that failed before a nearer end failed before the one around it
-pub fails_beside : {a c : State} {e : Asn1DerError} {n : ℕ} {i : End} {s : OpenSets} {d : Option ℕ} → n ≤ a.until_end
+pub fails_beside : {a c : State} {e : Asn1DerError} {n : ℕ} {i : End} {s : Option (List ℕ)} {d : Option ℕ}
+    → n ≤ a.until_end
     → Fails (beside a n i s d) c e → Fails a c e
 fails_beside nearer f = record {
   failed = f.failed;

@@ -20,7 +20,7 @@ use Rattle.picky_der_core.specs.Wrapper.{wrapper_tag, wrapper_number, wrapper_fr
 use Rattle.picky_der_core.specs.Wrapper.{HasTagNumber}
 use Rattle.picky_der_core.specs.WrapperLaws.{wrapper_tag_number, wrapper_number-small, has_tag_number-true}
 use Rattle.picky_der_core.specs.WrapperLaws.{has_tag_number-false}
-use Rattle.picky_der_de.specs.State.{State, OpenSets}
+use Rattle.picky_der_de.specs.State.{State}
 use Rattle.picky_der_de.specs.Steps.{place_in, is_hard, Consumed, Fails, IsJudged, IsMissing, end_is_here, input_ended}
 use Rattle.picky_der_de.specs.Steps.{UsesNoMemory, failed_with, mendable_within, fetched_count, place_of}
 use Rattle.picky_der_de.specs.Wrappers.{implicit_tag_of, unused_bits_refusal, refusal_after, opening_refusal}
@@ -39,11 +39,9 @@ use Rattle.picky_der_de.proofs.Refusals.{front_consumed, concerns_after, failed_
 use Rattle.picky_der_de.proofs.Refusals.{at_end_of, end_below}
 use Rattle.picky_der_de.proofs.KnownBytes.{front_of, just_consumed, just_unconsumed, kept_known, peeked_kept}
 use Rattle.picky_der_de.proofs.PlainReads.{just_map}
-use Rattle.picky_der_de.proofs.Order.{put_back}
-use Rattle.picky_der_de.proofs.Ends.{judged_with_inner_end, fails_without_inner_end}
+use Rattle.picky_der_de.proofs.Ends.{judged_with_inner_end, fails_without_inner_end, consumes_around}
 use Rattle.picky_der_core.specs.ElementLaws.{same_front}
 use Rattle.picky_der_core.specs.ShapeLaws.{is_plain_shape, plain_by_shape}
-use Rattle.picky_der_de.specs.Order.{cut_at}
 
 -- ---- the tree in a wrapper
 
@@ -249,7 +247,7 @@ just_alike i t p h = record {
 -- what was consumed before an opened end was consumed before the one around it
 consumes_without_inner_end : {b c : State} {n : ℕ} {x : List ℕ} → n ≤ b.until_end
     → Consumed (with_inner_end b n Hard) c x
-    → Consumed b (record c { until_end = b.until_end - length x; end = b.end; sets = b.sets }) x
+    → Consumed b (record c { until_end = b.until_end - length x; end = b.end; last = b.last }) x
 consumes_without_inner_end l t = consumes_beside (omega (arith, t.until_end, l)) refl refl t
 
 unused_missing : (n until_end : ℕ) (rest : List ℕ) (b : State) {e : Asn1DerError}
@@ -294,7 +292,7 @@ just_unused {w} {a} {c = c} {bs = bs} h counts (count_missing m i t p) k =
     }
 just_unused {w} {a} {c = c} {e = e} h counts (count_other mid x t d is same) k =
     let header = wrapper_tag w ∷ length_octets h.size in
-    let end = record mid { until_end = h.mid.until_end - 1; end = h.mid.end; sets = h.mid.sets } in
+    let end = record mid { until_end = h.mid.until_end - 1; end = h.mid.end; last = h.mid.last } in
     let some : 0 < h.size = omega (arith, t.until_end) in
     just_alike (ap (λ (s : State). s.input) same) (ap (λ (s : State). s.consumed) same)
     (ap (λ (s : State). s.peeked) same)
@@ -336,7 +334,7 @@ opening_unused {w} {a} {b} {c} {outer} {e} h counts r =
 same_innermost : {a b : State} {x : List ℕ} → Consumed a b x → innermost b ≡ innermost a
 same_innermost {a} {b} t =
     let position : b.consumed + b.until_end ≡ a.consumed + a.until_end = omega (arith, t.consumed, t.until_end) in
-    rw (position, t.end, t.sets) refl
+    rw (position, t.end, t.last) refl
 
 not_refused : {w : Wrapper} {a b c : State} {outer : EnclosingEnd} {bs : List ℕ} (h : BeginsWrapper w a b outer)
     → Consumed (with_inner_end h.mid h.size Hard) c (wrapper_front w) → a.input ≡ Some bs
@@ -358,8 +356,8 @@ opens_wrapper {w} {a} {b} {c} {d} {outer} h consumed is =
     ap (λ (o : EnclosingEnd). o.position) h.outer_end in
     let new : State = record c { implicit_tag = implicit_tag_of w } in
     let after : Consumed h.mid (with_outer_end outer new) (wrapper_front w) =
-    consumes_beside (omega (arith, t.consumed, t.until_end, position, h.fits))
-    (ap (λ (o : EnclosingEnd). o.kind) h.outer_end) (put_back h.mid h.outer_end t.sets) t in
+    consumes_around outer new (consumes_beside (omega (arith, t.consumed, t.until_end, position, h.fits))
+    (ap (λ (o : EnclosingEnd). o.kind) h.outer_end) (ap (λ (o : EnclosingEnd). o.last) h.outer_end) t) in
     subst (λ z. OpensWrapper w a z outer) (sym is) (record {
       size = h.size;
       number = h.number;
@@ -399,7 +397,7 @@ consumes_with_outer_end outer l t = record {
   until_end = omega (arith, t.consumed, l);
   end = refl;
   limit = t.limit;
-  sets = ap (λ (s : OpenSets). cut_at outer.last_start s.around) t.sets;
+  last = refl;
   unpeeked = t.unpeeked;
   fetched = t.fetched;
   had_not_failed = t.had_not_failed;

@@ -11,7 +11,7 @@ use Rattle.picky_der_core.specs.Shape.{Shape}
 use Rattle.picky_der_de.specs.declared.end.End.TheVariants.{Soft}
 use Rattle.picky_der_de.specs.State.{State}
 use Rattle.picky_der_de.specs.Steps.{IsJudged, is_hard, place_of}
-use Rattle.picky_der_de.specs.Order.{order_of, sets_inside}
+use Rattle.picky_der_de.specs.Order.{order_of}
 use Rattle.picky_der_de.specs.Reading.{Reads}
 use Rattle.picky_der_de.specs.Headers.{header_bytes}
 use Rattle.picky_der_de.specs.Ends.{EnclosingEnd, RefusesClose, OpensList, RefusesList}
@@ -130,7 +130,7 @@ module _ {tag : ℕ} (content : Rule) where
       let p = front_consumed a.input o.mid.input bytes bs h.consumes.input k in
       let judged : IsJudged b c e =
       subst (λ z. IsJudged z c e) (sym o.opened)
-      (judged_alike (sets_inside (order_of tag) o.mid.sets)
+      (judged_alike (order_of tag)
       (judged_with_inner_end o.size Soft (judged_after h.consumes j))) in
       let known : b.input ≡ Some p.0 = ap (λ (z : State). z.input) o.opened ∙ p.1 in
       let q = by judged p.0 left known l in

@@ -1,5 +1,5 @@
 -- Ends, as they are opened and closed.
-use Rattle.std.specs.Prelude.{◌≡◌, ℕ, ◌+◌, ◌-◌, ◌<◌, ◌≤◌, List, Option, None, Some}
+use Rattle.std.specs.Prelude.{◌≡◌, ℕ, ◌+◌, ◌-◌, ◌<◌, ◌≤◌, List, [], Option, None, Some}
 use Rattle.picky_der_core.specs.declared.error.Asn1DerError.{Asn1DerError}
 use Rattle.picky_der_core.specs.declared.failure.Failure.{Failure}
 use Rattle.picky_der_core.specs.declared.error.Asn1DerError.TheVariants.{InvalidData}
@@ -8,32 +8,32 @@ use Rattle.picky_der_de.specs.declared.end.End.{End}
 use Rattle.picky_der_de.specs.declared.end.End.TheVariants.{Soft}
 use Rattle.picky_der_de.specs.State.{State}
 use Rattle.picky_der_de.specs.Steps.{Fails, UsesNoMemory, failed_with, error_at_end, is_hard}
-use Rattle.picky_der_de.specs.Order.{order_of, sets_inside, last_start, cut_at}
+use Rattle.picky_der_de.specs.Order.{order_of, without_order}
 use Rattle.picky_der_de.specs.Reading.{AreNotRefused}
 use Rattle.picky_der_de.specs.Headers.{BeginsContent, RefusesBegin}
 
--- What is restored when an end is closed: how many bytes are before the end around it, and what this end is. If it is
--- that of a set, also how many bytes are kept before the encoding of its last member.
+-- What is restored when an end is closed: how many bytes are before the end around it, what this end is, and which
+-- member before it was the last one of a set.
 pub record EnclosingEnd : Type 0 where
   pub position : ℕ
   pub kind : End
-  pub last_start : Option ℕ
+  pub last : Option (List ℕ)
 
 -- the innermost end, to be put back
 abbrev pub innermost : State → EnclosingEnd
-innermost s = record { position = s.consumed + s.until_end; kind = s.end; last_start = last_start s.sets }
+innermost s = record { position = s.consumed + s.until_end; kind = s.end; last = s.last }
 
 -- an end of this kind was opened this many bytes from here
 abbrev pub with_inner_end : State → ℕ → End → State
-with_inner_end s n kind = record s { until_end = n; end = kind; sets = sets_inside None s.sets }
+with_inner_end s n kind = record s { until_end = n; end = kind; last = None }
 
--- the end around the innermost one was put back
+-- the end around the innermost one was put back, and no member is next
 abbrev pub with_outer_end : EnclosingEnd → State → State
 with_outer_end outer s = record s {
   until_end = outer.position - s.consumed;
   end = outer.kind;
-  sets =
-      cut_at outer.last_start s.sets.around;
+  last = outer.last;
+  seen = [];
 }
 
 -- the end was reached, and the one around it is the innermost again
@@ -42,10 +42,11 @@ pub record Closes (outer : EnclosingEnd) (old new : State) : Type 0 where
   pub had_not_failed : old.failed ≡ None
   pub same : new ≡ with_outer_end outer old
 
--- bytes are left before the end, and none of them was consumed
+-- Bytes are left before the end, and none of them was consumed. The sequence is closed, so no member is the last one.
 pub record RefusesClose (old new : State) (e : Asn1DerError) : Type 0 where
   pub fails : Fails old new e
-  pub left : old.failed ≡ None → (0 < old.until_end) × (e ≡ InvalidData) × (new ≡ failed_with old e)
+  pub left : old.failed ≡ None → (0 < old.until_end) × (e ≡ InvalidData)
+      × (new ≡ failed_with (without_order old) e)
 
 -- ---- sequences and sets
 
@@ -62,7 +63,7 @@ pub record OpensList (tag : ℕ) (old new : State) (outer : EnclosingEnd) : Type
   pub mid : State
   pub size : ℕ
   pub begins : BeginsContent tag old mid size
-  pub opened : new ≡ record (with_inner_end mid size Soft) { sets = sets_inside (order_of tag) mid.sets }
+  pub opened : new ≡ record (with_inner_end mid size Soft) { last = order_of tag }
   pub outer_end : outer ≡ innermost mid
   pub no_refusal : AreNotRefused (list_refusal tag old) old
 

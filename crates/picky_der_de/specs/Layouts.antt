@@ -1,5 +1,5 @@
 -- What reading the members of a layout does, of which some may be missing.
-use Rattle.std.specs.Prelude.{◌≡◌, ◌<◌, ℕ, List, None, Bool, ⊤, IsTrue}
+use Rattle.std.specs.Prelude.{◌≡◌, ◌<◌, ℕ, List, Option, None, Bool, ⊤, IsTrue}
 use Rattle.picky_der_core.specs.declared.error.Asn1DerError.{Asn1DerError}
 use Rattle.picky_der_core.specs.declared.error.Asn1DerError.TheVariants.{InvalidData}
 use Rattle.picky_der_core.specs.Tree.{Tree, Trees}
@@ -31,12 +31,14 @@ pub data RefusesOptional {V : Type 0} (meaning : V → Tree) (s : Shape) (rule :
       → RefusesOptional meaning s rule old new e
 
 -- It was refused as a member that may be missing is. Or the default is there and was read, which is `InvalidData`: no
--- default is written out.
+-- default is written out. This is the last member then.
 pub data RefusesDefault {V : Type 0} (meaning : V → Tree) (left_out : V → Bool) (s : Shape) (rule : Rule)
-    (old new : State) (e : Asn1DerError) : Type 0 where
-  as_optional : RefusesOptional meaning s rule old new e → RefusesDefault meaning left_out s rule old new e
+    (old new : State) (last : Option (List ℕ)) (e : Asn1DerError) : Type 0 where
+  as_optional : RefusesOptional meaning s rule old new e → last ≡ old.last
+      → RefusesDefault meaning left_out s rule old new last e
   written_out : (mid : State) (v : V) → IsTrue (left_out v) → ReadsMember s old mid (meaning v)
-      → FailsAs InvalidData mid e new → Fails mid new e → RefusesDefault meaning left_out s rule old new e
+      → FailsAs InvalidData mid e (record new { last = last }) → Fails mid new e
+      → RefusesDefault meaning left_out s rule old new last e
 
 -- ---- one member, always there or not
 
@@ -49,11 +51,13 @@ abbrev pub layout_with : Presence → Shape → Layout → Layout
 layout_with always = Layout.required
 layout_with perhaps = Layout.maybe
 
--- why it wasn't read: one that is always there is no default
+-- why it wasn't read, and which is the last member then: one that is always there is no default
 abbrev pub RefusesLayoutMember : {V : Type 0} → Presence → (V → Tree) → (V → Bool) → Shape → Rule → State → State
-    → Asn1DerError → Type 0
-RefusesLayoutMember always meaning left_out = RefusesMember meaning
-RefusesLayoutMember perhaps meaning left_out = RefusesDefault meaning left_out
+    → Option (List ℕ) → Asn1DerError → Type 0
+RefusesLayoutMember always meaning left_out s rule old new last e =
+    RefusesMember meaning s rule old new e × (last ≡ old.last)
+RefusesLayoutMember perhaps meaning left_out s rule old new last e =
+    RefusesDefault meaning left_out s rule old new last e
 
 -- ---- all members of a layout
 
@@ -72,7 +76,7 @@ pub record Passes (old new : State) (bytes : List ℕ) : Type 0 where
 pub record ReadsLayout (l : Layout) (old new : State) (ts : Trees) : Type 0 where
   pub are : AreMembersOf l ts
   pub readable : AreReadable ts
-  pub order : AreInOrder old.sets (encodings ts)
+  pub order : AreInOrder old.last (encodings ts)
   -- whether the first byte was looked at or not
   pub passes : (a : State) → PeeksAtMost a old → Passes a new (members_encoding ts)
   pub implicit_tag : new.implicit_tag ≡ None

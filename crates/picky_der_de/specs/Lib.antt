@@ -38,5 +38,6 @@ pub mod Lending
 pub mod Members
 pub mod OtherLaws
 pub mod SequenceState
+pub mod SetOrder
 pub mod Twins
 pub mod Whole

@@ -46,12 +46,19 @@ pub record Peeks (old new : State) (b : ℕ) : Type 0 where
   pub input : Keeps old.input new.input
   pub same : new ≡ record old { input = new.input; peeked = Some b }
 
--- there is none, or the reader failed; nothing was consumed, and what was peeked still is
-pub record RefusesPeek (refusal : State → List ℕ → Option Refusal) (old new : State) (e : Asn1DerError) : Type 0 where
-  pub fails : Fails old new e
-  pub just : AreJustRefused (refusal old) old new e
-  pub memory : UsesNoMemory old new e
-  pub same : new ≡ record old { input = new.input; failed = Some (failure_of e); faults = new.faults }
+-- there is none, or the reader failed; nothing was consumed, what was peeked still is, and this is the last member
+pub record RefusesPeek (refusal : State → List ℕ → Option Refusal) (last : Option (List ℕ)) (old new : State)
+    (e : Asn1DerError) : Type 0
+  where
+    pub fails : Fails old new e
+    pub just : AreJustRefused (refusal old) old new e
+    pub memory : UsesNoMemory old new e
+    pub same : new ≡ record old {
+      input = new.input;
+      last = last;
+      failed = Some (failure_of e);
+      faults = new.faults;
+    }
 
 -- ---- identifiers
 
@@ -64,9 +71,9 @@ pub record Identifies (old new : State) (tag : ℕ) : Type 0 where
   pub is : IdentifiesIn old.implicit_tag old new tag
   pub no_refusal : AreNotRefused (identifier_refusal old) old
 
--- no tag is next
+-- no tag is next; of the last member nothing is said
 pub record RefusesIdentifier (old new : State) (e : Asn1DerError) : Type 0 where
-  pub refuses : RefusesPeek identifier_refusal old new e
+  pub refuses : RefusesPeek identifier_refusal new.last old new e
   pub missing : IsJudged old new e → (old.implicit_tag ≡ None) × IsMissing old e
 
 -- no byte is next, since the input ended before the innermost end; nothing changed
@@ -92,5 +99,5 @@ pub data HidesChoice (old : State) (e : Asn1DerError) : Type 0 where
   implicit : (number : ℕ) → old.implicit_tag ≡ Some number → e ≡ InvalidData → HidesChoice old e
 
 pub record RefusesChoice (old new : State) (e : Asn1DerError) : Type 0 where
-  pub refuses : RefusesPeek choice_refusal old new e
+  pub refuses : RefusesPeek choice_refusal old.last old new e
   pub hidden : IsJudged old new e → HidesChoice old e

@@ -1,5 +1,5 @@
 -- What reading the members of a sequence or set does.
-use Rattle.std.specs.Prelude.{◌≡◌, ◌≤◌, ◌+◌, ℕ, Bool, List, [], ◌∷◌, ◌++◌, length, map, Some, None, IfSome}
+use Rattle.std.specs.Prelude.{◌≡◌, ◌≤◌, ◌+◌, ℕ, List, [], ◌∷◌, ◌++◌, length, map, Some, None, IfSome}
 use Rattle.std.specs.List.{concat}
 use Rattle.picky_der_core.specs.declared.error.Asn1DerError.{Asn1DerError}
 use Rattle.picky_der_core.specs.declared.error.Asn1DerError.TheVariants.{InvalidData}
@@ -12,7 +12,7 @@ use Rattle.picky_der_de.specs.declared.end.End.TheVariants.{Soft}
 use Rattle.picky_der_de.specs.State.{State}
 use Rattle.picky_der_de.specs.Steps.{Consumed, Fails, IsJudged, failed_with}
 use Rattle.picky_der_de.specs.Headers.{header_bytes}
-use Rattle.picky_der_de.specs.Order.{AreInOrder, without_order, SeesMember, Follows, RefusesTest}
+use Rattle.picky_der_de.specs.Order.{AreInOrder, without_order, Follows, RefusesTest}
 use Rattle.picky_der_de.specs.Reading.{Reads, Refuses, Concerns}
 use Rattle.picky_der_de.specs.RefusesBy.{Rule, RefusesBy}
 
@@ -40,14 +40,6 @@ pub record RefusesMember {V : Type 0} (meaning : V → Tree) (s : Shape) (rule :
     pub fails : Fails old new e
     pub refuses : RefusesNext meaning s rule old new e
     pub implicit_tag : old.failed ≡ None → old.implicit_tag ≡ None
-
--- the same, from before the member was seen
-abbrev pub ReadsSeen : Bool → Shape → State → State → Tree → Type 0
-ReadsSeen less s old new t = (before : State) → SeesMember before old less → ReadsMember s before new t
-
-abbrev pub RefusesSeen : {V : Type 0} → Bool → (V → Tree) → Shape → Rule → State → State → Asn1DerError → Type 0
-RefusesSeen less meaning s rule old new e = (before : State) → SeesMember before old less
-    → RefusesMember meaning s rule before new e
 
 -- the end is here, and nothing was done
 pub record HasNoMore (old new : State) : Type 0 where
@@ -79,7 +71,7 @@ pub record AreUpToEnd (old new : State) (e : Asn1DerError) (bytes : List ℕ) : 
 pub record ReadsMembers (l : Layout) (old new : State) (ts : Trees) : Type 0 where
   pub of_shape : AreMembersOf l ts
   pub readable : AreReadable ts
-  pub order : AreInOrder old.sets (encodings ts)
+  pub order : AreInOrder old.last (encodings ts)
   pub consumes : Consumed (without_order old) (without_order new) (members_encoding ts)
   pub implicit_tag : new.implicit_tag ≡ None
 
@@ -88,7 +80,7 @@ pub record RefusesRest {V : Type 0} (P : V → Type 0) (members : V → Trees) (
   where
     pub fails : Fails old new e
     pub none : IsJudged old new e → (v : V) → P v → AreReadable (members v)
-        → AreInOrder old.sets (encodings (members v))
+        → AreInOrder old.last (encodings (members v))
         → AreUpToEnd old new e (members_encoding (members v)) → ⊥
 
 -- the encodings of members were consumed; without any, nothing was done
@@ -101,7 +93,7 @@ ConsumesMembers old new (Trees.more t ts) =
 pub record ReadsAll {V : Type 0} (meaning : V → Tree) (s : Shape) (old new : State) (vs : List V) : Type 0 where
   pub of_shape : EachIs (IsOf s) (trees (map meaning vs))
   pub readable : AreReadable (trees (map meaning vs))
-  pub order : AreInOrder old.sets (encodings (trees (map meaning vs)))
+  pub order : AreInOrder old.last (encodings (trees (map meaning vs)))
   pub consumes : ConsumesMembers old new (trees (map meaning vs))
   pub not_failed : new.failed ≡ None
   pub implicit_tag : new.implicit_tag ≡ None
@@ -126,7 +118,7 @@ pub record RefusesConsumed (old new : State) (e : Asn1DerError) (bytes : List �
 -- it was refused for that as soon as it was read.
 pub record RefusesAll {V : Type 0} (meaning : V → Tree) (s : Shape) (old new : State) (e : Asn1DerError) : Type 0 where
   pub rest : RefusesRest (λ vs. EachIs (IsOf s) (trees (map meaning vs))) (λ vs. trees (map meaning vs)) old new e
-  pub lesser : IsJudged old new e → (vs : List V) (v : V) → BreaksOrder meaning s (AreInOrder old.sets) vs v
+  pub lesser : IsJudged old new e → (vs : List V) (v : V) → BreaksOrder meaning s (AreInOrder old.last) vs v
       → AreBefore old new e (members_encoding (trees (map meaning (vs ++ v ∷ []))))
       → RefusesConsumed old new e (members_encoding (trees (map meaning (vs ++ v ∷ []))))
 

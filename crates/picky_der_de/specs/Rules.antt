@@ -136,7 +136,7 @@ list_of_rule meaning s kind member = list_rule (list_tag kind) (each_rule meanin
 -- all members up to the end
 abbrev pub RefusesEachBy : {V : Type 0} → (V → Tree) → Shape → Rule → State → State → Asn1DerError → Type 0
 RefusesEachBy meaning s member old new e = old.implicit_tag ≡ None
-    → RefusesBy (each_rule meaning s (AreInOrder old.sets) member) old new e
+    → RefusesBy (each_rule meaning s (AreInOrder old.last) member) old new e
 
 -- ---- members of several types, each before others
 
@@ -180,12 +180,12 @@ layout_rule perhaps meaning left_out s = perhaps_rule meaning left_out s
 
 -- Such members were read, where no order is tested: what is left over after them is refused as after them.
 abbrev pub LeadsTo : Rule → State → State → Type 0
-LeadsTo members old new = old.sets.last ≡ None → (last : State) (e : Asn1DerError) → RefusesBy end_rule new last e
+LeadsTo members old new = old.last ≡ None → (last : State) (e : Asn1DerError) → RefusesBy end_rule new last e
     → RefusesBy members old last e
 
 -- one of them was refused
 abbrev pub RefusesBefore : Rule → State → State → Asn1DerError → Type 0
-RefusesBefore members old new e = old.sets.last ≡ None → RefusesBy members old new e
+RefusesBefore members old new e = old.last ≡ None → RefusesBy members old new e
 
 -- a sequence or set of these members, of which the last ones are followed by `end_rule`
 abbrev pub fields_rule : ListKind → Rule → Rule

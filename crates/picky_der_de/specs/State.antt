@@ -5,13 +5,6 @@ use Rattle.picky_der_core.specs.Faults.{Fault}
 use Rattle.picky_der_de.specs.declared.end.End.{End}
 use Rattle.picky_der_de.specs.declared.end.End.TheVariants.{Limit}
 
--- What is kept of the sets that are open: the encodings of their last members.
-pub record OpenSets : Type 0 where
-  -- where the innermost end is that of a set, the member that was read last, and no bytes before the first one
-  pub last : Option (List ℕ)
-  -- the encodings of the sets around it, one after the other
-  pub around : List ℕ
-
 pub record State : Type 0 where
   -- the known bytes that are left in the reader, with a peeked byte in front
   pub input : Option (List ℕ)
@@ -24,8 +17,12 @@ pub record State : Type 0 where
   -- how far ahead the innermost end is, and what it is
   pub until_end : ℕ
   pub end : End
-  -- the last members of the sets that are open
-  pub sets : OpenSets
+  -- of a set whose members are read one by one: the encoding of the last one, and no bytes before the first one
+  pub last : Option (List ℕ)
+  -- the member of a set that was shown last, before it was read; where another value is read, nothing is said of it
+  pub seen : List ℕ
+  -- the one that was kept last, of which the same holds
+  pub kept : List ℕ
   -- the number of the implicit tag directly under which it is
   pub implicit_tag : Option ℕ
   -- the kind of the error that it has failed with
@@ -44,7 +41,9 @@ fresh input limit faults references = record {
   limit = limit;
   until_end = limit;
   end = Limit;
-  sets = record { last = None; around = [] };
+  last = None;
+  seen = [];
+  kept = [];
   implicit_tag = None;
   failed = None;
   faults = faults;

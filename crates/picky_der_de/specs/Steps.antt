@@ -66,7 +66,7 @@ pub record Consumed (old new : State) (bytes : List ℕ) : Type 0 where
   pub until_end : old.until_end ≡ length bytes + new.until_end
   pub end : new.end ≡ old.end
   pub limit : new.limit ≡ old.limit
-  pub sets : new.sets ≡ old.sets
+  pub last : new.last ≡ old.last
   pub unpeeked : new.peeked ≡ None
   -- a peeked byte was the first of them
   pub fetched : fetched_count old ≤ new.consumed

@@ -1,10 +1,13 @@
 //! What reads values of any type from an input, and how far the input may be read.
-ghost use Rattle.std.specs.Prelude.{◌≡◌, ◌≢◌, ◌<◌, ◌^◌, ℕ, List, [], length, false, Option, None, Some, IfNone, IfSome};
+ghost use Rattle.std.specs.Prelude.{◌≡◌, ◌≢◌, ◌<◌, ◌≤◌, ◌^◌, ℕ, List, [], length, take, false};
+ghost use Rattle.std.specs.Prelude.{Option, None, Some, IfNone, IfSome};
 ghost use Rattle.picky_der_de.specs.State.{fresh};
 ghost use Rattle.std.specs.IoError.{error_kind};
 ghost use Rattle.picky_der_core.specs.Error.{error_of_kind};
 ghost use Rattle.picky_der_core.specs.Failure.{failure_of};
 ghost use Rattle.picky_der_core.specs.Peeking.{prepend};
+ghost use Rattle.picky_der_de.specs.Order.{known_bytes};
+ghost use Rattle.std.specs.Io.{StartsWith};
 ghost use Rattle.picky_der_de.specs.Steps.{IsWithin, Fails, IsOther, failed_with};
 ghost use Rattle.picky_der_de.specs.Refusing.{FailsAs};
 
@@ -13,21 +16,24 @@ mod fetch;
 mod header;
 mod nesting;
 mod octets;
-mod order;
 mod peek;
 mod plain;
 mod raw;
+mod seen;
 mod texts;
 mod unsupported;
 mod wrapper;
 
 use crate::End;
+pub(crate) use ahead::element_at_front;
 pub(crate) use nesting::EnclosingEnd;
 use picky_der_core::misc::{PeekableReader, ReadExt};
 use picky_der_core::{Asn1DerError, Failure, Result};
+use seen::Seen;
 use std::alloc::Global;
 use std::io;
 use std::marker::Model;
+use std::mem::replace;
 
 /// Reads values from a reader. After an error it has failed: each later call returns an error of its kind and consumes
 /// nothing.
@@ -39,10 +45,10 @@ pub struct Deserializer<R: ReadExt> {
     // The innermost end: how many bytes are before it, and what it is.
     until_end: usize,
     end: End,
-    // The encodings of the last members of the sets that are open, one after the other.
+    // The member of a set that was shown last. It has no effect at run time.
+    seen: Seen<R>,
+    // The one that was kept last. It is empty for most inputs.
     kept: Vec<u8>,
-    // If the innermost end is that of a set: how many of these bytes are before its own.
-    last_start: Option<usize>,
     implicit_tag: Option<u8>,
     failed: Option<Failure>,
     // The content to which a reference was returned last.
@@ -51,9 +57,8 @@ pub struct Deserializer<R: ReadExt> {
 }
 
 impl<R: ReadExt> Model for Deserializer<R> {
-    ghost use Rattle.std.specs.Prelude.{◌+◌, ◌<◌, ◌≤◌, ◌^◌, IfSome, length};
+    ghost use Rattle.std.specs.Prelude.{◌+◌, ◌<◌, ◌≤◌, ◌^◌, None};
     ghost use Rattle.picky_der_de.specs.State.{State};
-    ghost use Rattle.picky_der_de.specs.Order.{cut_at};
     ghost use Rattle.picky_der_core.specs.Peeking.{count_of_any, left_in};
     ghost use Rattle.picky_der_de.specs.Steps.{IsUnpeekedIfImplicit};
 
@@ -66,7 +71,9 @@ impl<R: ReadExt> Model for Deserializer<R> {
       limit = d.limit;
       until_end = d.until_end;
       end = d.end;
-      sets = cut_at d.last_start d.kept.items;
+      last = None;
+      seen = d.seen;
+      kept = d.kept.items;
       implicit_tag = d.implicit_tag;
       failed = d.failed;
       faults = R.faults d.reader.reader;
@@ -75,8 +82,7 @@ impl<R: ReadExt> Model for Deserializer<R> {
 
     // No more is consumed than the limit allows, and no end is past it.
     ghost invariant = { λ d. (d.reader.pos + d.until_end < 2 ^ 64) × IsUnpeekedIfImplicit d.implicit_tag d.reader.peeked
-        × (d.reader.pos + d.until_end ≤ d.limit) × (d.reader.pos + count_of_any d.reader.peeked ≤ d.limit)
-        × IfSome d.last_start (λ start. start ≤ length d.kept.items) };
+        × (d.reader.pos + d.until_end ≤ d.limit) × (d.reader.pos + count_of_any d.reader.peeked ≤ d.limit) };
 }
 
 impl<'a> Deserializer<&'a [u8]> {
@@ -102,14 +108,16 @@ impl<R: ReadExt> Deserializer<R> {
         ensures { result ≡ fresh (R.remaining reader) max_len (R.faults reader)
             (R.references reader) }
     {
+        let reader = PeekableReader::new(reader);
+        let seen = Seen::of(&reader, 0);
         Deserializer {
             alloc,
-            reader: PeekableReader::new(reader),
+            reader,
             limit: max_len,
             until_end: max_len,
             end: End::Limit,
+            seen,
             kept: Vec::new(alloc),
-            last_start: None,
             implicit_tag: None,
             failed: None,
             content: Vec::new(alloc),
@@ -129,8 +137,8 @@ impl<R: ReadExt> Deserializer<R> {
             limit: _,
             until_end: _,
             end: _,
+            seen: _,
             kept: _,
-            last_start: _,
             implicit_tag: _,
             failed: _,
             content: _,
@@ -170,6 +178,79 @@ impl<R: ReadExt> Deserializer<R> {
             Some(error) => error,
             None => self.fail(kind),
         }
+    }
+
+    // The bytes that the reader shows before the innermost end.
+    #[inline(always)]
+    pub(crate) fn near(&self) -> &[u8]
+        ensures front { IfSome self.now.input (λ left. StartsWith left result.now) }
+        ensures known { IfNone self.now.input (result.now ≡ []) }
+        ensures fits { length result.now ≤ self.now.until_end }
+    {
+        ahead::near(&self.reader, self.until_end)
+    }
+
+    // How far ahead the innermost end is.
+    #[inline(always)]
+    pub(crate) fn until_end(&self) -> usize
+        ensures { result ≡ self.now.until_end }
+    {
+        self.until_end
+    }
+
+    // The next bytes of the reader, so many of them. Only clauses read them.
+    #[inline(always)]
+    pub(crate) fn seen_ahead(&self, count: usize) -> Seen<R>
+        ensures { result ≡ take count (known_bytes self.now.input) }
+    {
+        Seen::of(&self.reader, count)
+    }
+
+    // Forgets the member that was seen last, and returns it.
+    #[inline(always)]
+    pub(crate) fn take_seen(&mut self) -> Seen<R>
+        ensures seen { result ≡ self.old.seen }
+        ensures same { self.new ≡ record self.old { seen = [] } }
+    {
+        replace(&mut self.seen, Seen::of(&self.reader, 0))
+    }
+
+    // This member was seen.
+    #[inline(always)]
+    pub(crate) fn set_seen(&mut self, member: Seen<R>)
+        ensures { self.new ≡ record self.old { seen = member } }
+    {
+        self.seen = member;
+    }
+
+    // The member that is kept.
+    pub(crate) fn kept(&self) -> &[u8]
+        ensures { result.now ≡ self.now.kept }
+    {
+        &self.kept
+    }
+
+    // Forgets the member that is kept, and returns it.
+    pub(crate) fn take_kept(&mut self) -> Vec<u8>
+        ensures kept { result.items ≡ self.old.kept }
+        ensures same { self.new ≡ record self.old { kept = [] } }
+    {
+        replace(&mut self.kept, Vec::new(self.alloc))
+    }
+
+    // Keeps this member.
+    pub(crate) fn set_kept(&mut self, member: Vec<u8>)
+        ensures { self.new ≡ record self.old { kept = member.items } }
+    {
+        self.kept = member;
+    }
+
+    // No member is the last one: a sequence has it.
+    #[inline(always)]
+    pub(crate) fn has_no_last(&self)
+        ensures { self.now.last ≡ None }
+    {
+        let _ = &self.alloc;
     }
 
     // The allocator of the vectors.

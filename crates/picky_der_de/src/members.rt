@@ -25,7 +25,7 @@ use picky_der_ser::{DefaultOf, Defaulted, Element, Optional, SerializeMember, Se
 /// A member of a struct that can be read: a value that is always there, or one that may be absent, as `Optional` and
 /// `Defaulted` are.
 pub trait DeserializeMember: SerializeMember + PartialEq + Drop + Sized {
-    ghost use Rattle.picky_der_de.specs.SequenceState.{borrowed_by, outer_of, state_of};
+    ghost use Rattle.picky_der_de.specs.SequenceState.{borrowed_by, outer_of, state_of, deserializer_of};
 
     /// The type of the value that is there.
     type Item;
@@ -61,7 +61,8 @@ pub trait DeserializeMember: SerializeMember + PartialEq + Drop + Sized {
         ensures none { IfOk result (λ member. IfNone (item member)
             (Lacks shape (state_of sequence.old) (state_of sequence.new))) }
         ensures err { IfErr result (RefusesLayoutMember presence item_meaning left_out shape
-            (field_rule facts.rule) (state_of sequence.old) (state_of sequence.new)) };
+            (field_rule facts.rule) (state_of sequence.old) (deserializer_of sequence.new)
+            (state_of sequence.new).last) };
 
     // The tree determines which values are never written.
     ghost distinguished: { IsLeftOut item_meaning item left_out };
@@ -180,7 +181,7 @@ impl<T: Begins, D: DefaultOf<T>> DeserializeMember for Defaulted<T, D> {
 /// Members of a sequence that can be read, of which some may be absent. They are `()` or a tuple of up to eight members
 /// and the members after them, as `(A, Optional<B>, C, ())`.
 pub trait DeserializeMembers: SerializeMembers + PartialEq + Drop + Sized {
-    ghost use Rattle.picky_der_de.specs.SequenceState.{borrowed_by, outer_of, state_of};
+    ghost use Rattle.picky_der_de.specs.SequenceState.{borrowed_by, outer_of, state_of, deserializer_of};
 
     // The shapes of the members, and which may be missing.
     ghost layout: { Layout };
@@ -202,11 +203,11 @@ pub trait DeserializeMembers: SerializeMembers + PartialEq + Drop + Sized {
         ensures ok { IfOk result (λ it. ReadsLayout layout (state_of sequence.old)
             (state_of sequence.new) (Self.members it)) }
         ensures err { IfErr result (RefusesLayout Self.members layout (state_of sequence.old)
-            (state_of sequence.new)) }
+            (deserializer_of sequence.new)) }
         ensures leads { IfOk result (λ _. LeadsTo facts.rule (state_of sequence.old)
             (state_of sequence.new)) }
         ensures refused_by { IfErr result (RefusesBefore facts.rule (state_of sequence.old)
-            (state_of sequence.new)) };
+            (deserializer_of sequence.new)) };
 
     // The premise, and that the members mean the same to `SerializeMembers`.
     ghost proved: { ProvedMembers facts Self.members };

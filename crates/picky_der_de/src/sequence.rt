@@ -1,8 +1,12 @@
 //! Sequences and sets that are being read (X.690, 8.9 to 8.12).
 ghost use Rattle.std.specs.Prelude.{◌≡◌, ◌≤◌, ◌+◌, ◌++◌, ◌∷◌, [], None, OnOk};
+ghost use Rattle.picky_der_de.specs.SetOrder.{IsCompared};
+
+mod order;
 
 use crate::deserializer::EnclosingEnd;
 use crate::{Begins, Deserialize, Deserializer};
+use order::{Next, first_of, is_tested, read_in_set};
 use picky_der_core::asn1::Tag;
 use picky_der_core::misc::ReadExt;
 use picky_der_core::{Asn1DerError, Result};
@@ -28,14 +32,16 @@ pub struct Sequence<'a, R: ReadExt> {
     de: &'a mut Deserializer<R>,
     // The end around its own.
     outer: EnclosingEnd,
+    next: Next,
     ghost within: { de.now.consumed + de.now.until_end ≤ outer.position },
     ghost bounded: { outer.position ≤ de.now.limit },
     ghost whole: { de.now.failed ≡ None → de.now.implicit_tag ≡ None },
+    ghost compared: { IsCompared de.now next },
 }
 
 impl<'a, R: ReadExt> Sequence<'a, R> {
-    ghost use Rattle.picky_der_de.specs.SequenceState.{borrowed_by, outer_of, state_of};
-    ghost use Rattle.std.specs.Prelude.{◌≡◌, ◌≢◌, ◌+◌, ◌<◌, ◌≤◌, None, Err, IfNone, IfSome, IfOk, IfErr, OnOk};
+    ghost use Rattle.picky_der_de.specs.SequenceState.{borrowed_by, outer_of, state_of, deserializer_of};
+    ghost use Rattle.std.specs.Prelude.{◌≡◌, ◌≢◌, ◌+◌, ◌<◌, ◌≤◌, None, Err, IfNone, IfSome, IfOk, IfErr, OnOk, OnErr};
     ghost use Rattle.picky_der_de.specs.Steps.{Fails, IsOther, failed_with};
     ghost use Rattle.picky_der_de.specs.Refusing.{FailsAs};
     ghost use Rattle.picky_der_de.specs.Ends.{OpensLazily, Closes, RefusesClose};
@@ -55,7 +61,11 @@ impl<'a, R: ReadExt> Sequence<'a, R> {
         ensures opened { OpensLazily len de.old (state_of result) (outer_of result) }
     {
         let outer = de.open_lazily(len);
-        Sequence { de, outer }
+        Sequence {
+            de,
+            outer,
+            next: Next::Untested,
+        }
     }
 
     /// The next member, or `None` exactly at the end.
@@ -72,14 +82,15 @@ impl<'a, R: ReadExt> Sequence<'a, R> {
         ensures none { IfOk result (λ next. IfNone next
             (HasNoMore (state_of self.old) (state_of self.new))) }
         ensures err { IfErr result (RefusesMember T.meaning T.shape T.facts.rule (state_of self.old)
-            (state_of self.new)) }
+            (deserializer_of self.new)) }
+        ensures last { OnErr result ((state_of self.new).last ≡ (state_of self.old).last) }
         ensures ahead { IfErr result (λ e. (state_of self.old).failed ≡ None
             → 0 < (state_of self.old).until_end) }
     {
         if self.de.is_at_end()? {
             return Ok(None);
         }
-        Ok(Some(self.de.next_member::<T>()?))
+        Ok(Some(self.read_member::<T>()?))
     }
 
     /// The next member. At the end the error is `TruncatedData`, and nothing is consumed. Any other error is that of
@@ -90,7 +101,8 @@ impl<'a, R: ReadExt> Sequence<'a, R> {
         ensures ok { IfOk result (λ value. ReadsMember T.shape (state_of self.old)
             (state_of self.new) (T.meaning value)) }
         ensures err { IfErr result (RefusesMember T.meaning T.shape (field_rule T.facts.rule)
-            (state_of self.old) (state_of self.new)) }
+            (state_of self.old) (deserializer_of self.new)) }
+        ensures last { OnErr result ((state_of self.new).last ≡ (state_of self.old).last) }
         ensures at_end { (state_of self.old).failed ≡ None → (state_of self.old).until_end ≡ 0
             → (result ≡ Err Asn1DerError.TruncatedData)
             × ((state_of self.new) ≡ failed_with (state_of self.old) Asn1DerError.TruncatedData) }
@@ -98,7 +110,7 @@ impl<'a, R: ReadExt> Sequence<'a, R> {
         if self.de.is_at_end()? {
             return Err(self.de.fail(Asn1DerError::TruncatedData));
         }
-        self.de.next_member()
+        self.read_member()
     }
 
     // The next member, if the end isn't here.
@@ -110,9 +122,13 @@ impl<'a, R: ReadExt> Sequence<'a, R> {
         ensures ok { IfOk result (λ value. ReadsMember T.shape (state_of self.old)
             (state_of self.new) (T.meaning value)) }
         ensures err { IfErr result (RefusesMember T.meaning T.shape T.facts.rule (state_of self.old)
-            (state_of self.new)) }
+            (deserializer_of self.new)) }
+        ensures last { OnErr result ((state_of self.new).last ≡ (state_of self.old).last) }
     {
-        self.de.next_member()
+        if is_tested(self.next) {
+            return read_in_set(self.de, &mut self.next);
+        }
+        T::deserialize(self.de)
     }
 
     /// The tag of the next member, without consuming it, or `None` exactly at the end. Nothing is allocated.
@@ -125,7 +141,8 @@ impl<'a, R: ReadExt> Sequence<'a, R> {
             (Identifies (state_of self.old) (state_of self.new))) }
         ensures none { IfOk result (λ next. IfNone next
             (HasNoMore (state_of self.old) (state_of self.new))) }
-        ensures err { IfErr result (RefusesIdentifier (state_of self.old) (state_of self.new)) }
+        ensures err { IfErr result (RefusesIdentifier (state_of self.old) (deserializer_of self.new)) }
+        ensures last { OnErr result ((state_of self.new).last ≡ (state_of self.old).last) }
         ensures ahead { IfErr result (λ e. (state_of self.old).failed ≡ None
             → 0 < (state_of self.old).until_end) }
     {
@@ -151,7 +168,8 @@ impl<'a, R: ReadExt> Sequence<'a, R> {
         ensures none { IfOk result (λ next. IfNone next
             (Lacks T.shape (state_of self.old) (state_of self.new))) }
         ensures err { IfErr result (RefusesOptional T.meaning T.shape (field_rule T.facts.rule)
-            (state_of self.old) (state_of self.new)) }
+            (state_of self.old) (deserializer_of self.new)) }
+        ensures last { OnErr result ((state_of self.new).last ≡ (state_of self.old).last) }
     {
         match self.next_tag() {
             Ok(Some(tag)) => {
@@ -178,12 +196,12 @@ impl<'a, R: ReadExt> Sequence<'a, R> {
         ensures none { IfOk result (λ value. IfNone (unless_default D.left_out value)
             (Lacks T.shape (state_of self.old) (state_of self.new))) }
         ensures err { IfErr result (RefusesDefault T.meaning D.left_out T.shape (field_rule T.facts.rule)
-            (state_of self.old) (state_of self.new)) }
+            (state_of self.old) (deserializer_of self.new) (state_of self.new).last) }
     {
         match self.next_optional::<T>()? {
             Some(value) => {
                 if D::is_default(&value) {
-                    return Err(self.de.refuse(Asn1DerError::InvalidData));
+                    return Err(self.refuse(Asn1DerError::InvalidData));
                 }
                 Ok(value)
             }
@@ -200,9 +218,9 @@ impl<'a, R: ReadExt> Sequence<'a, R> {
         ensures ok { IfOk result (λ values. ReadsAll T.meaning T.shape (state_of self.old)
             (state_of self.new) values.items) }
         ensures err { IfErr result (RefusesAll T.meaning T.shape (state_of self.old)
-            (state_of self.new)) }
+            (deserializer_of self.new)) }
         ensures refused_by { IfErr result (RefusesEachBy T.meaning T.shape T.facts.rule
-            (state_of self.old) (state_of self.new)) }
+            (state_of self.old) (deserializer_of self.new)) }
     {
         let mut values = Vec::new(self.de.alloc());
         while !self.de.is_at_end()? {
@@ -224,7 +242,7 @@ impl<'a, R: ReadExt> Sequence<'a, R> {
         ensures same_reference { borrowed_by self.new ≡ borrowed_by self.old }
         ensures outer { outer_of self.new ≡ outer_of self.old }
         ensures is { FailsAs kind (state_of self.old) result (state_of self.new) }
-        ensures fails { Fails (state_of self.old) (state_of self.new) result }
+        ensures fails { Fails (state_of self.old) (deserializer_of self.new) result }
     {
         self.de.refuse(kind)
     }
@@ -235,7 +253,7 @@ impl<'a, R: ReadExt> Sequence<'a, R> {
             (state_of self.entry) self.exit.0.now) }
         ensures err { IfErr result (RefusesClose (state_of self.entry) self.exit.0.now) }
     {
-        let Sequence { de, outer } = self;
+        let Sequence { de, outer, next: _ } = self;
         de.close_end(outer)
     }
 }
@@ -325,7 +343,12 @@ impl<R: ReadExt> Deserializer<R> {
         ensures ok { IfOk result (λ q. OpensList tag self.old (state_of q) (outer_of q)) }
     {
         let outer = self.open_list(tag)?;
-        Ok(Sequence { de: self, outer })
+        let next = first_of(tag);
+        Ok(Sequence {
+            de: self,
+            outer,
+            next,
+        })
     }
 
     // The members of a sequence or set of values of one type, under this tag.

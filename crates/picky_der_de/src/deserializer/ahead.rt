@@ -1,6 +1,6 @@
 //! Reads of bytes that the reader has ahead, each in one step. If they aren't all there, nothing is consumed and the
 //! caller reads them one by one. So the only error here is `OutOfMemory`.
-ghost use Rattle.std.specs.Prelude.{◌≡◌, ◌+◌, ◌≤◌, ◌<◌, ◌^◌, ◌∷◌, length, true, None, IfNone, IfSome, IfOk};
+ghost use Rattle.std.specs.Prelude.{◌≡◌, ◌+◌, ◌≤◌, ◌<◌, ◌^◌, [], ◌∷◌, length, true, None, IfNone, IfSome, IfOk};
 ghost use Rattle.std.specs.Prelude.{IfErr, OnOk};
 ghost use Rattle.picky_der_core.specs.Element.{length_octets, IsPrefix, AreBytes};
 ghost use Rattle.std.specs.Io.{StartsWith};
@@ -77,7 +77,7 @@ pub(super) fn short_at_front(bytes: &[u8], tag: Tag) -> Option<&[u8]>
 
 // The number of bytes of the element at the front of these bytes. `None` if none is there whole, or if its length has
 // more than three bytes.
-pub(super) fn element_at_front(bytes: &[u8]) -> Option<usize>
+pub(crate) fn element_at_front(bytes: &[u8]) -> Option<usize>
     ensures is { IfSome result (λ count. IsElementInFront bytes.now count) }
 {
     if bytes.len() < 2 || Tag::from(bytes[0]).number() > Tag::MAX_NUMBER {
@@ -102,6 +102,7 @@ fn copied(alloc: Global, bytes: &[u8]) -> std::result::Result<Vec<u8>, AllocErro
 // The bytes that the reader shows before the innermost end.
 pub(super) fn near<R: ReadExt>(reader: &PeekableReader<R>, until_end: usize) -> &[u8]
     ensures front { IfSome (left_in R.remaining reader.now) (λ left. StartsWith left result.now) }
+    ensures known { IfNone (left_in R.remaining reader.now) (result.now ≡ []) }
     ensures shown { length result.now ≤ shown_by reader.now.fetched (R.shown reader.now.reader) }
     ensures fits { length result.now ≤ until_end }
 {

@@ -1,19 +1,18 @@
 //! What is around values: headers, and the ends of sequences, sets and wrappers, as they are opened and closed.
 ghost use Rattle.picky_der_core.specs.Failure.{failure_of};
 ghost use Rattle.std.specs.Prelude.{◌≡◌, ◌+◌, ◌≤◌, ◌<◌, ◌↔◌, ◌∷◌, [], None, Some};
-ghost use Rattle.std.specs.Prelude.{IsTrue, IfNone, IfSome, IfOk, IfErr, OnOk};
+ghost use Rattle.std.specs.Prelude.{IsTrue, IfOk, IfErr, OnOk};
 ghost use Rattle.picky_der_core.specs.Tag.{number_of, IsTagNumber};
 ghost use Rattle.picky_der_core.specs.Wrapper.{HasTagNumber};
 ghost use Rattle.picky_der_de.specs.Steps.{Consumed, UsesNoMemory};
 ghost use Rattle.picky_der_de.specs.Headers.{BeginsContent, RefusesBegin};
 ghost use Rattle.picky_der_de.specs.Ends.{innermost, with_inner_end, Closes, RefusesClose, OpensList, RefusesList};
 ghost use Rattle.picky_der_de.specs.Ends.{OpensLazily};
-ghost use Rattle.picky_der_de.specs.Order.{order_of, cut_at};
+ghost use Rattle.picky_der_de.specs.SetOrder.{first_by, in_order, IsCompared};
 ghost use Rattle.picky_der_de.specs.Wrappers.{implicit_tag_of, BeginsWrapper, OpensWrapper, RefusesOpening};
 ghost use Rattle.picky_der_de.specs.RefusesBy.{RefusesBy};
 ghost use Rattle.picky_der_de.specs.Rules.{wrapped_rule};
 ghost use Rattle.picky_der_de.specs.Wrappers.{RefusesUnusedBits};
-ghost use Rattle.picky_der_de.specs.Members.{ReadsMember, RefusesMember};
 ghost use Rattle.picky_der_de.specs.Wrappers.{ReadsWrapped, RefusesWrapped};
 ghost use Rattle.picky_der_de.specs.TagNumbers.{RefusesNumber};
 
@@ -30,16 +29,15 @@ pub(crate) struct EnclosingEnd {
     // How many bytes are consumed before it.
     position: usize,
     kind: End,
-    // If it is that of a set: how many bytes are kept before the encoding of its last member.
-    last_start: Option<usize>,
 }
 
 impl Model for EnclosingEnd {
     ghost use Rattle.picky_der_de.specs.Ends.{EnclosingEnd as EnclosingEndState};
+    ghost use Rattle.std.specs.Prelude.{None};
 
     ghost Value = { EnclosingEndState };
 
-    ghost view = { λ o. record { position = o.position; kind = o.kind; last_start = o.last_start } };
+    ghost view = { λ o. record { position = o.position; kind = o.kind; last = None } };
 }
 
 // The implicit tag directly under which the value is: the byte that replaces its own.
@@ -64,7 +62,6 @@ impl<R: ReadExt> Deserializer<R> {
         let outer = EnclosingEnd {
             position: self.reader.pos() + self.until_end,
             kind: self.end,
-            last_start: self.last_start.take(),
         };
         self.until_end = len;
         self.end = kind;
@@ -90,29 +87,30 @@ impl<R: ReadExt> Deserializer<R> {
     }
 
     // Consumes the header of a sequence or set under this tag, and opens its end. Directly under an implicit tag the
-    // header was consumed with that tag. In a set the order of the members is tested from here on (X.690, 11.6).
+    // header was consumed with that tag. No member was seen before the first one.
     //
     // `InvalidData` for another tag. Any other error is that of a header or of an end, or the reader's I/O error.
     #[inline(always)]
     pub(crate) fn open_list(&mut self, tag: Tag) -> Result<EnclosingEnd>
         requires number { IsTagNumber (number_of tag) }
-        ensures ok { IfOk result (λ outer. OpensList tag self.old self.new outer) }
+        ensures ok { IfOk result (OpensList tag self.old (in_order self.new (first_by tag))) }
+        ensures compared { OnOk result (IsCompared self.new (first_by tag)) }
         ensures bounded { IfOk result (λ outer. outer.position ≤ self.new.limit) }
         ensures err { IfErr result (RefusesList tag self.old self.new) }
     {
         let len = self.begin(tag)?;
         let outer = self.open_end(len, End::Soft);
-        self.last_start = (tag == Tag::SET).then_some(self.kept.len());
+        let _ = self.take_seen();
         Ok(outer)
     }
 
-    // Opens a soft end `len` bytes from here, before which no order is tested. Directly under an implicit tag the
-    // contents have their own header.
+    // Opens a soft end `len` bytes from here. Directly under an implicit tag the contents have their own header.
     //
     // If these bytes reach past the innermost end, the deserializer has failed: with `InvalidData` at a hard end, and
     // else with `TruncatedData`. If it had failed before, nothing changes.
     pub(crate) fn open_lazily(&mut self, len: usize) -> EnclosingEnd
         ensures opened { OpensLazily len self.old self.new result }
+        ensures last { self.new.last ≡ None }
         ensures bounded { result.position ≤ self.new.limit }
     {
         if self.failed.is_none() && len <= self.until_end {
@@ -125,7 +123,6 @@ impl<R: ReadExt> Deserializer<R> {
         EnclosingEnd {
             position: self.reader.pos() + self.until_end,
             kind: self.end,
-            last_start: self.last_start,
         }
     }
 
@@ -177,23 +174,6 @@ impl<R: ReadExt> Deserializer<R> {
         Ok(outer)
     }
 
-    // Forgets what is kept of the innermost set. The set around it is the innermost one again.
-    fn leave_set(&mut self, outer: Option<usize>)
-        ensures { self.new ≡ record self.old { sets = cut_at outer self.old.sets.around } }
-    {
-        // Most ends aren't those of sets, and aren't in a set.
-        if self.last_start.is_none() && outer.is_none() {
-            return;
-        }
-        if let Some(begin) = self.last_start {
-            self.kept.truncate(begin);
-        }
-        self.last_start = match outer {
-            Some(start) => Some(start.min(self.kept.len())),
-            None => None,
-        };
-    }
-
     // Closes the innermost end, if it was reached. The end around it is the innermost one again.
     //
     // `InvalidData` if bytes are left before it: none of them is consumed.
@@ -207,27 +187,13 @@ impl<R: ReadExt> Deserializer<R> {
             return Err(error);
         }
         if self.until_end > 0 {
+            self.has_no_last();
             return Err(self.fail(Asn1DerError::InvalidData));
         }
+        let _ = self.take_seen();
         self.until_end = outer.position - self.reader.pos();
         self.end = outer.kind;
-        self.leave_set(outer.last_start);
         Ok(())
-    }
-
-    // The next member of a sequence or set.
-    #[inline(always)]
-    pub(crate) fn next_member<T: Deserialize>(&mut self) -> Result<T>
-        requires had_not_failed { self.old.failed ≡ None }
-        requires whole { self.old.implicit_tag ≡ None }
-        ensures ok { IfOk result (λ value. ReadsMember T.shape self.old self.new
-            (T.meaning value)) }
-        ensures err { IfErr result (RefusesMember T.meaning T.shape T.facts.rule self.old self.new) }
-    {
-        if self.last_start.is_some() {
-            return self.next_in_set();
-        }
-        T::deserialize(self)
     }
 
     // Reads a value in this wrapper.

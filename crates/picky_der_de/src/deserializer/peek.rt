@@ -1,5 +1,5 @@
 //! The next tag, looked at and left.
-ghost use Rattle.std.specs.Prelude.{◌≡◌, None, IfNone, IfSome, IfOk, IfErr};
+ghost use Rattle.std.specs.Prelude.{◌≡◌, None, IfNone, IfSome, IfOk, IfErr, OnErr};
 ghost use Rattle.picky_der_de.specs.Steps.{IsJudged};
 ghost use Rattle.picky_der_de.specs.LookAhead.{HasEnded, IdentifiesChoice, RefusesChoice, Identifies};
 ghost use Rattle.picky_der_de.specs.LookAhead.{RefusesIdentifier};
@@ -52,6 +52,7 @@ impl<R: ReadExt> Deserializer<R> {
     pub fn deserialize_identifier(&mut self) -> Result<Tag>
         ensures ok { IfOk result (Identifies self.old self.new) }
         ensures err { IfErr result (RefusesIdentifier self.old self.new) }
+        ensures last { OnErr result (self.new.last ≡ self.old.last) }
     {
         if let Some(error) = self.earlier() {
             return Err(error);

@@ -38,7 +38,7 @@ returns-in-Ok-clause-ok g c =
       until_end = refl;
       end = refl;
       limit = refl;
-      sets = refl;
+      last = refl;
       was_unpeeked = was_unpeeked;
       unpeeked =
           e.unpeeked position;

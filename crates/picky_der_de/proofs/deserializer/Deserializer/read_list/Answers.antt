@@ -7,7 +7,7 @@ use Rattle.picky_der_ser.specs.Sequences.{list_kind}
 use Rattle.picky_der_de.specs.RefusesBy.{RefusesBy}
 use Rattle.picky_der_de.specs.Rules.{list_of_rule}
 use Rattle.picky_der_de.proofs.MemberRuled.{list_header_by, list_member_by}
-use Rattle.picky_der_de.proofs.SetOrder.{unordered_unopened, unordered_refused}
+use Rattle.picky_der_de.proofs.SetOrder.{set_unopened, set_unordered}
 use Rattle.picky_der_de.proofs.deserializer.Deserializer.read_list.Goals as goal
 
 pub begin_list-requires : goal.begin_list-requires
@@ -37,12 +37,12 @@ returns-clause-ok g c =
 pub returns-in_err-members-clause-order : goal.returns-in_err-members-clause-order
 returns-in_err-members-clause-order g c set =
     let p = err_from_is_err_and c.from_residual.result c.from_residual.ensures.1 in
-    rw (p.1, p.2) (unordered_unopened (rw set at (rw c.in_err-members.was at c.begin_list.follows.holds-at-none)))
+    rw (p.1, p.2) (set_unopened (rw set at (rw c.in_err-members.was at c.begin_list.follows.holds-at-none)))
 
 pub returns-in_err-values-clause-order : goal.returns-in_err-values-clause-order
 returns-in_err-values-clause-order g c set =
     passed_on (RefusesUnordered g.T.Serialize.meaning g.T.Deserialize.shape _) _ c.from_residual-in_err-values.ensures.1
-    (search rules) (unordered_refused (rw set at c.in_ok-members.ensures.ok) c.in_err-values.ensures.err)
+    (search rules) (set_unordered (rw set at c.in_ok-members.ensures.ok) c.in_err-values.ensures.err)
 
 pub returns-in_err-end-clause-order : goal.returns-in_err-end-clause-order
 returns-in_err-end-clause-order g c set = absurd (all_closed c.in_ok-values.ensures.ok c.in_err-end.ensures.err)

@@ -1,6 +1,7 @@
 use Rattle.std.proofs.Common.{rules, ◌∙◌, ◌<◌, length, take, refl, subst, arith}
 use Rattle.std.proofs.lemmas.List.{take_more_set, take_all, length-set, length-take-le}
 use Rattle.std.proofs.lemmas.Result.{IfErr-weaker, on_ok_weaker}
+use Rattle.picky_der_de.specs.SetOrder.{in_order}
 use Rattle.picky_der_de.proofs.PassedOn.{refusal_passed_on, reads_at, refuses_at}
 use Rattle.picky_der_de.proofs.Rests.{reads_members}
 use Rattle.picky_der_de.proofs.ListReads.{ReadsFirst, first_none, first_more, first_all, first_refused, first_left}
@@ -51,8 +52,9 @@ returns-clause-ok g c =
     let i = c.loop-at.invariant in
     let all = take_all c.loop-at.at c.loop-at.slots (omega (arith, i.same_length, c.loop-at-test.false)) in
     let first =
-    subst (ReadsFirst g.T.Serialize.meaning g.T.Deserialize.shape c.in_ok-members.members.de.now
-    c.loop-at.members.de.now) all i.first in
+    subst (ReadsFirst g.T.Serialize.meaning g.T.Deserialize.shape
+    (in_order c.in_ok-members.members.de.now c.in_ok-members.members.next)
+    (in_order c.loop-at.members.de.now c.loop-at.members.next)) all i.first in
     let row = first_all g.T.Serialize.meaning g.T.Deserialize.shape (length c.args.slots.now) c.loop-at.slots
     i.same_length first in
     on_ok_weaker c.end.result (λ k. reads_at (reads_members c.in_ok-members.ensures.ok row k i.outer) (search rules))
@@ -63,8 +65,9 @@ returns-clause-err g c =
     let i = c.loop-at.invariant in
     let all = take_all c.loop-at.at c.loop-at.slots (omega (arith, i.same_length, c.loop-at-test.false)) in
     let first =
-    subst (ReadsFirst g.T.Serialize.meaning g.T.Deserialize.shape c.in_ok-members.members.de.now
-    c.loop-at.members.de.now) all i.first in
+    subst (ReadsFirst g.T.Serialize.meaning g.T.Deserialize.shape
+    (in_order c.in_ok-members.members.de.now c.in_ok-members.members.next)
+    (in_order c.loop-at.members.de.now c.loop-at.members.next)) all i.first in
     IfErr-weaker c.end.result _ _
     (λ e k. refuses_at (array_refused g.T.Serialize.meaning (length c.args.slots.now) g.T.Deserialize.shape
     c.in_ok-members.ensures.ok (first_left (length c.args.slots.now) c.loop-at.slots i.same_length first k.fails

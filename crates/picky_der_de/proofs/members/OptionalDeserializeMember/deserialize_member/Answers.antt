@@ -5,4 +5,4 @@ use Rattle.picky_der_de.proofs.members.OptionalDeserializeMember.deserialize_mem
 pub returns-in_err-value-clause-err : goal.returns-in_err-value-clause-err
 returns-in_err-value-clause-err g c =
     let p = err_from_is_err_and c.from_residual.result c.from_residual.ensures.1 in
-    rw (p.1, p.2) (as_optional c.in_err-value.ensures.err)
+    rw (p.1, p.2) (as_optional c.in_err-value.ensures.err c.in_err-value.ensures.last)

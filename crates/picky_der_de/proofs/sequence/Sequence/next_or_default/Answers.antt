@@ -6,7 +6,7 @@ use Rattle.picky_der_de.proofs.sequence.Sequence.next_or_default.Goals as goal
 pub returns-in_err-value-clause-err : goal.returns-in_err-value-clause-err
 returns-in_err-value-clause-err g c =
     let p = err_from_is_err_and c.from_residual.result c.from_residual.ensures.1 in
-    rw (p.1, p.2) (as_optional c.in_err-value.ensures.err)
+    rw (p.1, p.2) (as_optional c.in_err-value.ensures.err c.in_err-value.ensures.last)
 
 pub returns-then-is_default-clause-err : goal.returns-then-is_default-clause-err
 returns-then-is_default-clause-err g c =

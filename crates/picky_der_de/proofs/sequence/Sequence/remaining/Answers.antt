@@ -5,6 +5,8 @@ use Rattle.picky_der_core.specs.Failure.{failure_of}
 use Rattle.picky_der_core.specs.EncodingLaws.{length-der}
 use Rattle.picky_der_de.specs.State.{State}
 use Rattle.picky_der_de.specs.RefusesBy.{unsaid}
+use Rattle.picky_der_de.specs.SetOrder.{in_order}
+use Rattle.picky_der_de.proofs.InOrder.{fails_in}
 use Rattle.picky_der_de.proofs.MemberReads.{consumes_member, member_again}
 use Rattle.picky_der_de.proofs.ListReads.{all_refused, all_next, all_for_memory, some_none, some_more, some_all}
 use Rattle.picky_der_de.proofs.MemberRuled.{each_head, each_next, each_again, each_for_memory}
@@ -23,9 +25,10 @@ pub returns-in_err-is_at_end-clause-err : goal.returns-in_err-is_at_end-clause-e
 returns-in_err-is_at_end-clause-err g c =
     let p = err_from_is_err_and c.from_residual.result c.from_residual.ensures.1 in
     let f = c.in_err-is_at_end.ensures.err in
+    let s = in_order c.loop-values.self.de.now c.loop-values.self.next in
     rw (p.1, p.2)
     (c.loop-values.invariant.some.refuses _ _
-    (all_refused {rule = unsaid} (member_again f) (failed_ahead c.loop-values.self.de.now _ f)))
+    (all_refused {rule = unsaid} (member_again s.last f) (failed_ahead c.loop-values.self.de.now _ f)))
 
 pub returns-in_err-value-clause-err : goal.returns-in_err-value-clause-err
 returns-in_err-value-clause-err g c =
@@ -71,7 +74,8 @@ loop-values-init g c =
 pub returns-in_default-add-clause-err : goal.returns-in_default-add-clause-err
 returns-in_default-add-clause-err g c =
     let r = c.in_ok-value.ensures.ok in
-    c.loop-values.invariant.some.refuses _ _ (all_next r (all_for_memory c.fail.ensures.fails c.fail.ensures.error))
+    c.loop-values.invariant.some.refuses _ _ (all_next r (all_for_memory
+    (fails_in c.fail.ensures.fails) c.fail.ensures.error))
 
 pub returns-clause-ok : goal.returns-clause-ok
 returns-clause-ok g c =

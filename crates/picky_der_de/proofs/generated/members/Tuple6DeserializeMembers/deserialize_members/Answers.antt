@@ -10,7 +10,7 @@ use Rattle.picky_der_de.proofs.generated.members.Tuple6DeserializeMembers.deseri
 pub returns-in_err-first-clause-err : goal.returns-in_err-first-clause-err
 returns-in_err-first-clause-err g c =
     let p = err_from_is_err_and c.from_residual.result c.from_residual.ensures.1 in
-    rw (p.1, p.2) (layout_member_head (layout_member g.A.DeserializeMember.facts g.met.A.DeserializeMember.proved) (field_rule g.A.DeserializeMember.facts.rule) g.met.A.DeserializeMember.distinguished (λ v. v.0) (lead (λ v. v.1) (layout_member g.B.DeserializeMember.facts g.met.B.DeserializeMember.proved) (lead (λ v. v.2) (layout_member g.C.DeserializeMember.facts g.met.C.DeserializeMember.proved) (lead (λ v. v.3) (layout_member g.D.DeserializeMember.facts g.met.D.DeserializeMember.proved) (lead (λ v. v.4) (layout_member g.E.DeserializeMember.facts g.met.E.DeserializeMember.proved) (after (λ v. v.5) (layout_members g.Z.DeserializeMembers.facts g.met.Z.DeserializeMembers.proved)))))) c.requires.implicit_tag c.in_err-first.ensures.err)
+    rw (p.1, p.2) (layout_member_head (layout_member g.A.DeserializeMember.facts g.met.A.DeserializeMember.proved) (field_rule g.A.DeserializeMember.facts.rule) g.met.A.DeserializeMember.distinguished (λ v. v.0) (lead (λ v. v.1) (layout_member g.B.DeserializeMember.facts g.met.B.DeserializeMember.proved) (lead (λ v. v.2) (layout_member g.C.DeserializeMember.facts g.met.C.DeserializeMember.proved) (lead (λ v. v.3) (layout_member g.D.DeserializeMember.facts g.met.D.DeserializeMember.proved) (lead (λ v. v.4) (layout_member g.E.DeserializeMember.facts g.met.E.DeserializeMember.proved) (after (λ v. v.5) (layout_members g.Z.DeserializeMembers.facts g.met.Z.DeserializeMembers.proved)))))) _ c.requires.implicit_tag c.in_err-first.ensures.err)
 
 pub returns-in_err-others-clause-err : goal.returns-in_err-others-clause-err
 returns-in_err-others-clause-err g c =
@@ -23,7 +23,7 @@ returns-clause-ok g c = layout_member_read (layout_member g.A.DeserializeMember.
 pub returns-in_err-first-clause-refused_by : goal.returns-in_err-first-clause-refused_by
 returns-in_err-first-clause-refused_by g c =
     let p = err_from_is_err_and c.from_residual.result c.from_residual.ensures.1 in
-    rw (p.1, p.2) (λ none. layout_head_by g.A.DeserializeMember.item_meaning g.A.DeserializeMember.left_out g.A.DeserializeMember.shape g.A.DeserializeMember.facts.rule _ none c.requires.implicit_tag g.A.DeserializeMember.presence c.in_err-first.ensures.err)
+    rw (p.1, p.2) (λ none. layout_head_by g.A.DeserializeMember.item_meaning g.A.DeserializeMember.left_out g.A.DeserializeMember.shape g.A.DeserializeMember.facts.rule _ none c.requires.implicit_tag _ g.A.DeserializeMember.presence c.in_err-first.ensures.err)
 
 pub returns-in_err-others-clause-refused_by : goal.returns-in_err-others-clause-refused_by
 returns-in_err-others-clause-refused_by g c =
