@@ -9,8 +9,6 @@ from pathlib import Path
 # what Erlang's compiler has no form for, and what is written in its place, which says less
 _SIMPLER = (("GeneralString (IA5String)", "GeneralString"),)
 
-_NAME = re.compile(r"^([A-Z][\w-]*)\s*(\{[^}]*\})?\s*DEFINITIONS", re.MULTILINE)
-
 # numbers in place of those of Erlang's module `rand`, the same ones in each run
 _NUMBERS = r"""-module(rand).
 -export([uniform/1, begin_at/1]).
@@ -67,27 +65,20 @@ written(_, _) -> "unwritable".
 """
 
 
-def modules_of(text: str) -> dict[str, str]:
-    """The modules of a file by their names, in its order, which have another module after them only if they import from it."""
-    for form, simpler in _SIMPLER:
-        text = text.replace(form, simpler)
-    parts = re.findall(r".*?^END$", text, re.DOTALL | re.MULTILINE)
-    return {_NAME.search(it).group(1): it for it in parts}
-
-
 class Erlang:
-    """Erlang's readers and writers of the first module of some files, in a folder of its own, which `with` removes at the end."""
+    """Erlang's readers and writers of some modules, in a folder of its own, which `with` removes at the end."""
 
     def __init__(self, paths: Sequence[Path]) -> None:
         self.folder = Path(tempfile.mkdtemp())
         self.names: dict[Path, str] = {}
         for it in paths:
-            found = modules_of(it.read_text(encoding="utf-8"))
-            self.names[it] = next(iter(found))
-            for name, text in found.items():
-                (self.folder / f"{name}.asn1").write_text(text, encoding="utf-8")
-            for name in reversed(found):
-                self.run("erlc", "-bber", "+der", f"{name}.asn1")
+            text = it.read_text(encoding="utf-8")
+            self.names[it] = re.search(r"^([A-Z][\w-]*)\s*(\{[^}]*\})?\s*DEFINITIONS", text, re.MULTILINE).group(1)
+            for form, simpler in _SIMPLER:
+                text = text.replace(form, simpler)
+            (self.folder / f"{self.names[it]}.asn1").write_text(text, encoding="utf-8")
+        for it in self.names.values():
+            self.run("erlc", "-bber", "+der", f"{it}.asn1")
         (self.folder / "numbers").mkdir()
         (self.folder / "numbers/rand.erl").write_text(_NUMBERS, encoding="utf-8")
         (self.folder / "oracle.erl").write_text(_PROGRAM, encoding="utf-8")
