@@ -2,11 +2,10 @@
 from collections.abc import Sequence
 
 from ..meaning.declarations import ChoiceDeclaration, Declaration, Field
-from ..meaning.library import FOUR, NONE_OF, parts_type
+from ..meaning.library import FOUR, parts_type
 from ..meaning.rust_types import RustType
 from ..meaning.wording import snake
 from .comments import difference_note, sentence
-from .end import variants_of_end
 from .imports import PRELUDE, Uses
 from .layout import GHOST_WIDTH, STEP, WIDTH, comment, signature, type_lines
 from .many import Quoted, has_many, many_lines
@@ -28,7 +27,7 @@ _VARIANTS_WIDTH = 140
 _HIDDEN = frozenset(["This", "Other", "Later", *_FOUR_NAMES, "Some", "None", "Ok", "Err"])
 
 _EXACT = frozenset(("Exact", "ExactAlternatives", "choice_values"))
-_NAMES = """ReadExt WriteExt Alternatives Choice Deserialize Deserializer Result Serialize Serializer Begins
+_NAMES = """ReadExt WriteExt Alternatives Choice Deserialize Deserializer NoneOf Result Serialize Serializer Begins
 deserialize_choice_as Tag Notated NotatedAlternatives Exact ExactAlternatives""".split()
 
 
@@ -58,8 +57,8 @@ def pattern(constructors: list[str], value: str) -> str:
     return value
 
 
-def choice_uses(declared: ChoiceDeclaration, is_exact: bool = True, end: RustType = NONE_OF) -> Uses:
-    """What the items of a choice name, with or without those of `Exact`. `end` is the end of its alternatives."""
+def choice_uses(declared: ChoiceDeclaration, is_exact: bool = True) -> Uses:
+    """What the items of a choice name, with or without those of `Exact`."""
     types = [it.type for it in declared.variants]
     terms = {
         PRELUDE: {"refl"},
@@ -69,15 +68,15 @@ def choice_uses(declared: ChoiceDeclaration, is_exact: bool = True, end: RustTyp
         "Rattle.der_types.specs.ExactChoices": {"choice_values"},
     }
     found = Uses({*_NAMES}, by_type(_constructors(len(types))), terms)
-    found.add(alternatives_uses(types, is_exact, end))
+    found.add(alternatives_uses(types, is_exact))
     return found if is_exact else found.without(_EXACT)
 
 
-def alternatives_uses(types: list[RustType], is_exact: bool, end: RustType = NONE_OF) -> Uses:
-    """What terms of alternatives of these types with this end name, with or without those of `Exact`."""
+def alternatives_uses(types: list[RustType], is_exact: bool) -> Uses:
+    """What terms of alternatives of these types name, with or without those of `Exact`."""
     count = len(types)
     around = _constructors(count).union(outside(count) if is_exact else [])
-    return Uses({*parts_type(types, end).names()}, terms={_CONSTRUCTOR_HOMES[it]: found for it, found in by_type(around).items()})
+    return Uses({*parts_type(types).names()}, terms={_CONSTRUCTOR_HOMES[it]: found for it, found in by_type(around).items()})
 
 
 def _constructors(count: int) -> set[str]:
@@ -90,11 +89,11 @@ def cases_of(variants: list[Field]) -> list[str]:
     return [f"variants.{it.name} x ↦ {term(place(index, len(variants)), 'x')}" for index, it in enumerate(variants)]
 
 
-def made_cases(variants: list[Field], end: RustType = NONE_OF) -> list[str]:
-    """Each alternative as that of a variant, and none at the end."""
+def made_cases(variants: list[Field]) -> list[str]:
+    """Each alternative as that of a variant, and none after the last."""
     count = len(variants)
     cases = [f"{term(place(at, count), 'x')} ↦ (variants.{it.name} x, refl)" for at, it in enumerate(variants)]
-    return [*cases, f"{term(outside(count), 'x' if end == NONE_OF else '(ends.Never x _)')} ↦ elim x [ ]"]
+    return [*cases, f"{term(outside(count), 'x')} ↦ elim x [ ]"]
 
 
 def by_type(constructors: set[str]) -> dict[str, set[str]]:
@@ -102,21 +101,19 @@ def by_type(constructors: set[str]) -> dict[str, set[str]]:
     return {it: constructors.intersection(own) for it, own in _CONSTRUCTORS.items() if constructors.intersection(own)}
 
 
-def choice_lines(declared: ChoiceDeclaration, names: PrivateNames, home: str, end: RustType = NONE_OF) -> list[str]:
-    """The items of a choice. `home` is the module of terms of the types of its file, and `end` the end of its alternatives."""
+def choice_lines(declared: ChoiceDeclaration, names: PrivateNames, home: str) -> list[str]:
+    """The items of a choice. `home` is the module of terms of the types of its file."""
     parts, variants = names.of(declared, "Parts"), variants_import(declared, home)
-    if end != NONE_OF:
-        variants.insert(1, f"{STEP}ghost use {variants_of_end(home.split('.')[1])} as ends;")
     quoted = Quoted([it.type for it in declared.variants], declared, names)
-    own = [*definition(declared), "", *quoted.lines, *choice_impls(declared, names, home, end), "", *notated_impl(declared, parts)]
-    return [*own, "", *exact_impl(declared, parts, variants, end, quoted.types)]
+    own = [*definition(declared), "", *quoted.lines, *choice_impls(declared, names, home), "", *notated_impl(declared, parts)]
+    return [*own, "", *exact_impl(declared, parts, variants, quoted.types)]
 
 
-def choice_impls(declared: ChoiceDeclaration, names: PrivateNames, home: str, end: RustType = NONE_OF) -> list[str]:
+def choice_impls(declared: ChoiceDeclaration, names: PrivateNames, home: str) -> list[str]:
     """What each choice has, but for its definition."""
     parts, variants = names.of(declared, "Parts"), variants_import(declared, home)
     return [
-        *type_lines("", f"type {parts} = ", str(parts_type([it.type for it in declared.variants], end)), ";"),
+        *type_lines("", f"type {parts} = ", str(parts_type([it.type for it in declared.variants])), ";"),
         "",
         *choice_impl(declared, parts, variants),
         "",
@@ -271,19 +268,17 @@ def notated_impl(declared: ChoiceDeclaration, parts: str) -> list[str]:
     ]
 
 
-def exact_impl(
-    declared: ChoiceDeclaration, parts: str, imported: list[str], end: RustType = NONE_OF, types: Sequence[str] = ()
-) -> list[str]:
+def exact_impl(declared: ChoiceDeclaration, parts: str, imported: list[str], types: Sequence[str] = ()) -> list[str]:
     """The implementation of `Exact`: its alternatives are exact, and each of them is that of a value. With `types` they are taken one by one."""
     begin = f"{STEP}ghost values = {{ choice_values"
     is_long = has_many(declared) and types
     return [
         f"impl Exact for {declared.name} {{",
         *imported,
-        *([begin, *many_lines(types, str(end))] if is_long else [f"{begin} ⟦<{parts} as ExactAlternatives>⟧.chosen_values"]),
+        *([begin, *many_lines(types, "NoneOf")] if is_long else [f"{begin} ⟦<{parts} as ExactAlternatives>⟧.chosen_values"]),
         f"{_TWO}⟦<{parts} as NotatedAlternatives>⟧.alternatives_notation ⟦<{parts} as Alternatives>⟧.chosen ⟦<Self as Choice>⟧.parts",
         f"{_TWO}(elim [",
-        *(f"{_TWO}  | {it}" for it in made_cases(declared.variants, end)),
+        *(f"{_TWO}  | {it}" for it in made_cases(declared.variants)),
         f"{_TWO}]) }};",
         "",
         f"{STEP}ghost exact = {{ Prim.assumption }};",

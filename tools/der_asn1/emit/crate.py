@@ -6,7 +6,6 @@ from typing import Iterable
 from ..meaning.causes import Allowed, Cause
 from ..meaning.declarations import AliasDeclaration, ChoiceDeclaration, Declaration, Declarations, EnumDeclaration, ListedDeclaration
 from ..meaning.declarations import SetDeclaration, UnionDeclaration
-from ..meaning.library import NONE_OF
 from ..meaning.library_table import LIBRARY_NAMES
 from ..meaning.named import Constant, Names
 from ..meaning.terms import names_of
@@ -14,7 +13,6 @@ from ..parse import tree
 from .choice import answers_path, serialize_answers
 from .constructors import Made, constructor_file, is_made
 from .copies import COPIES
-from .end import END, END_OF, end_files, end_type
 from .enum import TERMS_FILE, terms_file
 from .folder import NOTE
 from .imports import MOST_GROUPED
@@ -32,7 +30,7 @@ from .values import Value, value_file
 # the crates that each crate uses
 NEEDS = "der_types picky_asn1_der picky_der_core picky_der_ser picky_der_de".split()
 # what no file of a module or a group can be called
-RESERVED = frozenset([ONLY, ELEMENTS, END, "constructors", "named", "values", "notation", "lib", "main", *NEEDS])
+RESERVED = frozenset([ONLY, ELEMENTS, "constructors", "named", "values", "notation", "lib", "main", *NEEDS])
 _REPOSITORY = Path(__file__).resolve().parents[3]
 
 
@@ -68,8 +66,6 @@ class Crate:
         if self.has_unions():
             found[f"src/{ELEMENTS}.rt"] = self.file("//!", elements_file(), set())
             found.update({path: self.file("--", lines, set()) for path, lines in shared_proofs(self.name).items()})
-        if self.has_ends():
-            found.update({path: self.file("//!" if path.endswith(".rt") else "--", lines, set()) for path, lines in end_files(self.name).items()})
         if self.values or self.constants:
             modules = {it.module for it in [*self.values, *self.constants]}
             found["src/values.rt"] = self.file("//!", value_file(self.values, self.constants), modules)
@@ -128,11 +124,6 @@ class Crate:
         """Whether some type is read as any element, and then tried."""
         return any(isinstance(it, UnionDeclaration) or isinstance(it, ListedDeclaration) and is_encoded(it) for it in self.types.values())
 
-    def has_ends(self) -> bool:
-        """Whether the alternatives of some choice are all structs and enums without parameters."""
-        choices = [it for it in self.types.values() if isinstance(it, ChoiceDeclaration)]
-        return any(end_type(it, self.types, self.elsewhere) != NONE_OF for it in choices)
-
     def file(self, mark: str, lines: list[str], modules: set[str]) -> str:
         """The text of a file: a note that says what it is made from, and its lines."""
         paths = list(dict.fromkeys(shown(it.path) for it in self.modules if it.name in modules and Path(it.path).suffix))
@@ -146,13 +137,12 @@ class Crate:
     def context(self) -> Context:
         """What the files of types depend on."""
         fields = {part.name for it in self.types.values() if not isinstance(it, (AliasDeclaration, SetDeclaration)) for part in it.parts()}
-        return Context(self.name, self.homes(), PrivateNames([*self.homes(), *LIBRARY_NAMES, *fields]), self.types, tuple(self.derives), frozenset(self.elsewhere))
+        return Context(self.name, self.homes(), PrivateNames([*self.homes(), *LIBRARY_NAMES, *fields]), self.types, tuple(self.derives))
 
     def homes(self) -> dict[str, str]:
         """The crate of each type, by its name, and of the defaults of enumerations: `crate` for this one."""
         defaults = [name for it in self.types.values() if isinstance(it, EnumDeclaration) for name in it.defaults]
         elements = {TRIED: f"crate::{ELEMENTS}"} if self.has_unions() else {}
-        elements.update({END_OF: f"crate::{END}"} if self.has_ends() else {})
         copies = {COPIES: "der_types", "AllocError": "std::alloc"}
         return {**copies, **dict.fromkeys([*self.types, *defaults], "crate"), **elements, **self.elsewhere}
 
@@ -182,7 +172,7 @@ class Crate:
         private = ["constructors"] if self.with_constructors() else []
         sources = ", ".join(sorted({it.module for it in self.types.values()}))
         lines = [*comment("", "//!", f"The types of {sources}."), "#![tactic(auto)]", ""]
-        private += [*([ELEMENTS] if self.has_unions() else []), *([END] if self.has_ends() else [])]
+        private += [ELEMENTS] if self.has_unions() else []
         lines += [f"pub mod {it};" if it in public else f"mod {it};" for it in sorted({*by_home, *public, *private})]
         lines += [""] if by_home else []
         is_grouped = sum(map(len, by_home.values())) <= MOST_GROUPED

@@ -4,7 +4,6 @@ from dataclasses import dataclass, field
 from ..meaning.declarations import AddedDeclaration, AliasDeclaration, ChoiceDeclaration, Declaration, EnumDeclaration, ListedDeclaration
 from ..meaning.declarations import NewtypeDeclaration, SetDeclaration, StructDeclaration, UnionDeclaration
 from ..meaning.examples import has_example
-from ..meaning.rust_types import RustType
 from ..meaning.wording import snake
 from .added import added_lines, added_uses
 from .character_set import set_lines, set_uses
@@ -12,7 +11,6 @@ from .choice import choice_lines, choice_uses
 from .comments import difference_note, sentence
 from .copies import clone_impl, copies_uses, is_copied
 from .derives import derived, with_derives
-from .end import end_type
 from .enum import TERMS_FILE, enum_lines, enum_uses
 from .faithful import faithful_default_impl, faithful_default_uses, faithful_impl, faithful_uses, inhabited_impl, inhabited_uses
 from .imports import Uses
@@ -30,19 +28,14 @@ ONLY = "types"
 
 @dataclass(frozen=True)
 class Context:
-    """What the lines of a file depend on: the crate, the crates of types that are named, the names of what is private, the crate's types, the
-    traits that all types derive, too, and the names of the types of other crates."""
+    """What the lines of a file depend on: the crate, the crates of types that are named, the names of what is private, the crate's types, and
+    the traits that all types derive, too."""
 
     crate: str
     homes: dict[str, str]
     names: PrivateNames
     types: dict[str, Declaration] = field(default_factory=dict)
     derives: tuple[str, ...] = ()
-    elsewhere: frozenset[str] = frozenset()
-
-    def end_of(self, declared: ChoiceDeclaration) -> RustType:
-        """The end of the alternatives of a choice."""
-        return end_type(declared, self.types, self.elsewhere)
 
 
 def stems_of(types: list[Declaration], groups: dict[str, list[str]], taken: frozenset[str]) -> dict[str, str]:
@@ -92,7 +85,7 @@ def uses_of(declared: Declaration, context: Context) -> Uses:
     if isinstance(declared, StructDeclaration):
         return struct_uses(declared)
     if isinstance(declared, ChoiceDeclaration):
-        return choice_uses(declared, end=context.end_of(declared))
+        return choice_uses(declared)
     if isinstance(declared, EnumDeclaration):
         return enum_uses(declared, context.crate)
     if isinstance(declared, SetDeclaration):
@@ -114,7 +107,7 @@ def lines_of(declared: Declaration, stem: str, context: Context) -> list[str]:
     if isinstance(declared, StructDeclaration):
         return struct_lines(declared, context.names)
     if isinstance(declared, ChoiceDeclaration):
-        return choice_lines(declared, context.names, home, context.end_of(declared))
+        return choice_lines(declared, context.names, home)
     if isinstance(declared, EnumDeclaration):
         return enum_lines(declared, home)
     return set_lines(declared) if isinstance(declared, SetDeclaration) else alias_lines(declared)

@@ -18,8 +18,6 @@ DEFAULT_SIGNED = range(-128, 128)
 MOST_MEMBERS = 32
 # how many alternatives `Choice4` has
 FOUR = 4
-# the end of the alternatives of a choice
-NONE_OF = of("NoneOf")
 # numbers whose content is one byte (X.690, 8.3 and 8.4), and that are that byte
 ONE_BYTE = range(128)
 WIDTHS = (8, 16, 32, 64, 128)
@@ -121,13 +119,13 @@ def retagged(inner: RustType, tag: int) -> RustType:
     return of("ImplicitList", inner, f"0x{tag:02X}")
 
 
-def parts_type(types: list[RustType], end: RustType = NONE_OF) -> RustType:
-    """The type of the alternatives of a choice, after which is their end."""
+def parts_type(types: list[RustType]) -> RustType:
+    """The type of the alternatives of a choice."""
     if not types:
-        return end
+        return of("NoneOf")
     if len(types) >= FOUR:
-        return of("Choice4", *types[:FOUR], parts_type(types[FOUR:], end))
-    return of("OneOf", types[0], parts_type(types[1:], end))
+        return of("Choice4", *types[:FOUR], parts_type(types[FOUR:]))
+    return of("OneOf", types[0], parts_type(types[1:]))
 
 
 def unsigned_for(high: float) -> Optional[str]:

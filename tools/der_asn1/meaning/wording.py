@@ -18,7 +18,7 @@ KEYWORDS = frozenset(
 TAKEN = LIBRARY_NAMES | frozenset(
     """Option Vec String Result Some None Ok Err Box Drop Clone Copy Default
     PartialEq Eq Debug Self First Second
-    Third Fourth Later This Other Type Notation EndOf""".split()
+    Third Fourth Later This Other Type Notation""".split()
 )
 
 

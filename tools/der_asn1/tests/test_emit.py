@@ -11,7 +11,6 @@ from .. import command
 from ..emit import crate as emit_crate, values as emit_values
 from ..emit.choice import pattern, place, term
 from ..emit.derived import DerivedNames
-from ..emit.end import OWNERS, end_type
 from ..emit.enum import enum_terms
 from ..emit.folder import difference, write
 from ..emit.imports import term_imports
@@ -30,9 +29,6 @@ from .stored import GOLDEN, files_below, golden_names, golden_options, stored_fi
 SEVERAL = ("personnel_record", "script")
 RESPONSE_STATUS = """ResponseStatus ::= ENUMERATED { successful(0), malformedRequest(1), internalError(2), tryLater(3), sigRequired(5),
     unauthorized(6) }"""
-
-# the crates that have types of the library
-LIBRARY = ("der_elements", "der_types", "picky_asn1_der", "picky_der_core")
 
 ROOT = os.path.dirname(os.path.dirname(os.path.dirname(os.path.dirname(os.path.realpath(__file__)))))
 
@@ -577,31 +573,6 @@ class Alternatives(unittest.TestCase):
     def test_types(self):
         self.assertEqual("OneOf<A, NoneOf>", str(parts_type([of("A")])))
         self.assertEqual("Choice4<A, B, C, D, OneOf<E, NoneOf>>", str(parts_type([of(it) for it in "ABCDE"])))
-
-    def test_their_end(self):
-        cases = {
-            "a INTEGER, b OBJECT IDENTIFIER": "EndOf<()>",
-            "a INTEGER, b S, c T, d OBJECT IDENTIFIER": "EndOf<()>",
-            "a INTEGER, b OBJECT IDENTIFIER, c NULL": "NoneOf",
-            "a INTEGER, b E": "NoneOf",
-            "a INTEGER, b UTF8String": "NoneOf",
-            "a S, b [0] INTEGER": "NoneOf",
-            "a INTEGER, b SEQUENCE SIZE (1) OF INTEGER": "NoneOf",
-        }
-        for body, end in cases.items():
-            types = f"A ::= CHOICE {{ {body} }} S ::= SEQUENCE {{ a INTEGER }} E ::= ENUMERATED {{ a }} T ::= GeneralizedTime"
-            crate = crate_of(types, "A")
-            files = crate.files()
-            self.assertEqual(end, str(end_type(crate.types["A"], crate.types, crate.elsewhere)), body)
-            is_plain = end == "EndOf<()>"
-            self.assertEqual(is_plain, "src/end_of.rt" in files and f"{end}>" in files["src/types.rt"], body)
-            self.assertEqual(is_plain, "ends.Never x _" in files["src/types.rt"], body)
-
-    def test_types_of_the_library_without_parameters(self):
-        sources = Path(ROOT, "crates").glob("*/src/**/*.rt")
-        text = "\n".join(it.read_text(encoding="utf-8") for it in sources if it.relative_to(ROOT).parts[1] in LIBRARY)
-        plain = set(re.findall(r"^pub struct (\w+)(?: \{|\()", text, re.MULTILINE))
-        self.assertEqual(OWNERS, plain & {*OWNERS, *(it.rust for it in TYPES)} - {"UtcTime"})
 
     def test_terms_and_patterns(self):
         self.assertEqual("Later (Later (This x))", term(["Later", "Later", "This"], "x"))

@@ -70,17 +70,21 @@ class Given:
     options: Sequence[str] = ()
 
 
+def library_in(folder: Path) -> list[str]:
+    """Copies the crates of the library to a folder, and returns their lines of `crates.txt`."""
+    for it in _LIBRARY:
+        shutil.copytree(ROOT / "crates" / it, folder / "crates" / it, ignore=shutil.ignore_patterns("out", "must-fail", "wrong-bodies"))
+    lines = (ROOT / "crates.txt").read_text(encoding="utf-8").splitlines()
+    return [it for it in lines if it.split(":")[0] in _LIBRARY]
+
+
 class Trial:
     """The program in a folder of its own, which `with` removes at the end."""
 
     def __init__(self, modules: Sequence[Given]) -> None:
         self.folder = Path(tempfile.mkdtemp())
-        (self.folder / "crates").mkdir()
         self.types: dict[str, dict[str, str]] = {}
-        lines = [it for it in (ROOT / "crates.txt").read_text(encoding="utf-8").splitlines() if it.split(":")[0] in _LIBRARY]
-        for it in _LIBRARY:
-            shutil.copytree(ROOT / "crates" / it, self.folder / "crates" / it, ignore=shutil.ignore_patterns("out", "must-fail", "wrong-bodies"))
-        lines += [self.crate(it) for it in modules]
+        lines = [*library_in(self.folder), *(self.crate(it) for it in modules)]
         names = " ".join(it.name for it in modules)
         lines.append(f"reader: {names} der_types picky_asn1_der picky_der_core picky_der_ser picky_der_de hex")
         (self.folder / "crates.txt").write_text("\n".join(lines) + "\n", encoding="utf-8")
