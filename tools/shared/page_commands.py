@@ -78,7 +78,7 @@ SHOWN = {
     ("docs/ASN1.md", "m.asn1:6:18"): compiled("", "", "V ::= W", "W ::= SEQUENCE { t T }", "T ::= SEQUENCE { b UTCTime (SIZE (13)) }"),
     ("docs/ASN1.md", "BindMessage = SEQUENCE"): 'tools/der_asn1/der_asn1 --out "$HOME/bind" tools/der_asn1/tests/golden/bind.asn1;'
         ' cat "$HOME/bind/specs/Notation.antt"',
-    ("docs/TOOL.md", "indefinite.der:"): r"printf '\060\200\000\000' > indefinite.der; der show indefinite.der",
+    ("docs/TOOL.md", "indefinite.der:"): r"printf '\060\200\000\000' > indefinite.der; der read indefinite.der",
     ("docs/TOOL.md", "a.crl:"): r"cp data/pkix/list.der a.crl; printf '\004' | dd of=a.crl bs=1 seek=13 conv=notrunc; der read crl a.crl",
     ("docs/TOOL.md", '{"block":null,"file":"k"'): f"python3 -c 'open(\"k\", \"wb\").write(bytes.fromhex(\"{TICKET}\"))'; der read --json k",
     ("docs/TOOL.md", "data/ber/signed.ber: BER"): "der read --ber cms data/ber/signed.ber",
