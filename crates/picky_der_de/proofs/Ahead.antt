@@ -159,6 +159,15 @@ element_there (x ∷ xs) n count some i byte b e l =
       fits = l;
     }
 
+-- the same, if the length is one byte
+pub short_element_there : (all : List ℕ) (n : ℕ) → n + 2 ≤ length all → IsTagNumber (number_of (get_or all 0 0))
+    → get_or all 0 0 < 256 → get_or all 1 0 ≡ n → n < 0x80 → IsElementInFront all (n + 2)
+short_element_there [] n some i byte e short = absurd (omega arith)
+short_element_there (x ∷ []) n some i byte e short = absurd (omega arith)
+short_element_there (x ∷ y ∷ xs) n some i byte e short =
+    let q = short_front (y ∷ xs) n (omega arith) e short in
+    element_there (x ∷ y ∷ xs) n (n + 2) (omega arith) i byte q.0 (omega (arith, q.1)) some
+
 pub element_some : {all : List ℕ} {count : ℕ} → IsElementInFront all count → 1 ≤ count
 element_some {all} {count} h =
     omega (

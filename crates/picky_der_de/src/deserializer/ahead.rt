@@ -75,6 +75,24 @@ pub(super) fn short_at_front(bytes: &[u8], tag: Tag) -> Option<&[u8]>
     Some(&bytes[2..end])
 }
 
+// The element at the front of these bytes, with its header. `None` if the element isn't there whole, or if its length has
+// more than one byte.
+pub(super) fn short_element_at_front(bytes: &[u8]) -> Option<&[u8]>
+    ensures is { IfSome result (λ element. IsPrefix element.now bytes.now) }
+    ensures whole { IfSome result (λ element. IsElementInFront element.now (length element.now)) }
+    ensures short { IfSome result (λ element. length element.now < 130) }
+    ensures bytes { IfSome result (λ element. AreBytes element.now) }
+{
+    if bytes.len() < 2 || Tag::from(bytes[0]).number() > Tag::MAX_NUMBER || bytes[1] >= 0x80 {
+        return None;
+    }
+    let end = usize::from(bytes[1]) + 2;
+    if end > bytes.len() {
+        return None;
+    }
+    Some(&bytes[..end])
+}
+
 // The number of bytes of the element at the front of these bytes. `None` if none is there whole, or if its length has
 // more than three bytes.
 pub(crate) fn element_at_front(bytes: &[u8]) -> Option<usize>

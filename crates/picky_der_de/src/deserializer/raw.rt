@@ -1,10 +1,12 @@
 //! Elements that are consumed whole, whatever their tag (X.690, 8.1.1).
-ghost use Rattle.std.specs.Prelude.{◌≡◌, ◌∷◌, ℕ, List, IfOk, IfErr, OnOk};
+ghost use Rattle.std.specs.Prelude.{◌≡◌, ◌<◌, ◌∷◌, ℕ, List, length, IfSome, IfNone, IfOk, IfErr, OnOk};
 ghost use Rattle.picky_der_core.specs.Element.{length_octets};
 ghost use Rattle.picky_der_de.specs.Steps.{UsesNoMemory};
 ghost use Rattle.picky_der_de.specs.Elements.{BeginsElement, ReadsRaw, RefusesRaw};
 
 use super::Deserializer;
+use super::ahead::{near, short_element_at_front};
+use crate::ShortContent;
 use picky_der_core::asn1::Tag;
 use picky_der_core::misc::{Length, ReadExt};
 use picky_der_core::{Asn1DerError, Result};
@@ -55,6 +57,28 @@ impl<R: ReadExt> Deserializer<R> {
             Ok(None) => self.fetch_raw(),
             Err(error) => Err(error),
         }
+    }
+
+    /// Reads the next element into a value in one step. The whole element has to be in memory before the innermost end,
+    /// with a length of one byte, and the type has to make a value of its bytes, with the header.
+    ///
+    /// Else it returns `None` and does nothing. It does so too directly under an implicit tag, and after an error.
+    /// Nothing is allocated.
+    #[inline(always)]
+    pub fn deserialize_short_element<C: ShortContent>(&mut self) -> Option<C>
+        ensures read { IfSome result (λ it. ReadsRaw self.old self.new (C.content it)) }
+        ensures short { IfSome result (λ it. length (C.content it) < 130) }
+        ensures none { IfNone result (self.new ≡ self.old) }
+    {
+        if !self.wants_header() {
+            return None;
+        }
+        let element = short_element_at_front(near(&self.reader, self.until_end))?;
+        let count = element.len();
+        let value = C::of_short(self.alloc, element)?;
+        self.reader.take_few(count);
+        self.until_end -= count;
+        Some(value)
     }
 
     // The same, byte by byte and piece by piece.
