@@ -1,5 +1,5 @@
 """The implementations of the types of der_types whose content passes a test."""
-from dataclasses import dataclass
+from dataclasses import dataclass, replace
 from string import Template
 
 from generation.files import Files, Lines, source
@@ -46,7 +46,7 @@ FROM_VECTOR = """
 
 FROM_SHORT_VECTOR = """
     fn from_content(content: Vec<u8>) -> Option<$name>
-        ensures some { IfSome result (λ it. ⟦<$name as Contents>⟧.content it ≡ content.items) }
+        ensures some { IfSome result (λ it. $made_shown ≡ content.items) }
         ensures none { IfNone result ($test content.items ≡ false) }
     {
         if $code(&content) {
@@ -129,18 +129,17 @@ FORMS = {
         valid="it.canonical",
         whole="(λ s e h. (record { content = small_vec_of s; canonical = e }, refl))",
         functions=FROM_SHORT_VECTOR,
-        shown="⟦<$name as Contents>⟧.content $it",
         copy=COPY_CONTENT,
         ghost_uses=("Rattle.der_types.specs.MadeValues.{small_vec_of}",),
-        uses=("crate::object_identifier::INLINE", "smallvec::SmallVec", "std::alloc::{AllocError, Global}"),
+        uses=("crate::$module::INLINE", "smallvec::SmallVec", "std::alloc::{AllocError, Global}"),
     ),
     "integer": Form(
         content="$it.0.content.items",
         valid="it.0.canonical",
-        whole="(λ s e h. (record { 0 = record { content = vec_of s h; canonical = e } }, refl))",
+        whole="(λ s e h. (record { 0 = record { content = small_vec_of s; canonical = e } }, refl))",
         functions=FROM_INTEGER,
         copy=COPY_INTEGER,
-        ghost_uses=("Rattle.der_types.specs.MadeValues.{vec_of}",),
+        ghost_uses=("Rattle.der_types.specs.MadeValues.{small_vec_of}",),
         names=("Integer",),
         uses=("std::alloc::AllocError",),
     ),
@@ -158,6 +157,9 @@ FORMS = {
         uses=("std::alloc::Global",),
     ),
 }
+
+# the contracts of its functions name no vector
+FORMS["hidden short vector"] = replace(FORMS["short vector"], shown="⟦<$name as Contents>⟧.content $it")
 
 # a copy, on the same allocator
 COPY = """
@@ -282,10 +284,9 @@ def words_of(row: Content) -> dict[str, str]:
     words |= {it: filled(form.content, it=it) for it in ("x", "y")}
     words["content"] = filled(form.content, it="it")
     shown = form.shown or form.content
-    for key, it in (("it_shown", "it"), ("copy_shown", "y"), ("self_shown", "x")):
+    for key, it in (("made_shown", "it"), ("copy_shown", "y"), ("self_shown", "x")):
         words[key] = filled(shown, it=it, name=row.name)
-    if form.shown:
-        words["it_shown"] = f"({words['it_shown']})"
+    words["it_shown"] = f"({words['made_shown']})" if form.shown else words["made_shown"]
     words |= {"valid": form.valid, "whole": form.whole}
     words["same"] = row.equality.proof if row.equality else filled(DERIVED_SAME, **words)
     words["respects"] = row.equality.respects if row.equality else filled(DERIVED_RESPECTS, **words)
@@ -330,7 +331,7 @@ def uses(row: Content) -> Lines:
         "picky_der_de::{Begins, Deserialize, Deserializer, Faithful, Inhabited}",
         "picky_der_ser::{Serialize, Serializer}",
         "std::fmt",
-        *form.uses,
+        *(Template(it).substitute(module=row.module) for it in form.uses),
         *([row.code] if row.code else []),
     ]
     return [f"use {it};" for it in sorted(paths)]

@@ -2,7 +2,7 @@
 ghost use Rattle.std.specs.Prelude.{ℕ, List, Option, refl};
 ghost use Rattle.der_types.specs.ExactContents.{OwnContents, ProvedContents, content_under_values, parameter_contents};
 ghost use Rattle.der_types.specs.ExactStrings.{IsSet, string_values};
-ghost use Rattle.der_types.specs.MadeValues.{vec_of};
+ghost use Rattle.der_types.specs.MadeValues.{small_vec_of};
 
 use crate::{CharacterSet, Contents, Exact, ImplicitPrimitive, RestrictedString};
 
@@ -27,7 +27,7 @@ pub trait NotatedSet: CharacterSet {
 
 impl<S: NotatedSet> Exact for RestrictedString<S> {
     ghost values = { string_values S.permitted S.TAG S.WIDTH S.is_character (λ it. it.content.items) (λ it. it.canonical)
-        (λ s e h. (record { content = vec_of s h; set = record {}; canonical = e }, refl)) };
+        (λ s e h. (record { content = small_vec_of s; set = record {}; canonical = e }, refl)) };
 
     ghost exact = { Prim.assumption };
 }

@@ -12,16 +12,20 @@ ghost use Rattle.der_types.specs.TimeContents.{is_generalized_time, fraction_of}
 use crate::DateTime;
 use crate::time_contents::{content_of, date_time_at, year_at_first};
 use picky_der_core::{Asn1DerError, Result};
+use smallvec::SmallVec;
 use std::alloc::Global;
 use std::cmp::Ordering;
 use std::hash::{Hash, Hasher};
+
+// So many bytes of a content are kept in the value itself: a time to eight digits of a second has 24.
+pub(crate) const INLINE: usize = 24;
 
 /// A GeneralizedTime (X.690, 8.26, 11.7), by its content: `YYYYMMDDHHMMSSZ` of the years 0 to 9999. Before the Z a
 /// fraction of a second may be, of any length: a point and digits, of which the last isn't 0. Its order is that of
 /// time.
 #[derive(Drop)]
 pub struct GeneralizedTime {
-    pub(crate) content: Vec<u8>,
+    pub(crate) content: SmallVec<u8, INLINE>,
     ghost canonical: { is_generalized_time content.items ≡ true },
 }
 
@@ -36,7 +40,7 @@ impl GeneralizedTime {
     {
         let content = content_of(at);
         Ok(GeneralizedTime {
-            content: content.as_slice().to_vec(alloc)?,
+            content: SmallVec::from_slice(alloc, content.as_slice())?,
         })
     }
 

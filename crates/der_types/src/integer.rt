@@ -11,9 +11,14 @@ ghost use Rattle.der_types.specs.IntegerOrderLaws.{integer_ties};
 
 use picky_der_core::integer::{IntContent, number_of};
 use picky_der_core::{Asn1DerError, Int, Result};
+use smallvec::SmallVec;
 use std::alloc::Global;
 use std::cmp::Ordering;
 use std::fmt;
+
+// So many bytes of a content are kept in the value itself. A certificate's serial number has at most 20 (RFC 5280,
+// 4.1.2.2).
+pub(crate) const INLINE: usize = 24;
 
 /// An INTEGER of any size and sign (X.690, 8.3), kept as its content: two's complement in the fewest bytes, most
 /// significant byte first. Its order is that of numbers.
@@ -21,7 +26,7 @@ use std::fmt;
 /// It prints in decimal if it fits an `i128`, and else in hexadecimal, as `0x` or `-0x` and two digits for each byte.
 #[derive(Drop, PartialEq, Eq, Hash)]
 pub struct Integer {
-    pub(crate) content: Vec<u8>,
+    pub(crate) content: SmallVec<u8, INLINE>,
     ghost canonical: { is_integer content.items ≡ true },
 }
 
@@ -40,7 +45,7 @@ impl Integer {
     {
         let content = IntContent::of(number.into_bits());
         Ok(Integer {
-            content: content.as_slice().to_vec(alloc)?,
+            content: SmallVec::from_slice(alloc, content.as_slice())?,
         })
     }
 

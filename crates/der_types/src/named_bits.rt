@@ -6,7 +6,11 @@ ghost use Rattle.der_types.specs.BitString.{is_named_bits, bit_string_content, w
 
 use crate::bits::{bit_of, bits_with, content_of, len_of, with_bit, without_zeros};
 use picky_der_core::{Asn1DerError, Result};
+use smallvec::SmallVec;
 use std::alloc::Global;
+
+// So many bytes of a content are kept in the value itself.
+pub(crate) const INLINE: usize = 16;
 
 /// A bit string whose bits have names in its definition, as a set of flags has; `KeyUsage` of RFC 5280, 4.2.1.3 is one.
 /// Zero bits at the end are left out (X.690, 11.2.2): each set has one encoding. A bit that is left out is zero.
@@ -17,7 +21,7 @@ use std::alloc::Global;
 /// It prints as its bits, as `'1011'B` (X.680, 12.10). Its order is that of the bytes of its content.
 #[derive(Drop, PartialEq, Eq, PartialOrd, Ord, Hash)]
 pub struct NamedBits {
-    pub(crate) content: Vec<u8>,
+    pub(crate) content: SmallVec<u8, INLINE>,
     ghost canonical: { is_named_bits content.items ≡ true },
 }
 
@@ -29,7 +33,7 @@ impl NamedBits {
             ≡ bit_string_content (without_zeros bits.now)) }
         ensures err { IfErr result (λ e. e ≡ Asn1DerError.OutOfMemory) }
     {
-        let content = content_of(alloc, without_zeros(bits))?;
+        let content = SmallVec::from_vec(content_of(alloc, without_zeros(bits))?);
         Ok(NamedBits { content })
     }
 

@@ -20,9 +20,13 @@ use picky_der_core::misc::{ReadExt, WriteExt};
 use picky_der_core::{Asn1DerError, Result};
 use picky_der_de::{Begins, Deserialize, Deserializer};
 use picky_der_ser::{Serialize, Serializer};
+use smallvec::SmallVec;
 use std::alloc::{AllocError, Global};
 use std::fmt;
 use std::marker::PhantomData;
+
+// So many bytes of a content are kept in the value itself.
+const INLINE: usize = 24;
 
 /// A restricted character string (X.690, 8.23), kept as its content: characters of the set `S`, each in the same number
 /// of bytes.
@@ -31,7 +35,7 @@ use std::marker::PhantomData;
 #[derive(Drop)]
 #[derive_where(PartialEq, Eq, PartialOrd, Ord, Hash)]
 pub struct RestrictedString<S: CharacterSet> {
-    content: Vec<u8>,
+    content: SmallVec<u8, INLINE>,
     #[derive_where(skip)]
     set: PhantomData<S>,
     ghost canonical: { is_string_content S.WIDTH S.is_character content.items ≡ true },
@@ -152,7 +156,7 @@ impl<S: Unicode> RestrictedString<S> {
     {
         match content_of::<S>(alloc, text)? {
             Some(content) => Ok(RestrictedString {
-                content,
+                content: SmallVec::from_vec(content),
                 set: PhantomData,
             }),
             None => Err(Asn1DerError::InvalidData),
@@ -200,17 +204,30 @@ impl<S: CharacterSet> Contents for RestrictedString<S> {
     const TAG: u8 = S::TAG;
 
     fn from_content(content: Vec<u8>) -> Option<RestrictedString<S>>
-        ensures some { IfSome result (λ it. it.content ≡ content) }
+        ensures some { IfSome result (λ it. it.content.items ≡ content.items) }
         ensures none { IfNone result (is_string_content S.WIDTH S.is_character content.items
             ≡ false) }
     {
         if is_content::<S>(&content) {
             Some(RestrictedString {
-                content,
+                content: SmallVec::from_vec(content),
                 set: PhantomData,
             })
         } else {
             None
+        }
+    }
+
+    fn from_short(alloc: Global, bytes: &[u8]) -> Option<RestrictedString<S>> {
+        if bytes.len() > INLINE || !is_content::<S>(bytes) {
+            return None;
+        }
+        match SmallVec::from_slice(alloc, bytes) {
+            Ok(content) => Some(RestrictedString {
+                content,
+                set: PhantomData,
+            }),
+            Err(_) => None,
         }
     }
 

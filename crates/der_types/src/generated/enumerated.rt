@@ -13,7 +13,7 @@ ghost use Rattle.der_types.specs.ExactContents.{own_contents};
 ghost use Rattle.der_types.specs.ContentsFacts.{contents_of, contents_shape};
 ghost use Rattle.der_types.specs.Sameness.{content_sameness};
 ghost use Rattle.der_types.specs.SampleTrees.{exact_example};
-ghost use Rattle.der_types.specs.MadeValues.{vec_of};
+ghost use Rattle.der_types.specs.MadeValues.{small_vec_of};
 
 use crate::{
     Contents, Enumerated, Exact, ExactContents, Integer, Notated, deserialize_contents_as,
@@ -117,7 +117,7 @@ impl Notated for Enumerated {
 }
 
 impl Exact for Enumerated {
-    ghost values = { plain_values form.ENUMERATED-extensible (contents_of 0x0A (λ it. it.0.content.items)) (content_exact 0x0A is_integer (λ it. it.0.content.items) (λ it. it.0.canonical) (λ s e h. (record { 0 = record { content = vec_of s h; canonical = e } }, refl))) };
+    ghost values = { plain_values form.ENUMERATED-extensible (contents_of 0x0A (λ it. it.0.content.items)) (content_exact 0x0A is_integer (λ it. it.0.content.items) (λ it. it.0.canonical) (λ s e h. (record { 0 = record { content = small_vec_of s; canonical = e } }, refl))) };
 
     ghost exact = { Prim.assumption };
 }

@@ -12,8 +12,9 @@ ghost use Rattle.der_types.specs.ExactContents.{own_contents};
 ghost use Rattle.der_types.specs.ContentsFacts.{contents_of, contents_shape, contents_facts};
 ghost use Rattle.der_types.specs.Sameness.{content_sameness};
 ghost use Rattle.der_types.specs.SampleTrees.{exact_example};
-ghost use Rattle.der_types.specs.MadeValues.{vec_of};
+ghost use Rattle.der_types.specs.MadeValues.{small_vec_of};
 
+use crate::generalized_time::INLINE;
 use crate::time_contents::is_generalized_time;
 use crate::{Contents, Exact, ExactContents, GeneralizedTime, Notated, deserialize_contents_as};
 use picky_der_core::Result;
@@ -21,7 +22,8 @@ use picky_der_core::asn1::Tag;
 use picky_der_core::misc::{ReadExt, WriteExt};
 use picky_der_de::{Begins, Deserialize, Deserializer, Faithful, Inhabited};
 use picky_der_ser::{Serialize, Serializer};
-use std::alloc::AllocError;
+use smallvec::SmallVec;
+use std::alloc::{AllocError, Global};
 use std::fmt;
 
 impl Clone for GeneralizedTime {
@@ -55,13 +57,24 @@ impl Contents for GeneralizedTime {
     const TAG: u8 = 0x18;
 
     fn from_content(content: Vec<u8>) -> Option<GeneralizedTime>
-        ensures some { IfSome result (λ it. it.content ≡ content) }
+        ensures some { IfSome result (λ it. it.content.items ≡ content.items) }
         ensures none { IfNone result (is_generalized_time content.items ≡ false) }
     {
         if is_generalized_time(&content) {
+            let content = SmallVec::from_vec(content);
             Some(GeneralizedTime { content })
         } else {
             None
+        }
+    }
+
+    fn from_short(alloc: Global, bytes: &[u8]) -> Option<GeneralizedTime> {
+        if bytes.len() > INLINE || !is_generalized_time(bytes) {
+            return None;
+        }
+        match SmallVec::from_slice(alloc, bytes) {
+            Ok(content) => Some(GeneralizedTime { content }),
+            Err(_) => None,
         }
     }
 
@@ -117,7 +130,7 @@ impl Notated for GeneralizedTime {
 }
 
 impl Exact for GeneralizedTime {
-    ghost values = { plain_values form.GeneralizedTime (contents_of 0x18 (λ it. it.content.items)) (content_exact 0x18 is_generalized_time (λ it. it.content.items) (λ it. it.canonical) (λ s e h. (record { content = vec_of s h; canonical = e }, refl))) };
+    ghost values = { plain_values form.GeneralizedTime (contents_of 0x18 (λ it. it.content.items)) (content_exact 0x18 is_generalized_time (λ it. it.content.items) (λ it. it.canonical) (λ s e h. (record { content = small_vec_of s; canonical = e }, refl))) };
 
     ghost exact = { Prim.assumption };
 }

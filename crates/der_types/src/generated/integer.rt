@@ -13,8 +13,9 @@ ghost use Rattle.der_types.specs.ExactContents.{own_contents};
 ghost use Rattle.der_types.specs.ContentsFacts.{contents_of, contents_shape};
 ghost use Rattle.der_types.specs.Sameness.{content_sameness};
 ghost use Rattle.der_types.specs.SampleTrees.{exact_example};
-ghost use Rattle.der_types.specs.MadeValues.{vec_of};
+ghost use Rattle.der_types.specs.MadeValues.{small_vec_of};
 
+use crate::integer::INLINE;
 use crate::{Contents, Exact, ExactContents, Integer, Notated, deserialize_contents_as};
 use picky_der_core::Result;
 use picky_der_core::asn1::Tag;
@@ -22,7 +23,8 @@ use picky_der_core::integer::is_integer;
 use picky_der_core::misc::{ReadExt, WriteExt};
 use picky_der_de::{Begins, Deserialize, Deserializer, Faithful, Inhabited};
 use picky_der_ser::{Serialize, Serializer};
-use std::alloc::AllocError;
+use smallvec::SmallVec;
+use std::alloc::{AllocError, Global};
 use std::fmt;
 
 impl Clone for Integer {
@@ -56,13 +58,24 @@ impl Contents for Integer {
     const TAG: u8 = 0x02;
 
     fn from_content(content: Vec<u8>) -> Option<Integer>
-        ensures some { IfSome result (λ it. it.content ≡ content) }
+        ensures some { IfSome result (λ it. it.content.items ≡ content.items) }
         ensures none { IfNone result (is_integer content.items ≡ false) }
     {
         if is_integer(&content) {
+            let content = SmallVec::from_vec(content);
             Some(Integer { content })
         } else {
             None
+        }
+    }
+
+    fn from_short(alloc: Global, bytes: &[u8]) -> Option<Integer> {
+        if bytes.len() > INLINE || !is_integer(bytes) {
+            return None;
+        }
+        match SmallVec::from_slice(alloc, bytes) {
+            Ok(content) => Some(Integer { content }),
+            Err(_) => None,
         }
     }
 
@@ -118,7 +131,7 @@ impl Notated for Integer {
 }
 
 impl Exact for Integer {
-    ghost values = { plain_values form.INTEGER (contents_of 0x02 (λ it. it.content.items)) (content_exact 0x02 is_integer (λ it. it.content.items) (λ it. it.canonical) (λ s e h. (record { content = vec_of s h; canonical = e }, refl))) };
+    ghost values = { plain_values form.INTEGER (contents_of 0x02 (λ it. it.content.items)) (content_exact 0x02 is_integer (λ it. it.content.items) (λ it. it.canonical) (λ s e h. (record { content = small_vec_of s; canonical = e }, refl))) };
 
     ghost exact = { Prim.assumption };
 }

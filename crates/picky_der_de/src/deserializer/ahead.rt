@@ -75,8 +75,8 @@ pub(super) fn short_at_front(bytes: &[u8], tag: Tag) -> Option<&[u8]>
     Some(&bytes[2..end])
 }
 
-// The element at the front of these bytes, with its header. `None` if the element isn't there whole, or if its length has
-// more than one byte.
+// The element at the front of these bytes, with its header. `None` if the element isn't there whole, or if its length
+// has more than one byte.
 pub(super) fn short_element_at_front(bytes: &[u8]) -> Option<&[u8]>
     ensures is { IfSome result (λ element. IsPrefix element.now bytes.now) }
     ensures whole { IfSome result (λ element. IsElementInFront element.now (length element.now)) }

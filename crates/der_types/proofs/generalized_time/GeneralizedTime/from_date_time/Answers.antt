@@ -6,5 +6,5 @@ use Rattle.der_types.proofs.generalized_time.GeneralizedTime.from_date_time.Goal
 
 pub invariant_of-result : goal.invariant_of-result
 invariant_of-result c =
-    let is : c.in_ok-to_vec.field-0.items ≡ generalized_content c.args.at [] = search rules in
+    let is : c.in_ok-from_slice.field-0.items ≡ generalized_content c.args.at [] = search rules in
     record { canonical = ap is_generalized_time is ∙ generalized-valid c.args.at }

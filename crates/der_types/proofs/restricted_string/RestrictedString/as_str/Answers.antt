@@ -8,4 +8,4 @@ unreachable-requires g c =
     let it = c.args.self.now in
     let text = IsUtf8-content g.S.CharacterSet.WIDTH g.S.CharacterSet.is_character g.met.S.Ascii.ascii
     g.met.S.Ascii.one_byte it.content.items it.canonical in
-    c.in-Err.ensures.cases.0 (subst IsUtf8 (sym c.deref.ensures.value) text)
+    c.in-Err.ensures.cases.0 (subst IsUtf8 (sym c.deref.ensures) text)
