@@ -1,16 +1,12 @@
--- A test whether a byte is in a list.
-use Rattle.std.proofs.Common.{◌≡◌, ℕ, ◌==◌, List, [], ◌∷◌, refl, sym, ap, ◌∙◌}
-use Rattle.std.specs.Prelude.{◌||◌}
-use Rattle.std.specs.List.{list_any}
-use Rattle.std.proofs.lemmas.Bool.Decides.{same_from_decides, Decides-eqb}
+-- The identifier bytes of the universal types, as the bits of a number.
+use Rattle.std.proofs.Common.{◌≡◌, ℕ, ◌<◌, ◌/◌, ◌%◌, ◌^◌, ◌==◌, Bool, refl}
+use Rattle.std.proofs.lemmas.Bool.{agree_below_at}
 use Rattle.picky_der_core.specs.Shape.{contains}
+use Rattle.der_types.specs.WellFormed.{universal_identifiers}
 
-flipped : (x y : ℕ) → (x == y) ≡ (y == x)
-flipped x y =
-    same_from_decides (x == y) (y == x) (Decides-eqb x y)
-    (λ h. sym ((Decides-eqb y x).0 h), λ h. (Decides-eqb y x).1 (sym h))
+-- a bit of it is set
+abbrev pub is_universal : ℕ → Bool
+is_universal byte = 0x200389005FFCF6FE / 2 ^ byte % 2 == 1
 
-pub contains_flipped : (xs : List ℕ) (b : ℕ) → list_any (λ x. x == b) xs ≡ contains xs b
-contains_flipped [] b = refl
-contains_flipped (x ∷ xs) b =
-    ap (λ h. h || list_any (λ y. y == b) xs) (flipped x b) ∙ ap (λ h. (b == x) || h) (contains_flipped xs b)
+pub universal_bits : (byte : ℕ) → byte < 0x40 → is_universal byte ≡ contains universal_identifiers byte
+universal_bits byte below = agree_below_at is_universal (contains universal_identifiers) 0x40 byte refl below

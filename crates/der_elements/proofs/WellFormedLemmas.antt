@@ -10,7 +10,7 @@ use Rattle.picky_der_core.specs.Element.{tlv, length_octets, IsElement, IsPrefix
 use Rattle.picky_der_core.specs.ElementLaws.{tlv_prefix, length_octets_prefix, length_octets-short}
 use Rattle.picky_der_core.specs.ElementLaws.{length_octets-long}
 use Rattle.der_elements.specs.Fronts.{IsFront, HasNoFront}
-use Rattle.der_types.specs.WellFormed.{is_identifier, AreWellFormed}
+use Rattle.der_types.specs.WellFormed.{is_identifier, AreWellFormed, IsWellFormed}
 
 -- ---- the bytes at the front
 
@@ -88,6 +88,24 @@ pub not_one : (bytes : List ℕ) → HasNoFront bytes → IsElement bytes → �
 not_one bytes none one =
     none one.tag one.content []
     (record { number = one.number; is = one.is ∙ sym (append-nil (tlv one.tag one.content)) })
+
+-- a primitive element whose length is one byte
+pub short_primitive : (bytes : List ℕ) → 2 ≤ length bytes → get_or bytes 1 0 < 0x80
+    → get_or bytes 1 0 + 2 ≡ length bytes → IsTagNumber (number_of (get_or bytes 0 0))
+    → is_constructed (get_or bytes 0 0) ≡ false → is_identifier (get_or bytes 0 0) ≡ true → IsWellFormed bytes
+unfolding tlv
+short_primitive [] some short size number bit identifier = absurd (omega arith)
+short_primitive (x ∷ []) some short size number bit identifier = absurd (omega arith)
+short_primitive (x ∷ y ∷ content) some short size number bit identifier =
+    let n : y ≡ length content = omega (arith, size) in
+    let octets : length_octets (length content) ≡ y ∷ [] =
+    subst (λ k. length_octets k ≡ y ∷ []) n (length_octets-short y short) in
+    let is : x ∷ y ∷ content ≡ tlv x content = ap (λ l. x ∷ (l ++ content)) (sym octets) in
+    record {
+      one = record { tag = x; content = content; number = number; is = is };
+      elements = AreWellFormed.primitive (x ∷ y ∷ content) x content [] (is ∙ sym (append-nil (tlv x content))) number
+          identifier bit AreWellFormed.none;
+    }
 
 -- ---- well-formed elements by the first of them
 

@@ -14,7 +14,7 @@ ghost use Rattle.picky_der_de.specs.Whole.{IsWhole, IsNoEncoding};
 ghost use Rattle.der_types.specs.WellFormed.{IsWellFormed};
 ghost use Rattle.der_elements.specs.Refusals.{RefusesElement, RefusesValue};
 
-use crate::is_well_formed;
+use crate::{RawElement, is_well_formed};
 use picky_asn1_der::Asn1RawDer;
 use picky_der_core::asn1::Tag;
 use picky_der_core::misc::{ReadExt, WriteExt};
@@ -34,7 +34,7 @@ use std::hash::Hash;
 /// error is one of `Asn1RawDer`.
 #[derive(Drop, PartialEq, Eq, PartialOrd, Ord, Hash)]
 pub struct AnyElement {
-    element: Asn1RawDer,
+    element: RawElement,
     ghost well_formed: { ∥ IsWellFormed element.0.items ∥₁ },
 }
 
@@ -56,7 +56,15 @@ impl AnyElement {
         ensures ok { IfOk result (λ it. ⟦<AnyElement as Serialize>⟧.meaning it ≡ Tree.raw element.0.items) }
         ensures err { IfErr result (RefusesElement element.0.items) }
     {
-        match is_well_formed(*element.0.allocator(), &element.0) {
+        AnyElement::tested(RawElement::from(element))
+    }
+
+    // This element, if it is one of DER with elements in it.
+    fn tested(element: RawElement) -> Result<AnyElement>
+        ensures ok { IfOk result (λ it. ⟦<AnyElement as Serialize>⟧.meaning it ≡ Tree.raw element.0.items) }
+        ensures err { IfErr result (RefusesElement element.0.items) }
+    {
+        match is_well_formed(element.allocator(), element.as_bytes()) {
             Ok(true) => Ok(AnyElement { element }),
             Ok(false) => Err(Asn1DerError::InvalidData),
             Err(_) => Err(Asn1DerError::OutOfMemory),
@@ -77,18 +85,18 @@ impl AnyElement {
         ensures value { ⟦<AnyElement as Serialize>⟧.meaning self.now ≡ Tree.raw result.now }
         ensures well_formed { ∥ IsWellFormed result.now ∥₁ }
     {
-        self.element.0.as_slice()
+        self.element.as_bytes()
     }
 
     /// Returns the element as one of which nothing is known.
-    pub fn as_raw(&self) -> &Asn1RawDer
+    pub fn as_raw(&self) -> &RawElement
         ensures { ⟦<AnyElement as Serialize>⟧.meaning self.now ≡ Tree.raw result.now.0.items }
     {
         &self.element
     }
 
     /// Returns the element as one of which nothing is known.
-    pub fn into_raw(self) -> Asn1RawDer
+    pub fn into_raw(self) -> RawElement
         ensures { ⟦<AnyElement as Serialize>⟧.meaning self ≡ Tree.raw result.0.items }
     {
         let AnyElement { element } = self;
@@ -105,7 +113,7 @@ impl AnyElement {
             → IfErr result (λ refusal. RefusesWholeBy T.meaning T.shape T.facts.rule bytes refusal.error
             refusal.position) }
     {
-        from_der(*self.element.0.allocator(), &self.element.0)
+        from_der(self.element.allocator(), self.element.as_bytes())
     }
 }
 
@@ -114,10 +122,8 @@ impl Clone for AnyElement {
     ghost is_clone = { λ x y. y.element.0.items ≡ x.element.0.items };
 
     fn clone(&self) -> std::result::Result<AnyElement, AllocError> {
-        match self.element.clone() {
-            Ok(element) => Ok(AnyElement { element }),
-            Err(_) => Err(AllocError),
-        }
+        let element = self.element.clone()?;
+        Ok(AnyElement { element })
     }
 }
 
@@ -137,19 +143,19 @@ impl Serialize for AnyElement {
 }
 
 impl TryVia for AnyElement {
-    type As = Asn1RawDer;
+    type As = RawElement;
 
     ghost parts = { λ it. it.element };
 
-    fn try_from_parts(element: Asn1RawDer) -> Result<AnyElement> {
-        AnyElement::from_element(element)
+    fn try_from_parts(element: RawElement) -> Result<AnyElement> {
+        AnyElement::tested(element)
     }
 }
 
 impl Deserialize for AnyElement {
     ghost shape = { Shape.raw };
 
-    ghost facts = { ruled (tested_rule ⟦<Asn1RawDer as Serialize>⟧.meaning Shape.raw ⟦<AnyElement as TryVia>⟧.parts raw_rule)
+    ghost facts = { ruled (tested_rule ⟦<RawElement as Serialize>⟧.meaning Shape.raw ⟦<AnyElement as TryVia>⟧.parts raw_rule)
         (raw_facts (λ it. it.element.0.items)) };
 
     ghost proved = { Prim.assumption };
@@ -161,6 +167,6 @@ impl Deserialize for AnyElement {
 
 impl Begins for AnyElement {
     fn begins_with(tag: Tag) -> bool {
-        Asn1RawDer::begins_with(tag)
+        RawElement::begins_with(tag)
     }
 }

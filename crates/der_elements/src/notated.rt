@@ -3,13 +3,13 @@ ghost use Rattle.std.specs.Prelude.{◌≡◌, [], ◌∷◌, refl};
 ghost use lib.Dec.{eqb};
 ghost use lib.Pointwise.{pointwise};
 ghost use Rattle.picky_der_core.specs.Tree.{Tree};
-ghost use Rattle.picky_der_de.specs.Examples.{null_element, null_element_readable};
+ghost use Rattle.picky_der_de.specs.Examples.{null_element_readable};
 ghost use Rattle.picky_der_de.specs.Faithful.{plain_sameness, plain_members, bytes_respect, others_respect};
 ghost use Rattle.picky_der_de.specs.OtherLaws.{others_of};
 ghost use Rattle.picky_der_core.specs.Shape.{firsts_of};
 ghost use Rattle.picky_asn1_der.specs.LaterTags.{in_both_forms};
 ghost use Rattle.der_types.specs.Exact.{plain_values};
-ghost use Rattle.der_types.specs.MadeValues.{vec_of};
+ghost use Rattle.der_types.specs.MadeValues.{small_vec_of, vec_of};
 ghost use Rattle.der_types.specs.Notation.{Notation, Members};
 ghost use Rattle.der_types.specs.WellFormedLaws.{null_well_formed};
 ghost use Rattle.der_elements.specs.ExactElements.{well_formed_exact};
@@ -28,7 +28,7 @@ impl Notated for AnyElement {
 impl Exact for AnyElement {
     ghost values = { plain_values Notation.well-formed-element (λ it. Tree.raw it.element.0.items)
         (well_formed_exact (λ it. it.element.0.items) (λ it. it.well_formed)
-        (λ s w h. (record { element = record { 0 = vec_of s h }; well_formed = w }, refl))) };
+        (λ s w h. (record { element = record { 0 = small_vec_of s }; well_formed = w }, refl))) };
 
     ghost exact = { Prim.assumption };
 }
@@ -42,7 +42,7 @@ impl Faithful for AnyElement {
 
 impl Inhabited for AnyElement {
     ghost example = { (
-      record { element = record { 0 = null_element }; well_formed = ∣ null_well_formed ∣₁ },
+      record { element = record { 0 = small_vec_of (0x05 ∷ 0x00 ∷ []) }; well_formed = ∣ null_well_formed ∣₁ },
       null_element_readable,
     ) };
 }
@@ -61,7 +61,7 @@ impl<const N: u8> NotatedMembers for LaterElementsFrom<N> {
 
 impl<A: Alternatives> ExactMembers for LaterElements<A> {
     ghost all_values = { others_values (λ e. e.element.0.items) (λ e. e.well_formed)
-        (λ s w h. (record { element = record { 0 = vec_of s h }; well_formed = w }, refl))
+        (λ s w h. (record { element = record { 0 = small_vec_of s }; well_formed = w }, refl))
         (in_both_forms (firsts_of A.shapes)) (λ it. it.elements.items) (λ it. it.outside)
         (λ es o h. (record { elements = vec_of es h; before = record {}; outside = o }, refl)) };
 
@@ -70,7 +70,7 @@ impl<A: Alternatives> ExactMembers for LaterElements<A> {
 
 impl<const N: u8> ExactMembers for LaterElementsFrom<N> {
     ghost all_values = { numbered_values (λ e. e.element.0.items) (λ e. e.well_formed)
-        (λ s w h. (record { element = record { 0 = vec_of s h }; well_formed = w }, refl)) N
+        (λ s w h. (record { element = record { 0 = small_vec_of s }; well_formed = w }, refl)) N
         (λ it. it.elements.items) (λ it. it.numbered)
         (λ es o h. (record { elements = vec_of es h; numbered = o }, refl)) };
 

@@ -8,19 +8,17 @@ use picky_der_core::asn1::Tag;
 use picky_der_core::misc::Length;
 use std::alloc::{AllocError, Global};
 
-// The identifier bytes of the universal types: from BOOLEAN to ObjectDescriptor, EXTERNAL, REAL, ENUMERATED, EMBEDDED
-// PDV, UTF8String, RELATIVE-OID, TIME, the reserved number 15 in both forms, SEQUENCE, SET, from NumericString to
-// UniversalString, CHARACTER STRING and BMPString.
-const UNIVERSAL_IDENTIFIERS: [u8; 31] = [
-    0x01, 0x02, 0x03, 0x04, 0x05, 0x06, 0x07, 0x28, 0x09, 0x0A, 0x2B, 0x0C, 0x0D, 0x0E, 0x0F, 0x2F,
-    0x30, 0x31, 0x12, 0x13, 0x14, 0x15, 0x16, 0x17, 0x18, 0x19, 0x1A, 0x1B, 0x1C, 0x3D, 0x1E,
-];
+// The identifier bytes of the universal types, the bit with its number set for each: from BOOLEAN to ObjectDescriptor
+// (01 to 07), REAL, ENUMERATED, UTF8String, RELATIVE-OID, TIME, the reserved number 15 in both forms (0F and 2F), from
+// NumericString to UniversalString (12 to 1C), BMPString, EXTERNAL (28), EMBEDDED PDV, SEQUENCE, SET (31) and CHARACTER
+// STRING (3D).
+const UNIVERSAL_IDENTIFIERS: u64 = 0x2003_8900_5FFC_F6FE;
 
 // Whether encodings of some type have this identifier byte.
 fn is_identifier(byte: u8) -> bool
     ensures { result ≡ is_identifier byte }
 {
-    UNIVERSAL_IDENTIFIERS.contains(&byte) || byte >= 0x40
+    byte >= 0x40 || (UNIVERSAL_IDENTIFIERS >> byte) % 2 == 1
 }
 
 // The length at the front of these bytes, and the bytes after it, or `None` if no length is there.
@@ -93,10 +91,24 @@ pub fn are_well_formed(alloc: Global, bytes: &[u8]) -> Result<bool, AllocError>
     }
 }
 
+// Whether the bytes are one primitive element of some type, with a length of one byte.
+fn is_short_primitive(bytes: &[u8]) -> bool
+    ensures { IsTrue result → IsWellFormed bytes.now }
+{
+    if bytes.len() < 2 || bytes[1] >= 0x80 || usize::from(bytes[1]) + 2 != bytes.len() {
+        return false;
+    }
+    let tag = Tag::from(bytes[0]);
+    tag.number() <= Tag::MAX_NUMBER && !tag.is_constructed() && is_identifier(bytes[0])
+}
+
 /// Returns whether the bytes are one such element. The only error is a failed allocation.
 pub fn is_well_formed(alloc: Global, bytes: &[u8]) -> Result<bool, AllocError>
     ensures { IfOk result (λ is. IsTrue is ↔ IsWellFormed bytes.now) }
 {
+    if is_short_primitive(bytes) {
+        return Ok(true);
+    }
     match split_element(bytes) {
         Some((_, _, after)) if after.is_empty() => are_well_formed(alloc, bytes),
         _ => Ok(false),

@@ -146,15 +146,15 @@ fn examine_content(
     if !content_type.is(values::ID_SIGNED_DATA) {
         return Ok(Outcome::Refused(Refusal::OtherContent(content_type)));
     }
-    let content = content.0.into_raw().0;
-    match from_der::<SignedData>(alloc, &content) {
+    let encoding = content.0.as_bytes();
+    match from_der::<SignedData>(alloc, encoding) {
         Ok(signed_data) => {
-            let message = read_message(alloc, &content, &signed_data, request)?;
+            let message = read_message(alloc, encoding, &signed_data, request)?;
             Ok(Outcome::Read(message))
         }
         Err(refusal) => {
             let DecodeError { error, position } = reported(refusal)?;
-            let position = bytes.len().saturating_sub(content.len()) + position;
+            let position = bytes.len().saturating_sub(encoding.len()) + position;
             let refusal = DecodeError { error, position };
             Ok(Outcome::Refused(Refusal::NoSignedData(refusal)))
         }

@@ -1,7 +1,7 @@
 //! Values of open types as elements, in bytes that X.690 gives by hand (8.1 to 8.3, 8.8 and 8.9).
 
 use crate::tests::checks::bytes;
-use der_elements::{AnyElement, are_well_formed, is_well_formed};
+use der_elements::{AnyElement, RawElement, are_well_formed, is_well_formed};
 use picky_asn1_der::Asn1DerError::InvalidData;
 use picky_asn1_der::{Asn1RawDer, Result};
 use std::collections::HashSet;
@@ -42,8 +42,8 @@ fn an_element_is_made_of_a_value_and_read_as_one(rt: HostRuntime) {
     let text = format!(in rt.alloc(); "{seven:?}").expect(&rt, "memory");
     same!(rt; text.as_str(), "RawDer(0x020107)");
     let raw = Asn1RawDer::from(bytes(&rt, "02 01 07"));
-    same!(rt; *seven.as_raw() == raw, true);
-    same!(rt; seven.into_raw() == raw, true);
+    same!(rt; seven.as_raw().as_bytes(), raw.0.as_slice());
+    same!(rt; seven.into_raw() == RawElement::from(raw), true);
     same!(rt; AnyElement::from_value(rt.alloc(), &None::<u8>).err(), Some(InvalidData));
 }
 

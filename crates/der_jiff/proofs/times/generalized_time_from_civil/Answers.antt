@@ -16,7 +16,7 @@ returns-in_ok-content-in-Some-clause-some c =
     ≡ generalized_content c.in-Some.whole (fewest_digits 9 nanoseconds) = c.in_ok-content-in-Some.ensures.is
     ∙ ap (λ n. generalized_content c.in-Some.whole (fewest_digits 9 n)) cast in
     IfSome_then c.from_content.result c.from_content.ensures.some
-    (λ it same. shows_content c.args.at c.in-Some.whole it.content.items nanoseconds (ap (λ v. v.items) same
+    (λ it same. shows_content c.args.at c.in-Some.whole it.content.items nanoseconds (same
     ∙ content) c.args.at.time.subsec_in c.in-Some.ensures.some)
 
 pub returns-in_ok-content-in-Some-clause-none : goal.returns-in_ok-content-in-Some-clause-none

@@ -12,8 +12,8 @@ returns-then-not-is-clause-ok c =
 pub returns-in-Ok-clause-ok : goal.returns-in-Ok-clause-ok
 returns-in-Ok-clause-ok c =
     let kind : content_of c.args.message.content_type ≡ signed_data_identifier = search rules in
-    let value : c.deref.result.now ≡ content_bytes c.args.message =
-    c.deref.ensures.value ∙ by_meaning c.args.message.content.0 c.into_raw.result.0.items c.into_raw.ensures in
+    let value : c.as_bytes.result.now ≡ content_bytes c.args.message =
+    by_meaning c.args.message.content.0 c.as_bytes.result.now c.as_bytes.ensures.value in
     record {
       message = c.args.message;
       whole = c.requires;
@@ -28,12 +28,12 @@ returns-clause-ok c =
     let kind : content_of c.args.message.content_type ≡ signed_data_identifier = search rules in
     let content = content_bytes c.args.message in
     let was = c.in_ok-error-in-Err.field-0 in
-    let value : c.deref.result.now ≡ content =
-    c.deref.ensures.value ∙ by_meaning c.args.message.content.0 c.into_raw.result.0.items c.into_raw.ensures in
+    let value : c.as_bytes.result.now ≡ content =
+    by_meaning c.args.message.content.0 c.as_bytes.result.now c.as_bytes.ensures.value in
     let refused : IsNoSignedData content c.in-Err.refusal c.in-Err.refusal.position =
     rw value at c.in-Err.ensures.err in
     let position : c.saturating_sub.result + was.position ≡ (length c.args.bytes.now - length content) + was.position =
-    omega (arith, c.saturating_sub.ensures, c.len.ensures, c.deref.ensures.len, ap length value) in
+    omega (arith, c.saturating_sub.ensures, ap length value) in
     record {
       message = c.args.message;
       whole = c.requires;

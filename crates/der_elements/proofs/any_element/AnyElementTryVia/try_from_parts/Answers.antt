@@ -3,5 +3,5 @@ use Rattle.der_elements.proofs.any_element.AnyElementTryVia.try_from_parts.Goals
 
 pub returns-clause-err : goal.returns-clause-err
 returns-clause-err c =
-    no_value (λ raw. raw.0.items) (λ it. it.element) (λ it. it.well_formed) c.args.element c.from_element.result
-    c.from_element.ensures.err
+    no_value (λ raw. raw.0.items) (λ it. it.element) (λ it. it.well_formed) c.args.element c.tested.result
+    c.tested.ensures.err

@@ -10,6 +10,6 @@ invariant_of-result g c =
     let some = rw c.in-Some.is at c.in_ok-content.ensures.some in
     let each = rw c.in-Some.is at c.in_ok-content.ensures.each in
     record {
-      canonical = ap (is_string_content width p) (c.from_vec.ensures.items ∙ some) ∙ is_string_content-content width p (chars c.args.text.now)
-          ∙ each;
+      canonical = ap (is_string_content width p) (c.from_vec.ensures.items ∙ some)
+          ∙ is_string_content-content width p (chars c.args.text.now) ∙ each;
     }
