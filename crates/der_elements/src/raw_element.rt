@@ -16,9 +16,9 @@ use std::fmt;
 use std::hash::Hash;
 
 // So many bytes are kept in the value itself.
-const INLINE: usize = 24;
+const INLINE: usize = 16;
 
-/// One element, whatever its tag, by its bytes with the header (X.690, 8.1.1), as `Asn1RawDer` has them. Up to 24 bytes
+/// One element, whatever its tag, by its bytes with the header (X.690, 8.1.1), as `Asn1RawDer` has them. Up to 16 bytes
 /// are kept in the value itself.
 #[derive(Drop, PartialEq, Eq, PartialOrd, Ord, Hash)]
 pub struct RawElement(SmallVec<u8, INLINE>);
