@@ -12,12 +12,37 @@ ghost use Rattle.der_types.specs.Exact.{plain_values};
 ghost use Rattle.der_types.specs.MadeValues.{small_vec_of, vec_of};
 ghost use Rattle.der_types.specs.Notation.{Notation, Members};
 ghost use Rattle.der_types.specs.WellFormedLaws.{null_well_formed};
+ghost use Rattle.der_types.specs.ExactContents.{raw_exact};
 ghost use Rattle.der_elements.specs.ExactElements.{well_formed_exact};
 ghost use Rattle.der_elements.specs.ExactLater.{others_values, numbered_values};
 
-use crate::{AnyElement, LaterElements, LaterElementsFrom};
+use crate::{AnyElement, LaterElements, LaterElementsFrom, RawElement};
 use der_types::{Exact, ExactMembers, Notated, NotatedMembers};
 use picky_der_de::{Alternatives, Faithful, FaithfulMembers, Inhabited};
+
+impl Notated for RawElement {
+    ghost notation = { Notation.any-element };
+
+    ghost denoted = { refl };
+}
+
+impl Exact for RawElement {
+    ghost values = { plain_values Notation.any-element (λ it. Tree.raw it.0.items)
+        (raw_exact (λ it. it.0.items) (λ s e h. (record { 0 = small_vec_of s }, refl))) };
+
+    ghost exact = { Prim.assumption };
+}
+
+impl Faithful for RawElement {
+    ghost sameness = { plain_sameness (λ x y. pointwise eqb x.0.items y.0.items) (λ it. Tree.raw it.0.items)
+        (bytes_respect Tree.raw (λ it. it.0.items)) };
+
+    ghost respects = { Prim.assumption };
+}
+
+impl Inhabited for RawElement {
+    ghost example = { (record { 0 = small_vec_of (0x05 ∷ 0x00 ∷ []) }, null_element_readable) };
+}
 
 impl Notated for AnyElement {
     ghost notation = { Notation.well-formed-element };
