@@ -99,7 +99,10 @@ fn is_short_primitive(bytes: &[u8]) -> bool
         return false;
     }
     let tag = Tag::from(bytes[0]);
-    tag.number() <= Tag::MAX_NUMBER && !tag.is_constructed() && is_identifier(bytes[0])
+    if tag.number() > Tag::MAX_NUMBER || tag.is_constructed() {
+        return false;
+    }
+    is_identifier(tag.inner())
 }
 
 /// Returns whether the bytes are one such element. The only error is a failed allocation.
