@@ -69,10 +69,10 @@ impl Integer {
 
     // Returns how many bytes its content has, below zero for a negative number. A number with more bytes is further
     // from 0.
-    fn signed_len(&self) -> i64
+    fn signed_len(&self) -> i128
         ensures { result ≡ signed_length self.now.content.items }
     {
-        let len = self.content.len() as i64;
+        let len = self.content.len() as i128;
         if self.is_negative() { -len } else { len }
     }
 }
