@@ -1,8 +1,11 @@
 //! Elements whatever their tags, whose bytes are kept in the value if they are few.
-ghost use Rattle.std.specs.Prelude.{◌≡◌};
+ghost use Rattle.std.specs.Prelude.{◌≡◌, IfOk, IfErr};
 ghost use Rattle.picky_der_core.specs.Shape.{Shape};
 ghost use Rattle.picky_der_core.specs.Tree.{Tree};
 ghost use Rattle.picky_der_de.specs.Facts.{raw_facts};
+ghost use Rattle.picky_der_de.specs.PlainRules.{raw_rule};
+ghost use Rattle.picky_der_de.specs.Reading.{Reads, Refuses};
+ghost use Rattle.picky_der_de.specs.RefusesBy.{RefusesBy};
 
 use picky_asn1_der::Asn1RawDer;
 use picky_der_core::Result;
@@ -87,6 +90,16 @@ impl ShortContent for RawElement {
     }
 }
 
+// Reads the next element into a vector first.
+fn read_long<R: ReadExt>(deserializer: &mut Deserializer<R>) -> Result<RawElement>
+    ensures ok { IfOk result (λ it. Reads Shape.raw deserializer.old deserializer.new (Tree.raw it.0.items)) }
+    ensures err { IfErr result (Refuses ⟦<RawElement as Serialize>⟧.meaning Shape.raw deserializer.old
+        deserializer.new) }
+    ensures refused_by { IfErr result (RefusesBy raw_rule deserializer.old deserializer.new) }
+{
+    Ok(RawElement(SmallVec::from_vec(deserializer.deserialize_raw()?)))
+}
+
 impl Deserialize for RawElement {
     ghost shape = { Shape.raw };
 
@@ -97,7 +110,7 @@ impl Deserialize for RawElement {
     fn deserialize<R: ReadExt>(deserializer: &mut Deserializer<R>) -> Result<RawElement> {
         match deserializer.deserialize_short_element() {
             Some(element) => Ok(element),
-            None => Ok(RawElement(SmallVec::from_vec(deserializer.deserialize_raw()?))),
+            None => read_long(deserializer),
         }
     }
 }

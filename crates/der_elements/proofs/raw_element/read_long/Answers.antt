@@ -1,6 +1,6 @@
 use Rattle.std.proofs.lemmas.Result.{err_from_is_err_and}
 use Rattle.picky_der_de.proofs.PlainReads.{refuses_of}
-use Rattle.der_elements.proofs.raw_element.RawElementDeserialize.deserialize.Goals as goal
+use Rattle.der_elements.proofs.raw_element.read_long.Goals as goal
 
 pub returns-in_err-deserialize_raw-clause-err : goal.returns-in_err-deserialize_raw-clause-err
 returns-in_err-deserialize_raw-clause-err g c =
