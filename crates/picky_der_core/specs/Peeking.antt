@@ -44,11 +44,18 @@ shown_by false n = n
 abbrev pub IsFirstIn : Option (List ℕ) → ℕ → Type 0
 IsFirstIn left b = IfSome left (λ bytes. take 1 bytes ≡ b ∷ [])
 
--- a peeked byte that the reader still has is the first byte of `ahead`
-abbrev pub IsShown : Bool → Option ℕ → ℕ → Option (List ℕ) → Type 0
-IsShown true peeked n left = ⊤
-IsShown false None n left = ⊤
-IsShown false (Some b) n left = (0 < n) × IsFirstIn left b
+-- a reader that showed no byte gave this one
+pub record IsFetched {R : Type 0} (shown : R → ℕ) (remaining : R → Option (List ℕ)) (b : ℕ) : Type 0 where
+  pub before : R
+  pub hidden : shown before ≡ 0
+  pub gave : IsFirstIn (remaining before) b
+
+-- a peeked byte that the reader still has is the first byte of `ahead`; another one was read from it
+abbrev pub IsShown : {R : Type 0} → (R → ℕ) → (R → Option (List ℕ)) → Bool → Option ℕ → R → Type 0
+IsShown shown remaining true None r = ⊤
+IsShown shown remaining true (Some b) r = IsFetched shown remaining b
+IsShown shown remaining false None r = ⊤
+IsShown shown remaining false (Some b) r = (0 < shown r) × IsFirstIn (remaining r) b
 
 -- a byte, if there is one
 abbrev pub IsByteIfAny : Option ℕ → Type 0

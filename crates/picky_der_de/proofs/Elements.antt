@@ -53,7 +53,7 @@ just_with_implicit_tag h = record { left = h.left; refused = h.refused; input = 
 -- ---- elements and their tags
 
 -- the element is whole wherever it is
-written_raw : (place : Place) (s : List ℕ) → written_at place (Tree.raw s) ≡ s
+pub written_raw : (place : Place) (s : List ℕ) → written_at place (Tree.raw s) ≡ s
 written_raw Place.whole s = der-raw s
 written_raw (Place.under_implicit ahead) s = implicit_content-other (Tree.raw s) refl tt ∙ der-raw s
 

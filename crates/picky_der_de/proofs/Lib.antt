@@ -9,6 +9,7 @@ pub mod PlainReads
 pub mod Elements
 pub mod Ends
 pub mod Ahead
+pub mod Lent
 pub mod EntryReads
 pub mod WrapperReads
 pub mod Peeked

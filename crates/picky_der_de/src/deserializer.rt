@@ -14,6 +14,7 @@ ghost use Rattle.picky_der_de.specs.Refusing.{FailsAs};
 mod ahead;
 mod fetch;
 mod header;
+mod lent;
 mod nesting;
 mod octets;
 mod peek;

@@ -8,6 +8,7 @@ mod boolean;
 mod choice;
 mod choice4;
 mod deserialize;
+mod deserialize_from;
 mod deserializer;
 mod end;
 mod entry;
@@ -16,7 +17,9 @@ mod generated;
 mod impls;
 mod inhabited;
 mod integer;
+mod lent;
 mod members;
+mod members_from;
 mod null;
 mod plain_kind;
 mod sequence;
@@ -32,6 +35,7 @@ pub use boolean::Boolean;
 pub use choice::{Choice, deserialize_choice_as};
 pub use choice4::Choice4;
 pub use deserialize::Deserialize;
+pub use deserialize_from::DeserializeFrom;
 pub use deserializer::Deserializer;
 use end::End;
 pub use entry::{DEFAULT_MAX_LEN, from_bytes, from_reader, from_reader_with_max_len};
@@ -40,7 +44,11 @@ pub use faithful::{
 };
 pub use inhabited::Inhabited;
 pub use integer::UnsignedInteger;
+pub use lent::{Lent, RawSlice, TaggedSlice};
 pub use members::{DeserializeMember, DeserializeMembers, Struct, deserialize_struct_as};
+pub use members_from::{
+    DeserializeMemberFrom, DeserializeMembersFrom, LentMember, StructFrom, deserialize_struct_from,
+};
 pub use null::Null;
 pub use picky_der_core::{Int, UInt};
 pub use sequence::Sequence;

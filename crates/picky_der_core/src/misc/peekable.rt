@@ -8,6 +8,8 @@ ghost use Rattle.picky_der_core.specs.Reader.{GivesByte, GivesNext, ConsumesFirs
 ghost use Rattle.picky_der_core.specs.Peeking.{prepend, left_in, shown_by, IsFirstIn, IsByteIfAny, count_of_any};
 ghost use Rattle.picky_der_core.specs.Peeking.{position_after};
 
+mod lent;
+
 use super::ReadExt;
 use std::io;
 use std::io::{Error, ErrorKind, Read};
@@ -34,7 +36,7 @@ impl<R: ReadExt> Model for PeekableReader<R> {
     ghost view = { λ p. record { reader = p.reader; peeked = p.peeked; fetched = p.fetched; pos = p.pos } };
 
     ghost invariant = { λ p. IsByteIfAny p.peeked × (p.pos < 2 ^ 64)
-        × IsShown p.fetched p.peeked (R.shown p.reader) (R.remaining p.reader) };
+        × IsShown R.shown R.remaining p.fetched p.peeked p.reader };
 }
 
 impl<R: ReadExt> PeekableReader<R> {
