@@ -5,7 +5,7 @@ ghost use Rattle.picky_der_de.specs.SetOrder.{IsCompared};
 mod order;
 
 use crate::deserializer::EnclosingEnd;
-use crate::{Begins, Deserialize, Deserializer};
+use crate::{BeginsFrom, DeserializeFrom, Deserializer};
 use order::{Next, first_of, is_tested, read_in_set};
 use picky_der_core::asn1::Tag;
 use picky_der_core::misc::ReadExt;
@@ -73,7 +73,7 @@ impl<'a, R: ReadExt> Sequence<'a, R> {
     /// In a set that was begun by `deserialize_set`, a member whose encoding is less than the one before it is
     /// `InvalidData` (X.690, 11.6). No byte after that member is consumed. `OutOfMemory` if the allocation for this
     /// test fails. Any other error is the member's.
-    pub fn next_element<T: Deserialize>(&mut self) -> Result<Option<T>>
+    pub fn next_element<T: DeserializeFrom<R>>(&mut self) -> Result<Option<T>>
         ensures same_reference { borrowed_by self.new ≡ borrowed_by self.old }
         ensures outer { outer_of self.new ≡ outer_of self.old }
         ensures member { IfOk result (λ next. IfSome next
@@ -95,7 +95,7 @@ impl<'a, R: ReadExt> Sequence<'a, R> {
 
     /// The next member. At the end the error is `TruncatedData`, and nothing is consumed. Any other error is that of
     /// `next_element`.
-    pub fn next_field<T: Deserialize>(&mut self) -> Result<T>
+    pub fn next_field<T: DeserializeFrom<R>>(&mut self) -> Result<T>
         ensures same_reference { borrowed_by self.new ≡ borrowed_by self.old }
         ensures outer { outer_of self.new ≡ outer_of self.old }
         ensures ok { IfOk result (λ value. ReadsMember T.shape (state_of self.old)
@@ -115,7 +115,7 @@ impl<'a, R: ReadExt> Sequence<'a, R> {
 
     // The next member, if the end isn't here.
     #[inline(always)]
-    fn read_member<T: Deserialize>(&mut self) -> Result<T>
+    fn read_member<T: DeserializeFrom<R>>(&mut self) -> Result<T>
         requires had_not_failed { (state_of self.old).failed ≡ None }
         ensures same_reference { borrowed_by self.new ≡ borrowed_by self.old }
         ensures outer { outer_of self.new ≡ outer_of self.old }
@@ -128,7 +128,7 @@ impl<'a, R: ReadExt> Sequence<'a, R> {
         if is_tested(self.next) {
             return read_in_set(self.de, &mut self.next);
         }
-        T::deserialize(self.de)
+        T::deserialize_from(self.de)
     }
 
     /// The tag of the next member, without consuming it, or `None` exactly at the end. Nothing is allocated.
@@ -159,7 +159,7 @@ impl<'a, R: ReadExt> Sequence<'a, R> {
     /// consumes nothing.
     ///
     /// The errors are those of `next_element` and `next_tag`.
-    pub fn next_optional<T: Begins>(&mut self) -> Result<Option<T>>
+    pub fn next_optional<T: BeginsFrom<R>>(&mut self) -> Result<Option<T>>
         ensures same_reference { borrowed_by self.new ≡ borrowed_by self.old }
         ensures outer { outer_of self.new ≡ outer_of self.old }
         ensures member { IfOk result (λ next. IfSome next
@@ -173,7 +173,7 @@ impl<'a, R: ReadExt> Sequence<'a, R> {
     {
         match self.next_tag() {
             Ok(Some(tag)) => {
-                if T::begins_with(tag) {
+                if T::begins_from(tag) {
                     return Ok(Some(self.next_field::<T>()?));
                 }
                 Ok(None)
@@ -187,7 +187,7 @@ impl<'a, R: ReadExt> Sequence<'a, R> {
     /// consumes nothing.
     ///
     /// `InvalidData` if the default is written out (X.690, 11.5). Any other error is that of `next_optional`.
-    pub fn next_or_default<T: Begins, D: DefaultOf<T>>(&mut self) -> Result<T>
+    pub fn next_or_default<T: BeginsFrom<R>, D: DefaultOf<T>>(&mut self) -> Result<T>
         ensures same_reference { borrowed_by self.new ≡ borrowed_by self.old }
         ensures outer { outer_of self.new ≡ outer_of self.old }
         ensures member { IfOk result (λ value. IfSome (unless_default D.left_out value)
@@ -212,7 +212,7 @@ impl<'a, R: ReadExt> Sequence<'a, R> {
     /// All members that are left, up to the end, which are of one type.
     ///
     /// `OutOfMemory` if an allocation fails. Any other error is that of `next_element`.
-    pub fn remaining<T: Deserialize>(&mut self) -> Result<Vec<T>>
+    pub fn remaining<T: DeserializeFrom<R>>(&mut self) -> Result<Vec<T>>
         ensures same_reference { borrowed_by self.new ≡ borrowed_by self.old }
         ensures outer { outer_of self.new ≡ outer_of self.old }
         ensures ok { IfOk result (λ values. ReadsAll T.meaning T.shape (state_of self.old)
@@ -352,7 +352,7 @@ impl<R: ReadExt> Deserializer<R> {
     }
 
     // The members of a sequence or set of values of one type, under this tag.
-    pub(crate) fn read_list<T: Deserialize>(&mut self, tag: Tag) -> Result<Vec<T>>
+    pub(crate) fn read_list<T: DeserializeFrom<R>>(&mut self, tag: Tag) -> Result<Vec<T>>
         requires { IsListTag tag }
         ensures ok { IfOk result (λ values. Reads
             (Shape.list_of (list_kind tag) T.shape) self.old self.new

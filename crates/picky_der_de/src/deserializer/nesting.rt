@@ -17,7 +17,7 @@ ghost use Rattle.picky_der_de.specs.Wrappers.{ReadsWrapped, RefusesWrapped};
 ghost use Rattle.picky_der_de.specs.TagNumbers.{RefusesNumber};
 
 use super::Deserializer;
-use crate::{Deserialize, End};
+use crate::{DeserializeFrom, End};
 use picky_der_core::asn1::{Tag, Wrapper};
 use picky_der_core::misc::ReadExt;
 use picky_der_core::{Asn1DerError, Failure, Result};
@@ -197,7 +197,7 @@ impl<R: ReadExt> Deserializer<R> {
     }
 
     // Reads a value in this wrapper.
-    pub(crate) fn read_wrapped<T: Deserialize>(&mut self, wrapper: Wrapper) -> Result<T>
+    pub(crate) fn read_wrapped<T: DeserializeFrom<R>>(&mut self, wrapper: Wrapper) -> Result<T>
         ensures ok { IfOk result (λ value. ReadsWrapped wrapper T.shape self.old self.new
             (T.meaning value)) }
         ensures err { IfErr result (RefusesWrapped T.meaning T.shape wrapper self.old self.new) }
@@ -207,7 +207,7 @@ impl<R: ReadExt> Deserializer<R> {
             → RefusesNumber self.old result self.new }
     {
         let outer = self.open_wrapper(wrapper)?;
-        let value = T::deserialize(self)?;
+        let value = T::deserialize_from(self)?;
         self.close_end(outer)?;
         Ok(value)
     }

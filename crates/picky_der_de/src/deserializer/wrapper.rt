@@ -14,7 +14,7 @@ ghost use Rattle.picky_der_de.specs.TagNumbers.{RefusesNumber};
 ghost use Rattle.picky_der_ser.specs.Meaning.{option_meaning};
 
 use super::Deserializer;
-use crate::Deserialize;
+use crate::DeserializeFrom;
 use picky_der_core::asn1::{Newtype, Tag, Wrapper};
 use picky_der_core::misc::ReadExt;
 use picky_der_core::{Asn1DerError, Result};
@@ -28,7 +28,7 @@ impl<R: ReadExt> Deserializer<R> {
     /// end: none of them is consumed.
     ///
     /// Any other error is that of a header, of an end, or of the value.
-    pub fn deserialize_newtype_struct<T: Deserialize>(&mut self, kind: Newtype) -> Result<T>
+    pub fn deserialize_newtype_struct<T: DeserializeFrom<R>>(&mut self, kind: Newtype) -> Result<T>
         ensures ok { IfOk result (λ value. Reads
             (wrap_shape_if (wrapper_of kind) T.shape) self.old self.new
             (wrap_if (wrapper_of kind) (T.meaning value))) }
@@ -45,7 +45,7 @@ impl<R: ReadExt> Deserializer<R> {
     {
         match kind.wrapper() {
             Some(wrapper) => self.read_wrapped(wrapper),
-            None => T::deserialize(self),
+            None => T::deserialize_from(self),
         }
     }
 
@@ -56,7 +56,7 @@ impl<R: ReadExt> Deserializer<R> {
     /// end: none of them is consumed.
     ///
     /// Any other error is that of a header, of an end, or of the list.
-    pub fn deserialize_implicit_list<T: List + Deserialize>(&mut self, tag: Tag) -> Result<T>
+    pub fn deserialize_implicit_list<T: List + DeserializeFrom<R>>(&mut self, tag: Tag) -> Result<T>
         ensures ok { IfOk result (λ value. Reads
             (Shape.wrapped (ImplicitList tag) T.shape) self.old self.new
             (Tree.wrapped (ImplicitList tag) (T.meaning value))) }
@@ -81,7 +81,7 @@ impl<R: ReadExt> Deserializer<R> {
     /// consumed.
     ///
     /// Any other error is that of a header, of an end, or of the value.
-    pub fn deserialize_application<T: Deserialize>(&mut self, number: u8) -> Result<T>
+    pub fn deserialize_application<T: DeserializeFrom<R>>(&mut self, number: u8) -> Result<T>
         ensures ok { IfOk result (λ value. Reads
             (Shape.wrapped (Application number) T.shape) self.old self.new
             (Tree.wrapped (Application number) (T.meaning value))) }
@@ -100,13 +100,13 @@ impl<R: ReadExt> Deserializer<R> {
 
     /// Reads a value that could be missing, and returns `Some`. A missing value has no bytes, so only the call that
     /// reads its list can find it missing. Each error is the value's.
-    pub fn deserialize_option<T: Deserialize>(&mut self) -> Result<Option<T>>
+    pub fn deserialize_option<T: DeserializeFrom<R>>(&mut self) -> Result<Option<T>>
         ensures ok { IfOk result (λ value. Reads (Shape.optional T.shape) self.old self.new
             (option_meaning T.meaning value)) }
         ensures err { IfErr result (Refuses (option_meaning T.meaning)
             (Shape.optional T.shape) self.old self.new) }
         ensures refused_by { IfErr result (RefusesBy T.facts.rule self.old self.new) }
     {
-        Ok(Some(T::deserialize(self)?))
+        Ok(Some(T::deserialize_from(self)?))
     }
 }

@@ -10,7 +10,7 @@ ghost use Rattle.picky_der_de.specs.RefusesBy.{RefusesBy};
 ghost use Rattle.picky_der_de.specs.SetOrder.{first_by, is_in_order, in_order, IsCompared, SeesNext};
 
 use crate::deserializer::element_at_front;
-use crate::{Deserialize, Deserializer};
+use crate::{DeserializeFrom, Deserializer};
 use picky_der_core::asn1::Tag;
 use picky_der_core::misc::ReadExt;
 use picky_der_core::{Asn1DerError, Result};
@@ -87,20 +87,20 @@ fn next_at_front(near: &[u8], until_end: usize) -> Option<usize>
 
 // Reads a value. The member that was seen last stays that, whatever the value is.
 #[inline(always)]
-fn read_aside<T: Deserialize, R: ReadExt>(de: &mut Deserializer<R>) -> Result<T>
+fn read_aside<T: DeserializeFrom<R>, R: ReadExt>(de: &mut Deserializer<R>) -> Result<T>
     ensures ok { IfOk result (λ value. Reads T.shape de.old de.new (T.meaning value)) }
     ensures err { IfErr result (Refuses T.meaning T.shape de.old de.new) }
     ensures refused_by { IfErr result (RefusesBy T.facts.rule de.old de.new) }
     ensures seen { de.new.seen ≡ de.old.seen }
 {
     let seen = de.take_seen();
-    let result = T::deserialize(de);
+    let result = T::deserialize_from(de);
     de.set_seen(seen);
     result
 }
 
 // The same, and the member that is kept stays, too.
-fn read_beside<T: Deserialize, R: ReadExt>(de: &mut Deserializer<R>) -> Result<T>
+fn read_beside<T: DeserializeFrom<R>, R: ReadExt>(de: &mut Deserializer<R>) -> Result<T>
     ensures ok { IfOk result (λ value. Reads T.shape de.old de.new (T.meaning value)) }
     ensures err { IfErr result (Refuses T.meaning T.shape de.old de.new) }
     ensures refused_by { IfErr result (RefusesBy T.facts.rule de.old de.new) }
@@ -117,7 +117,7 @@ fn read_beside<T: Deserialize, R: ReadExt>(de: &mut Deserializer<R>) -> Result<T
 //
 // The errors are those of `next_element`.
 #[inline(never)]
-pub(super) fn read_in_set<T: Deserialize, R: ReadExt>(
+pub(super) fn read_in_set<T: DeserializeFrom<R>, R: ReadExt>(
     de: &mut Deserializer<R>,
     next: &mut Next,
 ) -> Result<T>
@@ -152,7 +152,7 @@ pub(super) fn read_in_set<T: Deserialize, R: ReadExt>(
 // one that is kept. Its encoding is compared after that, and kept.
 #[cold]
 #[inline(never)]
-fn read_unseen<T: Deserialize, R: ReadExt>(de: &mut Deserializer<R>, next: &mut Next) -> Result<T>
+fn read_unseen<T: DeserializeFrom<R>, R: ReadExt>(de: &mut Deserializer<R>, next: &mut Next) -> Result<T>
     requires had_not_failed { de.old.failed ≡ None }
     requires whole { de.old.implicit_tag ≡ None }
     requires in_set { (in_order de.old next.old).last ≢ None }

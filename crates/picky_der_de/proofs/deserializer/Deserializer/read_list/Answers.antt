@@ -16,13 +16,13 @@ begin_list-requires g c = list_numbered c.requires
 pub returns-in_err-members-clause-err : goal.returns-in_err-members-clause-err
 returns-in_err-members-clause-err g c =
     let p = err_from_is_err_and c.from_residual.result c.from_residual.ensures.1 in
-    rw (p.1, p.2) (list_of_unopened g.T.Serialize.meaning g.T.Deserialize.shape c.requires (λ vs. vs)
+    rw (p.1, p.2) (list_of_unopened g.T.Serialize.meaning g.T.DeserializeFrom.shape c.requires (λ vs. vs)
     (rw c.in_err-members.was at c.begin_list.follows.holds-at-none))
 
 pub returns-in_err-values-clause-err : goal.returns-in_err-values-clause-err
 returns-in_err-values-clause-err g c =
     refusal_passed_on _ c.from_residual-in_err-values.ensures.1 (search rules)
-    (list_of_refused g.T.Serialize.meaning g.T.Deserialize.shape c.requires (λ vs. vs) c.in_ok-members.ensures.ok
+    (list_of_refused g.T.Serialize.meaning g.T.DeserializeFrom.shape c.requires (λ vs. vs) c.in_ok-members.ensures.ok
     c.in_err-values.ensures.err)
 
 pub returns-in_err-end-clause-err : goal.returns-in_err-end-clause-err
@@ -30,7 +30,7 @@ returns-in_err-end-clause-err g c = absurd (all_closed c.in_ok-values.ensures.ok
 
 pub returns-clause-ok : goal.returns-clause-ok
 returns-clause-ok g c =
-    reads_at (list_of_reads g.T.Serialize.meaning g.T.Deserialize.shape c.requires c.in_ok-values.values.items
+    reads_at (list_of_reads g.T.Serialize.meaning g.T.DeserializeFrom.shape c.requires c.in_ok-values.values.items
     c.in_ok-members.ensures.ok c.in_ok-values.ensures.ok c.in_ok-end.ensures.ok c.in_ok-values.ensures.outer)
     (search rules)
 
@@ -41,7 +41,7 @@ returns-in_err-members-clause-order g c set =
 
 pub returns-in_err-values-clause-order : goal.returns-in_err-values-clause-order
 returns-in_err-values-clause-order g c set =
-    passed_on (RefusesUnordered g.T.Serialize.meaning g.T.Deserialize.shape _) _ c.from_residual-in_err-values.ensures.1
+    passed_on (RefusesUnordered g.T.Serialize.meaning g.T.DeserializeFrom.shape _) _ c.from_residual-in_err-values.ensures.1
     (search rules) (set_unordered (rw set at c.in_ok-members.ensures.ok) c.in_err-values.ensures.err)
 
 pub returns-in_err-end-clause-order : goal.returns-in_err-end-clause-order
@@ -50,14 +50,14 @@ returns-in_err-end-clause-order g c set = absurd (all_closed c.in_ok-values.ensu
 pub returns-in_err-members-clause-refused_by : goal.returns-in_err-members-clause-refused_by
 returns-in_err-members-clause-refused_by g c =
     let p = err_from_is_err_and c.from_residual.result c.from_residual.ensures.1 in
-    rw (p.1, p.2) (list_header_by g.T.Serialize.meaning g.T.Deserialize.shape g.T.Deserialize.facts.rule c.requires
+    rw (p.1, p.2) (list_header_by g.T.Serialize.meaning g.T.DeserializeFrom.shape g.T.DeserializeFrom.facts.rule c.requires
     (rw c.in_err-members.was at c.begin_list.follows.holds-at-none))
 
 pub returns-in_err-values-clause-refused_by : goal.returns-in_err-values-clause-refused_by
 returns-in_err-values-clause-refused_by g c =
-    passed_on (RefusesBy (list_of_rule g.T.Serialize.meaning g.T.Deserialize.shape (list_kind c.args.tag)
-    g.T.Deserialize.facts.rule) _) _ c.from_residual-in_err-values.ensures.1 (search rules)
-    (list_member_by g.T.Serialize.meaning g.T.Deserialize.shape g.T.Deserialize.facts.rule c.requires
+    passed_on (RefusesBy (list_of_rule g.T.Serialize.meaning g.T.DeserializeFrom.shape (list_kind c.args.tag)
+    g.T.DeserializeFrom.facts.rule) _) _ c.from_residual-in_err-values.ensures.1 (search rules)
+    (list_member_by g.T.Serialize.meaning g.T.DeserializeFrom.shape g.T.DeserializeFrom.facts.rule c.requires
     c.in_ok-members.ensures.ok c.in_err-values.ensures.refused_by)
 
 pub returns-in_err-end-clause-refused_by : goal.returns-in_err-end-clause-refused_by

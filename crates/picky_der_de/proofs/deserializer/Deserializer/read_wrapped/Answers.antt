@@ -31,7 +31,7 @@ returns-in_err-value-clause-err g c =
 pub returns-in_err-close_end-clause-err : goal.returns-in_err-close_end-clause-err
 returns-in_err-close_end-clause-err g c =
     let p = err_from_is_err_and c.from_residual-in_err-close_end.result c.from_residual-in_err-close_end.ensures.1 in
-    rw (p.1, p.2) (after_value c.open_wrapper.new.self c.deserialize.new.de c.in_ok-outer.outer
+    rw (p.1, p.2) (after_value c.open_wrapper.new.self c.deserialize_from.new.de c.in_ok-outer.outer
     (g.T.Serialize.meaning c.in_ok-value.value) c.in_ok-outer.ensures.ok c.in_ok-value.ensures.ok
     c.in_err-close_end.ensures.err)
 
@@ -42,17 +42,17 @@ returns-clause-ok g c = reads_wrapped c.in_ok-outer.ensures.ok c.in_ok-value.ens
 pub returns-in_err-outer-clause-refused_by : goal.returns-in_err-outer-clause-refused_by
 returns-in_err-outer-clause-refused_by g c =
     let p = err_from_is_err_and c.from_residual.result c.from_residual.ensures.1 in
-    rw (p.1, p.2) (opening_by g.T.Serialize.meaning g.T.Deserialize.shape g.T.Deserialize.facts.rule
+    rw (p.1, p.2) (opening_by g.T.Serialize.meaning g.T.DeserializeFrom.shape g.T.DeserializeFrom.facts.rule
     c.in_err-outer.ensures.err)
 
 pub returns-in_err-value-clause-refused_by : goal.returns-in_err-value-clause-refused_by
 returns-in_err-value-clause-refused_by g c =
     let p = err_from_is_err_and c.from_residual-in_err-value.result c.from_residual-in_err-value.ensures.1 in
-    rw (p.1, p.2) (value_by g.T.Serialize.meaning g.T.Deserialize.shape g.T.Deserialize.facts.rule
+    rw (p.1, p.2) (value_by g.T.Serialize.meaning g.T.DeserializeFrom.shape g.T.DeserializeFrom.facts.rule
     c.in_ok-outer.ensures.ok c.in_err-value.ensures.refused_by)
 
 pub returns-in_err-close_end-clause-refused_by : goal.returns-in_err-close_end-clause-refused_by
 returns-in_err-close_end-clause-refused_by g c =
     let p = err_from_is_err_and c.from_residual-in_err-close_end.result c.from_residual-in_err-close_end.ensures.1 in
-    rw (p.1, p.2) (left_over_by g.T.Serialize.meaning g.T.Deserialize.shape g.T.Deserialize.facts.rule
+    rw (p.1, p.2) (left_over_by g.T.Serialize.meaning g.T.DeserializeFrom.shape g.T.DeserializeFrom.facts.rule
     c.in_ok-value.value c.in_ok-outer.ensures.ok c.in_ok-value.ensures.ok c.in_err-close_end.ensures.err)

@@ -19,7 +19,7 @@ returns-in_err-is_at_end-clause-err g c =
 pub returns-then-branch-clause-err : goal.returns-then-branch-clause-err
 returns-then-branch-clause-err g c =
     let k = c.in_ok-is_at_end.ensures.ok in
-    member_missing g.T.Deserialize.facts.rule (record {
+    member_missing g.T.DeserializeFrom.facts.rule (record {
       reached = k.1.0 c.if-branch.true;
       had_not_failed = k.0;
       same =

@@ -8,14 +8,14 @@ use Rattle.picky_der_de.proofs.sequence.Sequence.remaining.Given as goal
 
 abbrev pub invariant-loop-values : goal.invariant-loop-values
 invariant-loop-values g l = record {
-  some : ReadsSome g.T.Serialize.meaning g.T.Deserialize.shape
+  some : ReadsSome g.T.Serialize.meaning g.T.DeserializeFrom.shape
       (in_order l.initial.self.de.now l.initial.self.next) (in_order l.self.de.now l.self.next) l.values.items;
   same_reference : l.self.de.ghost_name ≡ l.initial.self.de.ghost_name;
   outer : l.self.outer ≡ l.initial.self.outer;
   by : (d : State) (e : Asn1DerError)
-      → RefusesEachBy g.T.Serialize.meaning g.T.Deserialize.shape g.T.Deserialize.facts.rule
+      → RefusesEachBy g.T.Serialize.meaning g.T.DeserializeFrom.shape g.T.DeserializeFrom.facts.rule
       (in_order l.self.de.now l.self.next) d e
-      → RefusesEachBy g.T.Serialize.meaning g.T.Deserialize.shape g.T.Deserialize.facts.rule
+      → RefusesEachBy g.T.Serialize.meaning g.T.DeserializeFrom.shape g.T.DeserializeFrom.facts.rule
       (in_order l.initial.self.de.now l.initial.self.next) d e;
 }
 
