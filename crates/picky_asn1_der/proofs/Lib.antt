@@ -1,7 +1,6 @@
 mod AddedReads
 pub mod LaterReads
 pub mod LaterWrites
-pub mod RawTags
 mod ListContents
 mod RoundTrips
 mod SameEncodings

@@ -10,6 +10,7 @@ pub mod Elements
 pub mod Ends
 pub mod Ahead
 pub mod Lent
+pub mod RawTags
 pub mod EntryReads
 pub mod WrapperReads
 pub mod Peeked

@@ -25,7 +25,7 @@ mod texts;
 mod unsupported;
 mod wrapper;
 
-use crate::End;
+use crate::{End, Slice};
 pub(crate) use ahead::element_at_front;
 pub(crate) use nesting::EnclosingEnd;
 use picky_der_core::misc::{PeekableReader, ReadExt};
@@ -93,7 +93,9 @@ impl<'a> Deserializer<&'a [u8]> {
     {
         Deserializer::new_from_reader(alloc, bytes, bytes.len())
     }
+}
 
+impl<R: Slice> Deserializer<R> {
     // A slice has no I/O errors, and a peeked byte is the first byte that is left.
     pub(crate) fn has_no_faults(&self)
         ensures no_fault { self.now.faults ≡ [] }

@@ -1,7 +1,7 @@
 //! The built-in types, as they are read.
 
 mod arrays;
-mod begins;
+pub(crate) mod begins;
 mod booleans;
 mod contents;
 mod lists;

@@ -1,18 +1,19 @@
 //! Values that borrow from the slice that they are read from: octet strings, contents under tags of their own, texts
-//! and elements. Lists of borrowed values.
-ghost use Rattle.std.specs.Prelude.{◌<◌, IfOk, IfErr};
+//! and elements.
 ghost use Rattle.picky_der_core.specs.Primitive.{Primitive, PrimitiveShape};
 ghost use Rattle.picky_der_core.specs.Shape.{Shape};
-ghost use Rattle.picky_der_core.specs.Tag.{number_of};
-ghost use Rattle.picky_der_core.specs.Tree.{ListKind, Tree};
+ghost use Rattle.picky_der_core.specs.Tree.{Tree};
 ghost use Rattle.picky_der_ser.specs.Calls.{WritesPlain, WritesPrimitive};
-ghost use Rattle.picky_der_de.specs.ContainerFacts.{list_facts};
 ghost use Rattle.picky_der_de.specs.Facts.{bytes_facts, raw_facts, text_facts};
 
+mod begins;
+mod containers;
+
 use crate::{DeserializeFrom, Deserializer};
+pub use containers::Lent;
 use picky_der_core::Result;
 use picky_der_core::asn1::{Bytes, Tag};
-use picky_der_core::misc::{ReadExt, WriteExt};
+use picky_der_core::misc::WriteExt;
 use picky_der_ser::{Serialize, Serializer};
 
 /// A content under a tag of its own, which is borrowed. `TaggedBytes` owns it.
@@ -23,10 +24,6 @@ pub struct TaggedSlice<'a, const TAG: u8>(pub &'a [u8]);
 /// written as they are. If they aren't exactly one element, they can't be read back as this type.
 #[derive(Debug, Clone, Copy, PartialEq, Eq)]
 pub struct RawSlice<'a>(pub &'a [u8]);
-
-/// A container whose values borrow, as `Lent<Vec<Bytes<'a>>>`. A `Vec` alone is read if its values own.
-#[derive(Drop, PartialEq)]
-pub struct Lent<C>(pub C);
 
 impl<'a> DeserializeFrom<&'a [u8]> for Bytes<'a> {
     ghost shape = { Shape.primitive (PrimitiveShape.bytes 0x04) };
@@ -96,26 +93,6 @@ impl<'a> DeserializeFrom<&'a [u8]> for RawSlice<'a> {
     #[inline(always)]
     fn deserialize_from(de: &mut Deserializer<&'a [u8]>) -> Result<RawSlice<'a>> {
         Ok(RawSlice(de.lend_raw()?))
-    }
-
-    ghost proved = { Prim.assumption };
-}
-
-impl<C: Serialize> Serialize for Lent<C> {
-    ghost meaning = { λ it. C.meaning it.0 };
-
-    fn serialize<W: WriteExt>(&self, ser: &mut Serializer<W>) -> Result<usize> {
-        self.0.serialize(ser)
-    }
-}
-
-impl<R: ReadExt, T: DeserializeFrom<R>> DeserializeFrom<R> for Lent<Vec<T>> {
-    ghost shape = { Shape.list_of ListKind.sequence T.shape };
-
-    ghost facts = { list_facts T.facts T.meaning T.eq ListKind.sequence (λ it. it.0.items) };
-
-    fn deserialize_from(de: &mut Deserializer<R>) -> Result<Lent<Vec<T>>> {
-        Ok(Lent(de.read_list(Tag::SEQUENCE)?))
     }
 
     ghost proved = { Prim.assumption };

@@ -1,28 +1,27 @@
 //! The members of a SEQUENCE, as they are read from readers of one kind.
-ghost use Rattle.std.specs.Prelude.{◌≡◌, Bool, false, Option, Some, IfOk, IfErr, IfSome, IfNone, true, None};
+ghost use Rattle.std.specs.Prelude.{◌≡◌, Bool, Option, IfOk, IfErr, IfSome, IfNone, true, None};
 ghost use Rattle.picky_der_core.specs.Shape.{Shape, Layout};
-ghost use Rattle.picky_der_core.specs.Tree.{ListKind, Tree, Trees};
+ghost use Rattle.picky_der_core.specs.Tree.{ListKind, Tree};
 ghost use Rattle.picky_der_de.specs.Members.{ReadsMember};
-ghost use Rattle.picky_der_de.specs.Layouts.{Presence, always, Lacks, RefusesLayoutMember, ReadsLayout};
-ghost use Rattle.picky_der_de.specs.Layouts.{RefusesLayout, layout_with};
-ghost use Rattle.picky_der_de.specs.LayoutLaws.{IsLeftOut, none_left_out};
-ghost use Rattle.picky_der_de.specs.MembersFacts.{MemberFacts, ProvedMember, element_facts, member_facts, members_facts};
-ghost use Rattle.picky_der_de.specs.MembersFacts.{MembersFacts, ProvedMembers};
+ghost use Rattle.picky_der_de.specs.Layouts.{Presence, Lacks, RefusesLayoutMember, ReadsLayout, RefusesLayout};
+ghost use Rattle.picky_der_de.specs.LayoutLaws.{IsLeftOut};
+ghost use Rattle.picky_der_de.specs.MembersFacts.{MemberFacts, ProvedMember, MembersFacts, ProvedMembers};
 ghost use Rattle.picky_der_de.specs.MembersFacts.{none_facts, sequence_of, sequence_shape};
 ghost use Rattle.picky_der_de.specs.Reading.{Reads, Refuses};
 ghost use Rattle.picky_der_de.specs.RefusesBy.{RefusesBy};
 ghost use Rattle.picky_der_de.specs.Rules.{field_rule, fields_rule, LeadsTo, RefusesBefore};
 ghost use Rattle.picky_der_de.specs.FirstTests.{are_members_distinct};
 
-use crate::{DeserializeFrom, DeserializeMember, Deserializer, Sequence};
+use crate::{DeserializeMember, Deserializer, Sequence};
 use picky_der_core::Result;
 use picky_der_core::asn1::Tag;
-use picky_der_core::misc::{ReadExt, WriteExt};
-use picky_der_ser::{Serialize, SerializeMember, SerializeMembers};
+use picky_der_core::misc::ReadExt;
+use picky_der_ser::{SerializeMember, SerializeMembers};
 
-/// A member of a struct that can be read from readers of this kind, as `DeserializeMember` is from each.
+/// A member of a struct that can be read from readers of this kind. Each `DeserializeMember` can be. One that may borrow
+/// is a `LentMember`, `LentOptional` or `LentDefaulted`.
 pub trait DeserializeMemberFrom<R: ReadExt>: SerializeMember + PartialEq + Drop + Sized {
-    ghost use Rattle.picky_der_de.specs.SequenceState.{borrowed_by, outer_of, state_of};
+    ghost use Rattle.picky_der_de.specs.SequenceState.{borrowed_by, outer_of, state_of, deserializer_of};
 
     /// The type of the value that is there.
     type Item;
@@ -48,7 +47,7 @@ pub trait DeserializeMemberFrom<R: ReadExt>: SerializeMember + PartialEq + Drop 
     // What the member says of itself.
     ghost facts: { MemberFacts Self presence shape item_meaning item_eq item };
 
-    /// Reads the member, with the errors of `DeserializeMember::deserialize_member`.
+    /// Reads the member. The errors are those of `next_field`, `next_optional` or `next_or_default`.
     fn deserialize_member_from(sequence: &mut Sequence<'_, R>) -> Result<Self>
         ensures same_reference { borrowed_by sequence.new ≡ borrowed_by sequence.old }
         ensures outer { outer_of sequence.new ≡ outer_of sequence.old }
@@ -58,7 +57,8 @@ pub trait DeserializeMemberFrom<R: ReadExt>: SerializeMember + PartialEq + Drop 
         ensures none { IfOk result (λ member. IfNone (item member)
             (Lacks shape (state_of sequence.old) (state_of sequence.new))) }
         ensures err { IfErr result (RefusesLayoutMember presence item_meaning left_out shape
-            (field_rule facts.rule) (state_of sequence.old) (state_of sequence.new)) };
+            (field_rule facts.rule) (state_of sequence.old) (deserializer_of sequence.new)
+            (state_of sequence.new).last) };
 
     // The tree determines which values are never written.
     ghost distinguished: { IsLeftOut item_meaning item left_out };
@@ -93,51 +93,10 @@ impl<R: ReadExt, M: DeserializeMember> DeserializeMemberFrom<R> for M {
     ghost proved = { M.proved };
 }
 
-/// A member that is always there, of a type that may borrow.
-#[derive(Drop, PartialEq)]
-pub struct LentMember<T>(pub T);
-
-impl<T: Serialize> SerializeMember for LentMember<T> {
-    ghost prepend = { λ member. Trees.more (T.meaning member.0) };
-
-    fn serialize_member<W: WriteExt>(
-        &self,
-        sequence: &mut picky_der_ser::Sequence<'_, W>,
-    ) -> Result<()> {
-        sequence.serialize_element(&self.0)
-    }
-}
-
-impl<R: ReadExt, T: DeserializeFrom<R>> DeserializeMemberFrom<R> for LentMember<T> {
-    type Item = T;
-
-    ghost shape = { T.shape };
-
-    ghost item_meaning = { T.meaning };
-
-    ghost item_eq = { T.eq };
-
-    ghost presence = { always };
-
-    ghost item = { λ member. Some member.0 };
-
-    ghost left_out = { λ _. false };
-
-    ghost facts = { element_facts T.facts T.meaning T.eq (λ member. member.0) };
-
-    fn deserialize_member_from(sequence: &mut Sequence<'_, R>) -> Result<LentMember<T>> {
-        let value = sequence.next_field::<T>()?;
-        Ok(LentMember(value))
-    }
-
-    ghost distinguished = { none_left_out (λ member. Some member.0) };
-
-    ghost proved = { Prim.assumption };
-}
-
-/// Members of a sequence that can be read from readers of this kind: `()`, or a pair of one and the others.
+/// Members of a sequence that can be read from readers of this kind. They are `()` or a tuple of up to eight members
+/// and the members after them, as `(LentMember<A>, LentOptional<B>, C, ())`.
 pub trait DeserializeMembersFrom<R: ReadExt>: SerializeMembers + PartialEq + Drop + Sized {
-    ghost use Rattle.picky_der_de.specs.SequenceState.{borrowed_by, outer_of, state_of};
+    ghost use Rattle.picky_der_de.specs.SequenceState.{borrowed_by, outer_of, state_of, deserializer_of};
 
     // The shapes of the members, and which may be missing.
     ghost layout: { Layout };
@@ -145,7 +104,7 @@ pub trait DeserializeMembersFrom<R: ReadExt>: SerializeMembers + PartialEq + Dro
     // What the members say of themselves.
     ghost facts: { MembersFacts Self layout };
 
-    /// Reads the members, as `DeserializeMembers::deserialize_members` does.
+    /// Reads the members. It does what `DeserializeMembers::deserialize_members` does, and its errors are the same.
     fn deserialize_members_from(sequence: &mut Sequence<'_, R>) -> Result<Self>
         requires had_not_failed { (state_of sequence.old).failed ≡ None }
         requires implicit_tag { (state_of sequence.old).implicit_tag ≡ None }
@@ -154,11 +113,11 @@ pub trait DeserializeMembersFrom<R: ReadExt>: SerializeMembers + PartialEq + Dro
         ensures ok { IfOk result (λ it. ReadsLayout layout (state_of sequence.old)
             (state_of sequence.new) (Self.members it)) }
         ensures err { IfErr result (RefusesLayout Self.members layout (state_of sequence.old)
-            (state_of sequence.new)) }
+            (deserializer_of sequence.new)) }
         ensures leads { IfOk result (λ _. LeadsTo facts.rule (state_of sequence.old)
             (state_of sequence.new)) }
         ensures refused_by { IfErr result (RefusesBefore facts.rule (state_of sequence.old)
-            (state_of sequence.new)) };
+            (deserializer_of sequence.new)) };
 
     // The premise, and that the members mean the same to `SerializeMembers`.
     ghost proved: { ProvedMembers facts Self.members };
@@ -176,23 +135,8 @@ impl<R: ReadExt> DeserializeMembersFrom<R> for () {
     ghost proved = { Prim.assumption };
 }
 
-impl<R: ReadExt, A: DeserializeMemberFrom<R>, Z: DeserializeMembersFrom<R>> DeserializeMembersFrom<
-    R,
-> for (A, Z) {
-    ghost layout = { layout_with A.presence A.shape Z.layout };
-
-    ghost facts = { member_facts (λ it. it.0) A.facts A.left_out A.prepend (members_facts (λ it. it.1) Z.facts Z.members) };
-
-    fn deserialize_members_from(sequence: &mut Sequence<'_, R>) -> Result<(A, Z)> {
-        let first = A::deserialize_member_from(sequence)?;
-        let others = Z::deserialize_members_from(sequence)?;
-        Ok((first, others))
-    }
-
-    ghost proved = { Prim.assumption };
-}
-
-/// A type whose values are those of the members of a SEQUENCE, read from readers of this kind. It is like `Struct`.
+/// A type whose values are those of the members of a SEQUENCE, if it is read from readers of this kind. For an owned type
+/// it is `Struct`.
 pub trait StructFrom<R: ReadExt>: Sized {
     /// The members.
     type Members: DeserializeMembersFrom<R>;
@@ -205,7 +149,7 @@ pub trait StructFrom<R: ReadExt>: Sized {
         ensures { parts result ≡ members };
 }
 
-/// Reads a sequence of these members, as `deserialize_struct_as` does.
+/// Reads a sequence of these members. It does what `deserialize_struct_as` does, and its errors are the same.
 pub fn deserialize_struct_from<R: ReadExt, T: StructFrom<R>>(de: &mut Deserializer<R>) -> Result<T>
     requires distinct { are_members_distinct T.Members.layout ≡ true }
     ensures ok { IfOk result (λ value. Reads (sequence_shape T.Members.layout) de.old de.new

@@ -11,7 +11,7 @@ use picky_der_core::asn1::{
 use picky_der_ser::List;
 
 // Whether it is this tag, whose number has to be one of the short form.
-fn is_tag(tag: Tag, wanted: u8) -> bool
+pub(crate) fn is_tag(tag: Tag, wanted: u8) -> bool
     ensures { IsTrue result ↔ IsTrue (contains (tag_with_number (number_of wanted) wanted) tag) }
 {
     let number = Tag::from(wanted).number();
@@ -20,7 +20,7 @@ fn is_tag(tag: Tag, wanted: u8) -> bool
 
 // Whether it is the tag of the class and form of this first one, with this number. The number has to be one of the
 // short form.
-fn is_numbered(tag: Tag, first: u8, number: u8) -> bool
+pub(crate) fn is_numbered(tag: Tag, first: u8, number: u8) -> bool
     requires { first ≤ 0xE0 }
     ensures { IsTrue result ↔ IsTrue (contains (tag_with_number number (first + number)) tag) }
 {

@@ -152,7 +152,10 @@ pub(super) fn read_in_set<T: DeserializeFrom<R>, R: ReadExt>(
 // one that is kept. Its encoding is compared after that, and kept.
 #[cold]
 #[inline(never)]
-fn read_unseen<T: DeserializeFrom<R>, R: ReadExt>(de: &mut Deserializer<R>, next: &mut Next) -> Result<T>
+fn read_unseen<T: DeserializeFrom<R>, R: ReadExt>(
+    de: &mut Deserializer<R>,
+    next: &mut Next,
+) -> Result<T>
     requires had_not_failed { de.old.failed ≡ None }
     requires whole { de.old.implicit_tag ≡ None }
     requires in_set { (in_order de.old next.old).last ≢ None }

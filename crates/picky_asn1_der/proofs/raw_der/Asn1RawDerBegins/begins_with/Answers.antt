@@ -1,6 +1,6 @@
 use Rattle.std.proofs.Common.{◌≤◌, arith, le-leb, leb-true, subst, sym}
 use Rattle.picky_der_core.specs.FirstLaws.{contains-tags_below}
-use Rattle.picky_asn1_der.proofs.RawTags.{tag-tags_below}
+use Rattle.picky_der_de.proofs.RawTags.{tag-tags_below}
 use Rattle.picky_asn1_der.proofs.raw_der.Asn1RawDerBegins.begins_with.Goals as goal
 
 pub returns : goal.returns
