@@ -1,4 +1,6 @@
 """What repeats for each width of a tuple: one implementation for each, and their proofs."""
+from dataclasses import dataclass
+
 from generation.files import Files, Lines, proof, source
 
 NAMES = "ABCDEFGHIJKLMNOP"
@@ -17,9 +19,9 @@ def part(value: str, at: int, count: int) -> str:
     return f"{value}.{at}" if count <= FLAT else value + ".1" * at + ".0"
 
 
-def of(names: str, bound: str, last: str = "") -> str:
+def of(names: str, bound: str, last: str = "", first: str = "") -> str:
     """The parameters of an implementation."""
-    bounds = [f"{name}: {bound}" for name in names] + ([f"Z: {last}"] if last else [])
+    bounds = ([first] if first else []) + [f"{name}: {bound}" for name in names] + ([f"Z: {last}"] if last else [])
     return "<" + ", ".join(bounds) + ">"
 
 
@@ -167,37 +169,62 @@ def written_tuples() -> Lines:
 # ---- reading
 
 
-def read_members() -> Lines:
+@dataclass(frozen=True)
+class Reading:
+    """How members are read: from each reader, or from readers of one kind."""
+
+    # the file, and what is said of it
+    module: str
+    about: str
+    # the trait of a member and that of members, without and with its argument
+    member: str
+    members: str
+    argument: str
+    # what an implementation and a method declare before their parameters, and the names of the methods
+    declares: str
+    declared: str
+    read_member: str
+    read_members: str
+
+
+READINGS = [
+    Reading("members", "Members in a tuple, and the members after them, as they are read.", "DeserializeMember", "DeserializeMembers", "", "", "<R: ReadExt>", "deserialize_member", "deserialize_members"),
+    Reading("members_from", "Members in a tuple, and the members after them, as they are read from readers of one kind.", "DeserializeMemberFrom", "DeserializeMembersFrom", "<R>", "R: ReadExt", "", "deserialize_member_from", "deserialize_members_from"),
+]
+
+
+def read_members(how: Reading) -> Lines:
     text = [
-        *source("Members in a tuple, and the members after them, as they are read."),
+        *source(how.about),
         "ghost use Rattle.picky_der_de.specs.Layouts.{layout_with};",
         "ghost use Rattle.picky_der_de.specs.MembersFacts.{member_facts, members_facts};",
         "",
-        "use crate::{DeserializeMember, DeserializeMembers, Sequence};",
+        f"use crate::{{{how.member}, {how.members}, Sequence}};",
         "use picky_der_core::Result;",
         "use picky_der_core::misc::ReadExt;",
         "",
     ]
+    member, members = how.member + how.argument, how.members + how.argument
     for width in range(1, AT_ONCE + 1):
         names = NAMES[:width]
         whole = tuple_of([*names, "Z"])
         layout = nested([f"layout_with {it}.presence {it}.shape" for it in names], "Z.layout")
         facts = nested([f"member_facts (λ it. it.{at}) {it}.facts {it}.left_out {it}.prepend" for at, it in enumerate(names)], f"(members_facts (λ it. it.{width}) Z.facts Z.members)")
         text += [
-            f"impl{of(names, 'DeserializeMember', 'DeserializeMembers')} DeserializeMembers for {whole} {{",
+            f"impl{of(names, member, members, how.declares)} {members} for {whole} {{",
             f"    ghost layout = {{ {layout} }};",
             "",
             f"    ghost facts = {{ {facts} }};",
             "",
-            f"    fn deserialize_members<R: ReadExt>(sequence: &mut Sequence<'_, R>) -> Result<{whole}> {{",
-            "        let first = A::deserialize_member(sequence)?;",
+            f"    fn {how.read_members}{how.declared}(sequence: &mut Sequence<'_, R>) -> Result<{whole}> {{",
+            f"        let first = A::{how.read_member}(sequence)?;",
         ]
         if width == 1:
-            text += ["        let others = Z::deserialize_members(sequence)?;", "        Ok((first, others))"]
+            text += [f"        let others = Z::{how.read_members}(sequence)?;", "        Ok((first, others))"]
         else:
             parts = ", ".join([*PARTS[1:width], "after"])
             text += [
-                f"        let others = <{tuple_of([*names[1:], 'Z'])} as DeserializeMembers>::deserialize_members(sequence)?;",
+                f"        let others = <{tuple_of([*names[1:], 'Z'])} as {members}>::{how.read_members}(sequence)?;",
                 f"        let ({parts}) = others;",
                 f"        Ok((first, {parts}))",
             ]
@@ -205,22 +232,22 @@ def read_members() -> Lines:
     return text
 
 
-def component(name: str) -> str:
+def component(name: str, how: Reading) -> str:
     """The facts of the member that has this parameter's type."""
-    return f"(layout_member g.{name}.DeserializeMember.facts g.met.{name}.DeserializeMember.proved)"
+    return f"(layout_member g.{name}.{how.member}.facts g.met.{name}.{how.member}.proved)"
 
 
-def read_members_proof(width: int) -> Lines:
+def read_members_proof(width: int, how: Reading) -> Lines:
     names = NAMES[1:width]
 
     def others(first: int) -> str:
-        heads = [f"lead (λ v. v.{at}) {component(it)}" for at, it in enumerate(names, first)]
-        rest = "(layout_members g.Z.DeserializeMembers.facts g.met.Z.DeserializeMembers.proved)"
+        heads = [f"lead (λ v. v.{at}) {component(it, how)}" for at, it in enumerate(names, first)]
+        rest = f"(layout_members g.Z.{how.members}.facts g.met.Z.{how.members}.proved)"
         return nested([*heads, f"after (λ v. v.{first + len(names)})"], rest)
 
     after = tuple_of([f"v.{at}" for at in range(1, width + 1)]) if width > 1 else "v.1"
-    inner = others(0) if width > 1 else "layout_members g.Z.DeserializeMembers.facts g.met.Z.DeserializeMembers.proved"
-    first = component("A")
+    inner = others(0) if width > 1 else f"layout_members g.Z.{how.members}.facts g.met.Z.{how.members}.proved"
+    first = component("A", how)
     read = "c.in_ok-first.ensures.member c.in_ok-first.ensures.none"
     return [
         *proof(),
@@ -230,12 +257,12 @@ def read_members_proof(width: int) -> Lines:
         "use Rattle.picky_der_de.specs.Rules.{field_rule}",
         "use Rattle.picky_der_de.proofs.LayoutReads.{layout_member_head, layout_member_next, layout_member_read}",
         "use Rattle.picky_der_de.proofs.MemberRuled.{layout_head_by, layout_next_by, still_none}",
-        f"use Rattle.picky_der_de.proofs.generated.members.Tuple{width + 1}DeserializeMembers.deserialize_members.Goals as goal",
+        f"use Rattle.picky_der_de.proofs.generated.{how.module}.Tuple{width + 1}{how.members}.{how.read_members}.Goals as goal",
         "",
         "pub returns-in_err-first-clause-err : goal.returns-in_err-first-clause-err",
         "returns-in_err-first-clause-err g c =",
         "    let p = err_from_is_err_and c.from_residual.result c.from_residual.ensures.1 in",
-        f"    rw (p.1, p.2) (layout_member_head {first} (field_rule g.A.DeserializeMember.facts.rule) g.met.A.DeserializeMember.distinguished (λ v. v.0) ({others(1)}) _ c.requires.implicit_tag c.in_err-first.ensures.err)",
+        f"    rw (p.1, p.2) (layout_member_head {first} (field_rule g.A.{how.member}.facts.rule) g.met.A.{how.member}.distinguished (λ v. v.0) ({others(1)}) _ c.requires.implicit_tag c.in_err-first.ensures.err)",
         "",
         "pub returns-in_err-others-clause-err : goal.returns-in_err-others-clause-err",
         "returns-in_err-others-clause-err g c =",
@@ -244,15 +271,15 @@ def read_members_proof(width: int) -> Lines:
         "",
         "pub returns-clause-ok : goal.returns-clause-ok",
         f"returns-clause-ok g c = layout_member_read {first} c.in_ok-first.first c.requires.implicit_tag {read} c.in_ok-others.ensures.ok",
-        *read_members_by_rule(first, read),
+        *read_members_by_rule(first, read, how),
     ]
 
 
-def read_members_by_rule(first: str, read: str) -> Lines:
+def read_members_by_rule(first: str, read: str, how: Reading) -> Lines:
     """That members are refused by their rules, where the first was read as said."""
-    a = "g.A.DeserializeMember"
+    a = f"g.A.{how.member}"
     member = f"{a}.item_meaning {a}.left_out {a}.shape {a}.facts.rule"
-    item = f"{a}.presence ({a}.item c.in_ok-first.first) ({first}.there c.in_ok-first.first) (g.met.A.DeserializeMember.distinguished.written c.in_ok-first.first) {read}"
+    item = f"{a}.presence ({a}.item c.in_ok-first.first) ({first}.there c.in_ok-first.first) (g.met.A.{how.member}.distinguished.written c.in_ok-first.first) {read}"
     after = f"(still_none {a}.item_meaning {a}.shape _ _ none c.requires.implicit_tag ({a}.item c.in_ok-first.first) {read})"
     return [
         "",
@@ -429,13 +456,14 @@ def files() -> Files:
         f"{ser}/src/generated/member_refs.rt": member_refs(),
         f"{ser}/src/generated/members.rt": written_members(),
         f"{ser}/src/generated/tuples.rt": written_tuples(),
-        f"{de}/src/generated/members.rt": read_members(),
+        **{f"{de}/src/generated/{how.module}.rt": read_members(how) for how in READINGS},
         f"{de}/src/generated/tuples.rt": read_tuples(),
         f"{types}/src/generated/members.rt": [*notation_of_members(), *exact_members()],
         f"{types}/src/generated/tuples.rt": exact_tuples(),
     }
     for name in REFS:
         found[f"{ser}/proofs/generated/member_refs/{name}SerializeMembers/serialize_members/Answers.antt"] = member_refs_proof(name)
-    for width in range(1, AT_ONCE + 1):
-        found[f"{de}/proofs/generated/members/Tuple{width + 1}DeserializeMembers/deserialize_members/Answers.antt"] = read_members_proof(width)
+    for how in READINGS:
+        for width in range(1, AT_ONCE + 1):
+            found[f"{de}/proofs/generated/{how.module}/Tuple{width + 1}{how.members}/{how.read_members}/Answers.antt"] = read_members_proof(width, how)
     return found

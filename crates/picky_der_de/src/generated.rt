@@ -4,5 +4,6 @@
 mod faithful;
 mod inhabited;
 mod members;
+mod members_from;
 mod numbers;
 mod tuples;
