@@ -1,19 +1,41 @@
 //! A certificate whose contents and elements stay in the slice that it is read from.
 use picky_der_core::Result;
 use picky_der_core::asn1::{Asn1SetOf, ExplicitContextTag, ImplicitContextTag, Tag};
-use picky_der_core::misc::{ReadExt, WriteExt};
+use picky_der_core::misc::WriteExt;
 use picky_der_de::{
-    AlternativesFrom, BeginsFrom, ChoiceFrom, DeserializeFrom, DeserializeMembersFrom, Deserializer, Lent, LentMember, LentOptional, NoneOf, OneOf,
+    BeginsFrom, ChoiceFrom, DeserializeFrom, Deserializer, Lent, LentMember, LentOptional, NoneOf, OneOf,
     RawSlice, StructFrom, TaggedSlice, deserialize_choice_from, deserialize_struct_from,
 };
-use picky_der_ser::{Defaulted, DefaultedRef, OptionalRef, Serialize, SerializeMembers, Serializer};
+use picky_der_ser::{DefaultOf, Defaulted, DefaultedRef, OptionalRef, Serialize, SerializeMembers, Serializer};
 use rattle_std::prelude::*;
-
-use crate::certificate::{No, Zero};
 
 type Input<'a> = &'a [u8];
 type Oid<'a> = TaggedSlice<'a, 0x06>;
 type Bits<'a> = TaggedSlice<'a, 0x03>;
+
+pub struct Zero;
+
+impl DefaultOf<u8> for Zero {
+    fn is_default(value: &u8) -> bool {
+        *value == 0
+    }
+
+    fn default() -> u8 {
+        0
+    }
+}
+
+pub struct No;
+
+impl DefaultOf<bool> for No {
+    fn is_default(value: &bool) -> bool {
+        !*value
+    }
+
+    fn default() -> bool {
+        false
+    }
+}
 
 // A struct with these members, which are written as these say.
 macro_rules! sequence {

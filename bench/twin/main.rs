@@ -1,22 +1,19 @@
 //! Writes or reads each line of hexadecimal digits of standard input many times.
 //!
 //!     twin struct|structs|list|set|certificate write|read|read-whole TIMES < ENCODINGS
-//!     twin lent-struct|lent-structs|lent-certificate write|read TIMES < ENCODINGS
 //!
-//! A list and a set are of numbers. Contents of what is lent stay in the slice that is read. `read` is by `from_bytes`, and `read-whole` by `from_der`, whose error has a position.
+//! A list and a set are of numbers. `read` is by `from_bytes`, and `read-whole` by `from_der`, whose error has a position.
 //! With the configuration `paths` the program also has the table of a certificate, by which it looks for the path of an
 //! error.
 mod certificate;
-mod lent_certificate;
 #[cfg(paths)]
 mod table;
 
 use certificate::Certificate;
 use picky_der_core::Result;
-use picky_der_core::asn1::{Asn1SetOf, ByteBuf, Bytes};
+use picky_der_core::asn1::{Asn1SetOf, ByteBuf};
 use picky_der_core::misc::{ReadExt, WriteExt};
 use picky_der_de::{Deserialize, Deserializer, Struct, deserialize_struct_as, from_bytes, from_der};
-use picky_der_de::{DeserializeFrom, Lent, LentMember, StructFrom, deserialize_struct_from, from_slice};
 use picky_der_ser::{Serialize, SerializeMembers, Serializer, to_vec};
 use rattle_std::alloc::Global;
 use rattle_std::prelude::*;
@@ -52,36 +49,6 @@ impl Deserialize for TestStruct {
     }
 }
 
-#[derive(PartialEq)]
-struct LentStruct<'a> {
-    number: u8,
-    vec: Bytes<'a>,
-    tuple: (usize, ()),
-}
-
-type LentMembers<'a> = (u8, LentMember<Bytes<'a>>, (usize, ()), ());
-
-impl<'a> StructFrom<&'a [u8]> for LentStruct<'a> {
-    type Members = LentMembers<'a>;
-
-    fn from_parts(members: LentMembers<'a>) -> LentStruct<'a> {
-        let (number, vec, tuple, ()) = members;
-        LentStruct { number, vec: vec.0, tuple }
-    }
-}
-
-impl<'a> Serialize for LentStruct<'a> {
-    fn serialize<W: WriteExt>(&self, serializer: &mut Serializer<W>) -> Result<usize> {
-        (&self.number, &self.vec, &self.tuple, ()).serialize_sequence(serializer)
-    }
-}
-
-impl<'a> DeserializeFrom<&'a [u8]> for LentStruct<'a> {
-    fn deserialize_from(de: &mut Deserializer<&'a [u8]>) -> Result<LentStruct<'a>> {
-        deserialize_struct_from(de)
-    }
-}
-
 #[inline(never)]
 fn write<T: Serialize>(value: &T) -> Vec<u8> {
     to_vec(Global, value).unwrap()
@@ -90,11 +57,6 @@ fn write<T: Serialize>(value: &T) -> Vec<u8> {
 #[inline(never)]
 fn read<T: Deserialize>(bytes: &[u8]) -> T {
     from_bytes(Global, bytes).unwrap()
-}
-
-#[inline(never)]
-fn lend<'a, T: DeserializeFrom<&'a [u8]>>(bytes: &'a [u8]) -> T {
-    from_slice(Global, bytes).unwrap()
 }
 
 #[inline(never)]
@@ -141,17 +103,6 @@ fn run<T: Serialize + Deserialize>(bytes: &[u8], way: &str, times: u32) {
     }
 }
 
-fn run_lent<'a, T: DeserializeFrom<&'a [u8]>>(bytes: &'a [u8], way: &str, times: u32) {
-    let value = lend::<T>(bytes);
-    assert_eq!(write(&value).as_slice(), bytes);
-    for _ in 0..times {
-        match way {
-            "write" => drop(black_box(write(black_box(&value)))),
-            _ => drop(black_box(lend::<T>(black_box(bytes)))),
-        }
-    }
-}
-
 fn main() {
     let words: std::vec::Vec<std::string::String> = std::env::args().skip(1).collect();
     let times = words[2].parse().unwrap();
@@ -162,9 +113,6 @@ fn main() {
             "structs" => run::<Vec<TestStruct>>(&bytes, &words[1], times),
             "list" => run::<Vec<u32>>(&bytes, &words[1], times),
             "set" => run::<Asn1SetOf<u32>>(&bytes, &words[1], times),
-            "lent-struct" => run_lent::<LentStruct>(&bytes, &words[1], times),
-            "lent-structs" => run_lent::<Lent<Vec<LentStruct>>>(&bytes, &words[1], times),
-            "lent-certificate" => run_lent::<lent_certificate::Certificate>(&bytes, &words[1], times),
             _ => run::<Certificate>(&bytes, &words[1], times),
         }
     }
