@@ -1,0 +1,9 @@
+use Rattle.std.proofs.lemmas.Result.{err_from_is_err_and}
+use Rattle.picky_der_de.proofs.PlainReads.{refuses_of}
+use Rattle.picky_der_de.proofs.lent.BytesDeserializeFrom.deserialize_from.Goals as goal
+
+pub returns-in_err-lend_tagged_bytes-clause-err :
+    goal.returns-in_err-lend_tagged_bytes-clause-err
+returns-in_err-lend_tagged_bytes-clause-err c =
+    let p = err_from_is_err_and c.from_residual.result c.from_residual.ensures.1 in
+    rw (p.1, p.2) (refuses_of (λ b. b.0.now) c.in_err-lend_tagged_bytes.ensures.err.refuses)
