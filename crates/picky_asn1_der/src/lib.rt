@@ -7,12 +7,15 @@ pub mod application_tag;
 /// Reads values.
 pub mod de {
     pub use picky_der_de::{
-        Alternatives, Begins, Boolean, Choice, Choice4, DEFAULT_MAX_LEN, DecodeError, Deserialize,
-        DeserializeMember, DeserializeMembers, Deserializer, Faithful, FaithfulAlternatives,
-        FaithfulDefault, FaithfulMember, FaithfulMembers, Inhabited, Int, NoneOf, Null, OneOf,
-        Sequence, Struct, TryVia, UInt, UnsignedInteger, Utf8String, Via, deserialize_as,
-        deserialize_choice_as, deserialize_struct_as, from_bytes, from_der, from_reader,
-        from_reader_with_max_len, next_from_bytes, next_from_reader, try_deserialize_as,
+        Alternatives, AlternativesFrom, Begins, BeginsFrom, Boolean, Choice, Choice4, ChoiceFrom,
+        DEFAULT_MAX_LEN, DecodeError, Deserialize, DeserializeFrom, DeserializeMember,
+        DeserializeMemberFrom, DeserializeMembers, DeserializeMembersFrom, Deserializer, Faithful,
+        FaithfulAlternatives, FaithfulDefault, FaithfulMember, FaithfulMembers, Inhabited, Int,
+        Lent, LentDefaulted, LentMember, LentOptional, NoneOf, Null, OneOf, RawSlice, Sequence,
+        Slice, Struct, StructFrom, TaggedSlice, TryVia, UInt, UnsignedInteger, Utf8String, Via,
+        deserialize_as, deserialize_choice_as, deserialize_choice_from, deserialize_struct_as,
+        deserialize_struct_from, from_bytes, from_der, from_reader, from_reader_with_max_len,
+        from_slice, next_from_bytes, next_from_reader, try_deserialize_as,
     };
 }
 
@@ -33,6 +36,7 @@ pub mod later_members_from;
 pub mod parts;
 pub mod raw_der;
 pub mod round_trip;
+pub mod round_trip_from;
 
 pub use added::{Added, AddedMembers, deserialize_members_as};
 pub use later_members::LaterMembers;
@@ -44,7 +48,7 @@ pub use picky_der_de::{
     Alternatives, Choice, Choice4, DecodeError, Deserialize, DeserializeMembers, Deserializer,
     Faithful, FaithfulAlternatives, FaithfulDefault, FaithfulMember, FaithfulMembers, Inhabited,
     NoneOf, OneOf, Struct, TryVia, Via, deserialize_as, deserialize_struct_as, from_bytes,
-    from_der, from_reader, from_reader_with_max_len, next_from_bytes, next_from_reader,
+    from_der, from_reader, from_reader_with_max_len, from_slice, next_from_bytes, next_from_reader,
     try_deserialize_as,
 };
 pub use picky_der_ser::{
