@@ -6,6 +6,8 @@ from generation.files import Files, Lines, proof, source
 NAMES = "ABCDEFGHIJKLMNOP"
 REFS = ["Refs1", "Refs2", "Refs3", "Refs4", "Refs5", "Refs6", "Refs7", "Refs8"]
 PARTS = ["first", "second", "third", "fourth", "fifth", "sixth", "seventh", "eighth"]
+ORDINALS = [*PARTS, "ninth", "tenth", "eleventh", "twelfth", "thirteenth", "fourteenth", "fifteenth", "sixteenth"]
+CARDINALS = ["one", "two", "three", "four", "five", "six", "seven", "eight", "nine", "ten", "eleven", "twelve", "thirteen", "fourteen", "fifteen", "sixteen"]
 # the widths of a tuple that is written, of members that are written, and of both that are read
 WIDEST, AT_ONCE = 16, 8
 # what members say of being exact, by the traits
@@ -160,6 +162,37 @@ def written_tuples() -> Lines:
             "",
             f"impl{of(names, 'Serialize')} List for {tuple_of(names)} {{",
             "    ghost is_list = { λ t. tt };",
+            "}",
+            "",
+        ]
+    return text
+
+
+def written_fields() -> Lines:
+    """The fields of a struct that borrows, as they are written."""
+    text = [
+        *source("Functions that write so many fields of a struct as the members of a SEQUENCE."),
+        "ghost use Rattle.picky_der_core.specs.Tree.{ListKind, Tree, Trees};",
+        "ghost use Rattle.picky_der_ser.specs.Calls.{WritesWhole};",
+        "",
+        "use crate::fields::{FieldKind, FieldRef};",
+        "use crate::{SerializeMembers, Serializer};",
+        "use picky_der_core::Result;",
+        "use picky_der_core::misc::WriteExt;",
+        "",
+    ]
+    for width in range(1, WIDEST + 1):
+        names = NAMES[:width]
+        kinds = [f"K{name}: FieldKind<{name}>" for name in names]
+        fields = ", ".join(f"{ORDINALS[at]}: &{name}" for at, name in enumerate(names))
+        members = nested([f"K{name}.prepend {ORDINALS[at]}.now" for at, name in enumerate(names)], "Trees.none")
+        refs = ", ".join(f"FieldRef::<K{name}, {name}>::new({ORDINALS[at]})" for at, name in enumerate(names))
+        text += [
+            f"/// Writes {'a field' if width == 1 else CARDINALS[width - 1] + ' fields'} as the {'member' if width == 1 else 'members'} of a SEQUENCE. It is the whole body of `Serialize::serialize` of such a struct.",
+            f"pub fn {CARDINALS[width - 1]}<{', '.join([*kinds, *names, 'W: WriteExt'])}>(ser: &mut Serializer<W>, {fields}) -> Result<usize>",
+            f"    ensures {{ WritesWhole W.WriteExt.own (Tree.list ListKind.sequence ({members})) ser.old result ser.new }}",
+            "{",
+            f"    ({refs}, ()).serialize_sequence(ser)",
             "}",
             "",
         ]
@@ -453,6 +486,7 @@ def files() -> Files:
     """The files of tuples."""
     ser, de, types = "crates/picky_der_ser", "crates/picky_der_de", "crates/der_types"
     found = {
+        f"{ser}/src/generated/fields.rt": written_fields(),
         f"{ser}/src/generated/member_refs.rt": member_refs(),
         f"{ser}/src/generated/members.rt": written_members(),
         f"{ser}/src/generated/tuples.rt": written_tuples(),

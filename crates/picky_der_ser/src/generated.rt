@@ -2,6 +2,7 @@
 //! What repeats for each width or type.
 
 mod defaults;
+pub mod fields;
 mod member_refs;
 mod members;
 mod numbers;

@@ -3,6 +3,7 @@
 
 mod default;
 mod entry;
+pub mod fields;
 mod generated;
 mod header;
 mod impls;
