@@ -24,8 +24,8 @@ pub mod ser {
     pub use picky_der_ser::{
         Boolean, DefaultOf, Defaulted, DefaultedRef, Element, False, Header, Int, List, Null,
         Number, Optional, OptionalRef, Sequence, Serialize, SerializeMember, SerializeMembers,
-        Serializer, SignedNumber, True, UInt, UnsignedInteger, Utf8String, to_byte_buf, to_bytes,
-        to_vec, to_writer,
+        Serializer, SignedNumber, True, UInt, UnsignedInteger, Utf8String, fields, to_byte_buf,
+        to_bytes, to_vec, to_writer,
     };
 }
 

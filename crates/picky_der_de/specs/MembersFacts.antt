@@ -118,6 +118,22 @@ module _ {A : Type 0} {s : Shape} (a : Facts A s) (means : A → Tree) (equal : 
     };
   }
 
+  -- a member that is always there and has a part of this type
+  abbrev pub lent_facts : {V : Type 0} (part : V → A) → MemberFacts V always s means equal (λ v. Some (part v))
+  lent_facts part = record {
+    eq = λ x y. equal (part x) (part y);
+    there = is_there s;
+    rule = a.rule;
+    Premise = Proved a means equal;
+    follows = λ t prepend prepends. record {
+      prepends = prepends;
+      there = λ v. tt;
+      equal = λ x y h. h;
+      is =
+          is_lawful a t;
+    };
+  }
+
   -- a member of which an item is there, or none
   abbrev pub perhaps_facts : {V : Type 0} (item : V → Option A) → MemberFacts V perhaps s means equal item
   perhaps_facts item = record {

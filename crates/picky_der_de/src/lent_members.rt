@@ -4,7 +4,7 @@ ghost use Rattle.picky_der_core.specs.Tree.{Trees};
 ghost use Rattle.picky_der_ser.specs.Meaning.{maybe_more, unless_default};
 ghost use Rattle.picky_der_de.specs.Layouts.{always, perhaps};
 ghost use Rattle.picky_der_de.specs.LayoutLaws.{none_left_out, default_left_out};
-ghost use Rattle.picky_der_de.specs.MembersFacts.{element_facts, perhaps_facts, default_facts};
+ghost use Rattle.picky_der_de.specs.MembersFacts.{lent_facts, perhaps_facts, default_facts};
 
 use crate::{BeginsFrom, DeserializeFrom, DeserializeMemberFrom, Sequence};
 use picky_der_core::Result;
@@ -79,7 +79,7 @@ impl<R: ReadExt, T: DeserializeFrom<R>> DeserializeMemberFrom<R> for LentMember<
 
     ghost left_out = { λ _. false };
 
-    ghost facts = { element_facts T.facts T.meaning T.eq (λ member. member.0) };
+    ghost facts = { lent_facts T.facts T.meaning T.eq (λ member. member.0) };
 
     fn deserialize_member_from(sequence: &mut Sequence<'_, R>) -> Result<LentMember<T>> {
         let value = sequence.next_field::<T>()?;
