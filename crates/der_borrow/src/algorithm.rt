@@ -1,4 +1,5 @@
-//! The identifier of an algorithm (RFC 5280, 4.1.1.2): `SEQUENCE { algorithm OBJECT IDENTIFIER, parameters ANY OPTIONAL }`.
+//! The identifier of an algorithm (RFC 5280, 4.1.1.2): `SEQUENCE { algorithm OBJECT IDENTIFIER, parameters ANY OPTIONAL
+//! }`.
 ghost use Rattle.std.specs.Prelude.{refl};
 ghost use Rattle.picky_der_de.specs.MembersFacts.{sequence_of, sequence_shape, struct_facts};
 
