@@ -18,8 +18,8 @@ use picky_der_core::asn1::Tag;
 use picky_der_core::misc::ReadExt;
 use picky_der_ser::{SerializeMember, SerializeMembers};
 
-/// A member of a struct that can be read from readers of this kind. Each `DeserializeMember` can be. One that may borrow
-/// is a `LentMember`, `LentOptional` or `LentDefaulted`.
+/// A member of a struct that can be read from readers of this kind. Each `DeserializeMember` can be. One that may
+/// borrow is a `LentMember`, `LentOptional` or `LentDefaulted`.
 pub trait DeserializeMemberFrom<R: ReadExt>: SerializeMember + PartialEq + Drop + Sized {
     ghost use Rattle.picky_der_de.specs.SequenceState.{borrowed_by, outer_of, state_of, deserializer_of};
 
@@ -135,8 +135,8 @@ impl<R: ReadExt> DeserializeMembersFrom<R> for () {
     ghost proved = { Prim.assumption };
 }
 
-/// A type whose values are those of the members of a SEQUENCE, if it is read from readers of this kind. For an owned type
-/// it is `Struct`.
+/// A type whose values are those of the members of a SEQUENCE, if it is read from readers of this kind. For an owned
+/// type it is `Struct`.
 pub trait StructFrom<R: ReadExt>: Sized {
     /// The members.
     type Members: DeserializeMembersFrom<R>;

@@ -20,7 +20,8 @@ returns-in_err-sequence-clause-err g c =
 
 pub returns-in_err-members-clause-err : goal.returns-in_err-members-clause-err
 returns-in_err-members-clause-err g c = refusal_passed_on _ c.from_residual-in_err-members.ensures.1 (search rules)
-    (layout_refused g.T.StructFrom.parts (members_distinct g.T.Members.DeserializeMembersFrom.layout c.requires.distinct)
+    (layout_refused g.T.StructFrom.parts
+    (members_distinct g.T.Members.DeserializeMembersFrom.layout c.requires.distinct)
     c.in_ok-sequence.ensures.ok c.in_err-members.ensures.err)
 
 pub returns-in_err-end-clause-err : goal.returns-in_err-end-clause-err
@@ -50,5 +51,6 @@ returns-in_err-members-clause-refused_by g c =
 pub returns-in_err-end-clause-refused_by : goal.returns-in_err-end-clause-refused_by
 returns-in_err-end-clause-refused_by g c =
     rule_passed_on (struct_rule g) _ _ c.from_residual-in_err-end.ensures.1 (search rules)
-    (struct_end_by g.T.Members.DeserializeMembersFrom.facts.rule c.in_ok-sequence.ensures.ok c.in_ok-members.ensures.leads
+    (struct_end_by g.T.Members.DeserializeMembersFrom.facts.rule c.in_ok-sequence.ensures.ok
+    c.in_ok-members.ensures.leads
     c.in_err-end.ensures.err)

@@ -21,7 +21,8 @@ returns-in_err-deserialize_alternative_from-clause-err g c =
     let p = err_from_is_err_and c.from_residual-in_err-deserialize_alternative_from.result
     c.from_residual-in_err-deserialize_alternative_from.ensures.1 in
     rw (p.1, p.2) (refuses_other (is_lawful g.A.DeserializeFrom.facts g.met.A.DeserializeFrom.proved).begun
-    (g.B.AlternativesFrom.facts.follows g.met.B.AlternativesFrom.premise).begun (λ h. let x = c.begins_from.ensures.1 h in
+    (g.B.AlternativesFrom.facts.follows g.met.B.AlternativesFrom.premise).begun (λ h. let x =
+    c.begins_from.ensures.1 h in
     search rules) c.in_err-deserialize_alternative_from.ensures.err)
 
 pub returns-clause-ok : goal.returns-clause-ok

@@ -41,7 +41,8 @@ returns-in_err-members-clause-order g c set =
 
 pub returns-in_err-values-clause-order : goal.returns-in_err-values-clause-order
 returns-in_err-values-clause-order g c set =
-    passed_on (RefusesUnordered g.T.Serialize.meaning g.T.DeserializeFrom.shape _) _ c.from_residual-in_err-values.ensures.1
+    passed_on (RefusesUnordered g.T.Serialize.meaning g.T.DeserializeFrom.shape _) _
+    c.from_residual-in_err-values.ensures.1
     (search rules) (set_unordered (rw set at c.in_ok-members.ensures.ok) c.in_err-values.ensures.err)
 
 pub returns-in_err-end-clause-order : goal.returns-in_err-end-clause-order
@@ -50,7 +51,8 @@ returns-in_err-end-clause-order g c set = absurd (all_closed c.in_ok-values.ensu
 pub returns-in_err-members-clause-refused_by : goal.returns-in_err-members-clause-refused_by
 returns-in_err-members-clause-refused_by g c =
     let p = err_from_is_err_and c.from_residual.result c.from_residual.ensures.1 in
-    rw (p.1, p.2) (list_header_by g.T.Serialize.meaning g.T.DeserializeFrom.shape g.T.DeserializeFrom.facts.rule c.requires
+    rw (p.1, p.2) (list_header_by g.T.Serialize.meaning g.T.DeserializeFrom.shape g.T.DeserializeFrom.facts.rule
+    c.requires
     (rw c.in_err-members.was at c.begin_list.follows.holds-at-none))
 
 pub returns-in_err-values-clause-refused_by : goal.returns-in_err-values-clause-refused_by

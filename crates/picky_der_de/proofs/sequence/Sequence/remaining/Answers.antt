@@ -51,7 +51,8 @@ loop-values-preserved g c =
     let r = c.in_ok-value.ensures.ok in
     let i = c.loop-values.invariant in
     let e = c.in_ok-value.ensures in
-    let h = some_more g.T.Serialize.meaning g.T.DeserializeFrom.shape c.loop-values.values.items c.in_ok-value.value i.some
+    let h = some_more g.T.Serialize.meaning g.T.DeserializeFrom.shape c.loop-values.values.items c.in_ok-value.value
+    i.some
     r in
     record {
       some = rw c.in-Ok.ensures h;
@@ -65,7 +66,8 @@ pub loop-values-init : goal.loop-values-init
 loop-values-init g c =
     record {
       some =
-          rw c.new-values.ensures.items (some_none g.T.Serialize.meaning g.T.DeserializeFrom.shape _ c.args.self.now.whole);
+          rw c.new-values.ensures.items
+          (some_none g.T.Serialize.meaning g.T.DeserializeFrom.shape _ c.args.self.now.whole);
       same_reference = refl;
       outer = refl;
       by = λ d e h. h;

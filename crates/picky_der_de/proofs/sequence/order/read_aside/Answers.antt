@@ -16,4 +16,5 @@ returns-clause-err g c =
 pub returns-clause-refused_by : goal.returns-clause-refused_by
 returns-clause-refused_by g c =
     refused_aside c.args.de.now c.deserialize_from-result.new.de c.deserialize_from-result.result
-    c.take_seen-seen.ensures.same c.set_seen.ensures g.T.DeserializeFrom.facts.rule c.deserialize_from-result.ensures.refused_by
+    c.take_seen-seen.ensures.same c.set_seen.ensures g.T.DeserializeFrom.facts.rule
+    c.deserialize_from-result.ensures.refused_by

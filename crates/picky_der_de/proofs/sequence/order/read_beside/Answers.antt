@@ -16,4 +16,5 @@ returns-clause-err g c =
 pub returns-clause-refused_by : goal.returns-clause-refused_by
 returns-clause-refused_by g c =
     refused_aside c.args.de.now c.read_aside-result.new.de c.read_aside-result.result
-    c.take_kept-kept.ensures.same c.set_kept.ensures g.T.DeserializeFrom.facts.rule c.read_aside-result.ensures.refused_by
+    c.take_kept-kept.ensures.same c.set_kept.ensures g.T.DeserializeFrom.facts.rule
+    c.read_aside-result.ensures.refused_by

@@ -15,7 +15,8 @@ pub returns-clause-ok : goal.returns-clause-ok
 returns-clause-ok c =
     let h = c.in_ok-len.ensures.ok in
     IfOk-both c.lend.result c.lend.ensures.ok c.lend.ensures.implicit_tag
-    (λ v k d. reads_plain (bytes_kind c.args.tag (omega arith)) v.now (refl, k.bytes) (omega arith, k.bytes) h k.consumes k.count
+    (λ v k d. reads_plain (bytes_kind c.args.tag (omega arith)) v.now (refl, k.bytes) (omega arith, k.bytes) h
+    k.consumes k.count
     (d ∙ h.implicit_tag))
 
 pub returns-clause-err : goal.returns-clause-err
