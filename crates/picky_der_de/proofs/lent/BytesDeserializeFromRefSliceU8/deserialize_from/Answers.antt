@@ -1,6 +1,6 @@
 use Rattle.std.proofs.lemmas.Result.{err_from_is_err_and}
 use Rattle.picky_der_de.proofs.PlainReads.{refuses_of}
-use Rattle.picky_der_de.proofs.lent.BytesDeserializeFrom.deserialize_from.Goals as goal
+use Rattle.picky_der_de.proofs.lent.BytesDeserializeFromRefSliceU8.deserialize_from.Goals as goal
 
 pub returns-in_err-lend_tagged_bytes-clause-err :
     goal.returns-in_err-lend_tagged_bytes-clause-err

@@ -1,7 +1,7 @@
 use Rattle.std.proofs.Common.{◌≤◌, arith, le-leb, leb-true, subst, sym}
 use Rattle.picky_der_core.specs.FirstLaws.{contains-tags_below}
 use Rattle.picky_der_de.proofs.RawTags.{tag-tags_below}
-use Rattle.picky_der_de.proofs.lent.begins.RawSliceBeginsFrom.begins_from.Goals as goal
+use Rattle.picky_der_de.proofs.lent.begins.RawSliceBeginsFromRefSliceU8.begins_from.Goals as goal
 
 pub returns : goal.returns
 returns c = (

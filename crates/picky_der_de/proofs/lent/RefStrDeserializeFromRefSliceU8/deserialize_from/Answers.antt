@@ -1,6 +1,6 @@
 use Rattle.std.proofs.lemmas.Result.{MatchResult-weaker}
 use Rattle.picky_der_de.proofs.PlainReads.{refuses_of}
-use Rattle.picky_der_de.proofs.lent.ref+strDeserializeFrom.deserialize_from.Goals as goal
+use Rattle.picky_der_de.proofs.lent.RefStrDeserializeFromRefSliceU8.deserialize_from.Goals as goal
 
 pub returns-clause-err : goal.returns-clause-err
 returns-clause-err c =
