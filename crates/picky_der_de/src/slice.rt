@@ -34,7 +34,8 @@ impl<'a> Slice for &'a [u8] {
     ghost bytes = { λ slice. slice.now };
 
     fn size(&self) -> usize {
-        self.len()
+        let bytes = *self;
+        bytes.len()
     }
 
     ghost left = { λ _. refl };
