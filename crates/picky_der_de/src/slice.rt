@@ -12,7 +12,7 @@ use picky_der_core::misc::ReadExt;
 use std::alloc::Global;
 
 /// A reader that has all its bytes in memory: `&[u8]`.
-pub trait Slice: ReadExt {
+pub trait Slice: ReadExt + Drop {
     // Its bytes.
     ghost bytes: { Self → List ℕ };
 
