@@ -9,7 +9,7 @@ pub mod PlainReads
 pub mod Elements
 pub mod Ends
 pub mod Ahead
-pub mod Lent
+pub mod LentReads
 pub mod RawTags
 pub mod EntryReads
 pub mod WrapperReads

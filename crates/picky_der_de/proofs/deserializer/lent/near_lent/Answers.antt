@@ -1,5 +1,5 @@
 use Rattle.std.proofs.Common.{◌≡◌, length, ◌∙◌, ap, arith}
-use Rattle.picky_der_de.proofs.Lent.{shown_front}
+use Rattle.picky_der_de.proofs.LentReads.{shown_front}
 use Rattle.picky_der_de.proofs.deserializer.lent.near_lent.Goals as goal
 
 pub returns-clause-front : goal.returns-clause-front

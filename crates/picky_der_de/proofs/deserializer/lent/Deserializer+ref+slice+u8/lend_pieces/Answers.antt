@@ -1,4 +1,4 @@
-use Rattle.picky_der_de.proofs.Lent.{lent_content}
+use Rattle.picky_der_de.proofs.LentReads.{lent_content}
 use Rattle.picky_der_de.proofs.deserializer.lent.Deserializer+ref+slice+u8.lend_pieces.Goals as goal
 
 pub returns-in-Ok-clause-ok : goal.returns-in-Ok-clause-ok
