@@ -4,18 +4,18 @@ use Rattle.picky_der_de.proofs.deserializer.lent.near_lent.Goals as goal
 
 pub returns-clause-front : goal.returns-clause-front
 returns-clause-front c =
-    let q = shown_front _ c.near.result.now c.rest_of.result.now c.rest_of.ensures c.near.ensures.front in
-    let same : c.front_of.result.now ≡ c.near.result.now = c.front_of.ensures.front q.0 ∙ q.1 in
-    rw same c.near.ensures.front
+    let q = shown_front _ c.near-len.result.now c.rest_of.result.now c.rest_of.ensures c.near-len.ensures.front in
+    let same : c.front_of.result.now ≡ c.near-len.result.now = c.front_of.ensures.front q.0 ∙ q.1 in
+    rw same c.near-len.ensures.front
 
 pub returns-clause-shown : goal.returns-clause-shown
 returns-clause-shown c =
-    let q = shown_front _ c.near.result.now c.rest_of.result.now c.rest_of.ensures c.near.ensures.front in
-    let same : c.front_of.result.now ≡ c.near.result.now = c.front_of.ensures.front q.0 ∙ q.1 in
-    rw same c.near.ensures.shown
+    let q = shown_front _ c.near-len.result.now c.rest_of.result.now c.rest_of.ensures c.near-len.ensures.front in
+    let same : c.front_of.result.now ≡ c.near-len.result.now = c.front_of.ensures.front q.0 ∙ q.1 in
+    rw same c.near-len.ensures.shown
 
 pub returns-clause-fits : goal.returns-clause-fits
 returns-clause-fits c =
-    let q = shown_front _ c.near.result.now c.rest_of.result.now c.rest_of.ensures c.near.ensures.front in
-    let same : c.front_of.result.now ≡ c.near.result.now = c.front_of.ensures.front q.0 ∙ q.1 in
-    rw same c.near.ensures.fits
+    let q = shown_front _ c.near-len.result.now c.rest_of.result.now c.rest_of.ensures c.near-len.ensures.front in
+    let same : c.front_of.result.now ≡ c.near-len.result.now = c.front_of.ensures.front q.0 ∙ q.1 in
+    rw same c.near-len.ensures.fits

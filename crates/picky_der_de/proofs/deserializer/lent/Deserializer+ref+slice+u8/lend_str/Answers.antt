@@ -24,8 +24,8 @@ returns-in-Ok-clause-ok c =
     rw text.0 (reads_plain text_kind c.in_ok-content.content.now text.1 text.1 h k.ok.consumes k.ok.count
     (k.implicit_tag ∙ h.implicit_tag))
 
-pub returns-clause-err : goal.returns-clause-err
-returns-clause-err c =
+pub returns-in-Err-clause-err : goal.returns-in-Err-clause-err
+returns-in-Err-clause-err c =
     let f = c.fail.ensures in
     let k = c.in_ok-content.ensures in
     refuses_content text_kind c.in_ok-len.ensures.ok k.ok.consumes k.ok.count f.fails
