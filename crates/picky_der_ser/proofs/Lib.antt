@@ -9,4 +9,4 @@ pub mod WrapWrites
 pub mod EntryWrites
 pub mod ListBytes
 pub mod MemberWrites
-mod MembersWrites
+pub mod MembersWrites
