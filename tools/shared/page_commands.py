@@ -36,6 +36,7 @@ AS_RUN = {
     ("CONTRIBUTING.md", "rt plant --only FUNCTION"): "rt plant --only path_at",
     ("CONTRIBUTING.md", "tools/wrong-bodies MODULE.FUNCTION"): "tools/wrong-bodies der_path numbers.path_at",
     ("docs/ASN1.md", TABLE): f"sed -i 's/IMPORTS.*//; s/Name/NULL/g' Mine.asn1; tools/der_asn1/der_asn1 --out crates/mine Mine.asn1; {TABLE}",
+    ("docs/ASN1.md", "tools/der_asn1/corpus --fetch --together FOLDER"): 'tools/der_asn1/corpus --fetch --together "$HOME/modules"',
     ("docs/GATE.md", "tools/wrong-bodies [--functions] [CRATE..] [MODULE.FUNCTION..]"): "tools/wrong-bodies --functions der_path numbers.path_at",
     ("docs/GATE.md", "rt fmt"): "cd crates/der_path && rt fmt",
     ("docs/GATE.md", "tools/x509-inputs"): "tools/x509-inputs --built",
